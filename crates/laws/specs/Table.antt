@@ -1,0 +1,127 @@
+-- THE TABLE: document 01's cases marked † that the definitions decide, in its order, and one theorem on all of them. A row has what the
+-- document says and what the definitions give, as numbers: 1 for valid or accepted, a refusal's number, an order, a total, lines of output.
+-- Assumes nothing.
+use mathlib.Core.Bool.{Bool, true, false, not, cond}
+use mathlib.Core.List.{List, [], _∷_, _++_, map}
+use mathlib.Core.Option.{Option, none, some}
+use mathlib.Core.Path.{_≡_, refl}
+use Prim.Native.Nat.{ℕ, _^_}
+use lib.Ieee.{binary64, round, mul, sub, lt, ofInt, toBits}
+use lib.ListN.{replicate}
+use Rattle.spec.specs.Lists.{range, keep}
+use Rattle.spec.specs.Refusal.{Refusal, numberOf, first, Result, refused, done}
+use Rattle.spec.specs.Network.{Network, indexCount, named, refusalOf}
+use Rattle.spec.specs.Tree.{Pair, treeAt, valid, pairsOf, stepOrder}
+use Rattle.spec.specs.Price.{kept, Step, listing, Total, exact, beyond, total}
+use Rattle.spec.specs.Calls.{treeCheck}
+use Rattle.spec.specs.Draws.{unitOf, indexOf}
+use Rattle.spec.specs.Greedy.{greedyFrom, greedy}
+use Rattle.spec.specs.Undercut.{undercuts}
+use Rattle.spec.specs.Improve.{weigh, keeps, passed, effort, splits, frontier, locals, reform, visit, pass, arrayFor, Improved, improve}
+use Rattle.spec.specs.ImproveClaims.{mostSplits}
+use Rattle.spec.specs.Slicing.{slice, asIs}
+use Rattle.spec.specs.Program.{target, improveCall, planOf, Printed, program}
+
+pub record Row : Type 0 where
+  pub says : List ℕ
+  pub gives : List ℕ
+
+abbrev row : List ℕ → List ℕ → Row
+row s g = record { says = s; gives = g }
+
+-- ---- answers as numbers ----
+
+abbrev ofOption : Option Refusal → ℕ
+ofOption none = 1
+ofOption (some r) = numberOf r
+
+abbrev ofTotal : Total → List ℕ
+ofTotal (exact x) = x ∷ []
+ofTotal beyond = []
+
+abbrev ofImproved : Result Improved → ℕ
+ofImproved (refused r) = numberOf r
+ofImproved (done d) = 1
+
+abbrev network : List (List ℕ) → List ℕ → List ℕ → Network
+network leaves outputs weights = record { leaves = leaves; outputs = outputs; weights = weights }
+
+-- leaves of no index
+abbrev bare : ℕ → Network
+bare n = network (replicate n []) [] []
+
+-- the tree check of a flat list of children, over n leaves
+abbrev treeOver : ℕ → List ℕ → ℕ
+treeOver n kids = ofOption (first (treeCheck (bare n) kids ∷ []))
+
+abbrev totalOver : Network → List ℕ → List ℕ
+totalOver N kids = ofTotal (total (listing N (λ j. false) (pairsOf kids)))
+
+-- two leaves with no common index, all outputs
+abbrev apart : ℕ → Network
+apart w = network ((0 ∷ 1 ∷ 2 ∷ 3 ∷ []) ∷ (4 ∷ 5 ∷ 6 ∷ []) ∷ []) (range 7) (8 ∷ 8 ∷ 8 ∷ 8 ∷ 8 ∷ 8 ∷ w ∷ [])
+
+-- one leaf of n indices
+abbrev leafOf : ℕ → Network
+leafOf n = network (range n ∷ []) [] (replicate n 1)
+
+-- the sample plan's input: 01 0003 010201, 02 0002 0001, 02 0002 0102, 02 0001 02, 03 0001 00, 06 0001 02
+abbrev sample : Network
+sample = network ((0 ∷ 1 ∷ []) ∷ (1 ∷ 2 ∷ []) ∷ (2 ∷ []) ∷ []) (0 ∷ []) (1 ∷ 2 ∷ 1 ∷ [])
+
+-- a line of output: its numbers, after the number of its word
+abbrev stepLine : Step → List ℕ
+stepLine c = c .made ∷ c .left ∷ c .right ∷ c .workBits ∷ c .sizeBits ∷ c .list
+
+abbrev joinLines : List (List ℕ) → List ℕ
+joinLines [] = []
+joinLines (l ∷ ls) = l ++ joinLines ls
+
+abbrev ofWidest : Option ℕ → List ℕ
+ofWidest none = []
+ofWidest (some w) = w ∷ []
+
+abbrev outputLines : Result Printed → List ℕ
+outputLines (refused r) = numberOf r ∷ []
+outputLines (done p) =
+    p .leaves
+    ∷ p .indices
+    ∷ (joinLines (map stepLine (p .steps))
+    ++ (ofTotal (p .total) ++ (ofWidest (p .widest) ++ (p .slices ++ (p .bits ∷ p .improved ∷ p .splits ∷ [])))))
+
+-- ---- the rows ----
+
+pub rows : List Row
+rows =
+    -- "No leaves or one leaf, no nodes: valid, total 0."
+    row (1 ∷ 0 ∷ []) (treeOver 0 [] ∷ totalOver (bare 0) [])
+    ∷ row (1 ∷ 0 ∷ []) (treeOver 1 [] ∷ totalOver (bare 1) [])
+    -- "Two leaves, [0,0]: refused 8."
+    ∷ row (8 ∷ []) (treeOver 2 (0 ∷ 0 ∷ []) ∷ [])
+    -- "Three leaves, [0,1],[3,2]: valid; [4,1],[3,2]: refused 8."
+    ∷ row (1 ∷ 8 ∷ []) (treeOver 3 (0 ∷ 1 ∷ 3 ∷ 2 ∷ []) ∷ treeOver 3 (4 ∷ 1 ∷ 3 ∷ 2 ∷ []) ∷ [])
+    -- "Four leaves, [5,3],[0,1],[4,2]: valid, order 5, 4, 6."
+    ∷ row (1 ∷ 5 ∷ 4 ∷ 6 ∷ []) (treeOver 4 (5 ∷ 3 ∷ 0 ∷ 1 ∷ 4 ∷ 2 ∷ []) ∷ stepOrder (5 ∷ 3 ∷ 0 ∷ 1 ∷ 4 ∷ 2 ∷ []) 4)
+    -- "Weight 8 accepted, 9 refused 4."
+    ∷ row (1 ∷ 4 ∷ []) (ofOption (refusalOf (network [] [] (8 ∷ []))) ∷ ofOption (refusalOf (network [] [] (9 ∷ []))) ∷ [])
+    -- "32 indices in a leaf accepted, 33 refused 3."
+    ∷ row (1 ∷ 3 ∷ []) (ofOption (refusalOf (leafOf 32)) ∷ ofOption (refusalOf (leafOf 33)) ∷ [])
+    -- "Two leaves with no common index, all outputs: union of 52 bits has total 2^52; of 53 bits improvement refuses 10."
+    ∷ row (2 ^ 52 ∷ []) (totalOver (apart 4) (0 ∷ 1 ∷ []))
+    ∷ row (10 ∷ []) (ofImproved (improveCall (apart 5) 8 4 none (λ j. false) (pairsOf (0 ∷ 1 ∷ []))) ∷ [])
+    -- "Most splits at m = 3, 4, 12: 6, 25, 261,625."
+    ∷ row (6 ∷ 25 ∷ 261625 ∷ []) (mostSplits 3 ∷ mostSplits 4 ∷ mostSplits 12 ∷ [])
+    -- "Word 7, index draw below 3: 1. Unit draw of word 0: 0." (The f64 0 has the bits 0.)
+    ∷ row (1 ∷ 0 ∷ []) (indexOf 7 3 ∷ toBits binary64 (unitOf 0) ∷ [])
+    -- "One leaf {0,1}, weights 1, no output, target 1, no improving: index 0 is sliced."
+    ∷ row (0 ∷ []) (keep ((slice (leafOf 2) 1 asIs []) .flag) (range 2))
+    -- the sample plan: plan 3 3, step 3 2 1 1 0 1, step 4 3 0 1 1 0, total 4, widest 1, slice 1, bits 2, improved 1, splits 18
+    ∷ row
+    (3 ∷ 3 ∷ 3 ∷ 2 ∷ 1 ∷ 1 ∷ 0 ∷ 1 ∷ 4 ∷ 3 ∷ 0 ∷ 1 ∷ 1 ∷ 0 ∷ 4 ∷ 1 ∷ 1 ∷ 2 ∷ 1 ∷ 18 ∷ [])
+    (outputLines (program sample none (target 2)))
+    ∷ []
+
+-- EVERY ROW HOLDS
+pub table : map (λ r. r .gives) rows ≡ map (λ r. r .says) rows
+unfolding rows valid treeAt pairsOf stepOrder listing kept named mostSplits unitOf slice greedy greedyFrom planOf improve weigh keeps passed effort splits frontier locals reform visit pass arrayFor undercuts round mul sub lt ofInt toBits
+table = refl
