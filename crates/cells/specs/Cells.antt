@@ -1,16 +1,16 @@
 -- Lists filled, cleared, copied and written into, as definitions for every length, and their laws. Assumes nothing.
 use mathlib.Core.Path.{_≡_, refl, sym, ap, _∙_}
-use mathlib.Core.List.{List, [], _∷_, _++_, append-nil, append-assoc}
+use mathlib.Core.List.{List, [], _∷_, _++_, append-nil}
 use mathlib.Core.Bool.{false}
 use Prim.Native.Nat.{ℕ, zero, suc, _+_, _-_, _<_, _≤_, min}
-use native.Mathlib.Nat.{zero-min, min-zero, suc-min-suc, zero-add, suc-add, add-zero, add-suc, le-of-suc-le-suc}
+use native.Mathlib.Nat.{zero-min, suc-min-suc, zero-add, suc-add}
 use native.Mathlib.Numerals.{add-one}
 use native.Mathlib.Omega.{arith}
 use native.Mathlib.Decide.{decLe}
 use lib.IntN.{pos}
 use lib.Ieee.{Float, fin}
 use lib.ListN.{length, getD, set, take, drop, replicate, length-append, length-take, length-drop, length-replicate, getD-replicate, drop-of-length-le, List·getD-eq-default}
-use lib.Seq.{take-nil, drop-nil, take-all, take-length, take-suc, take-at, drop-at, drop-drop, ext-getD, length-take-le, getD-take}
+use lib.Seq.{take-nil, take-all, take-length, take-suc, drop-drop, ext-getD, length-take-le, getD-take}
 
 -- 0.0
 abbrev pub zeroFloat : Float
@@ -39,6 +39,22 @@ module _ {A : Type 0} where
 unfoldable pub cleared : List ℕ → ℕ → List ℕ
 cleared ws m = over ws (filled m 0)
 
+-- ---- samples: within the list, and past its end
+
+abbrev three : List ℕ
+three = 1 ∷ 2 ∷ 3 ∷ []
+
+samples : (cleared three 2 ≡ 0 ∷ 0 ∷ 3 ∷ [])
+    × (cleared three 9 ≡ 0 ∷ 0 ∷ 0 ∷ [])
+    × (copied three (7 ∷ 8 ∷ []) 1 ≡ 7 ∷ 2 ∷ 3 ∷ [])
+    × (copied three (7 ∷ 8 ∷ []) 9 ≡ 7 ∷ 8 ∷ 3 ∷ [])
+    × (copied three (6 ∷ 7 ∷ 8 ∷ 9 ∷ []) 9 ≡ 6 ∷ 7 ∷ 8 ∷ [])
+    × (placed three 1 (7 ∷ []) ≡ 1 ∷ 7 ∷ 3 ∷ [])
+    × (placed three 2 (7 ∷ 8 ∷ []) ≡ 1 ∷ 2 ∷ 7 ∷ [])
+    × (placed three 9 (7 ∷ []) ≡ three)
+unfolding filled over copied placed cleared
+samples = (refl, refl, refl, refl, refl, refl, refl, refl)
+
 module _ {A : Type 0} where
   -- within the list it does not matter what is read past its end
   pub getD-within : (l : List A) (k : ℕ) (y z : A) → k < length l → getD l k y ≡ getD l k z
@@ -54,7 +70,7 @@ module _ {A : Type 0} where
   unfolding filled
   filled-at n k x z h = getD-replicate n k x z h
 
-  -- x past the end too, where x is what is read there
+  -- the same at every k, where x is also what is read past the end
   pub filled-all : (n k : ℕ) (x : A) → getD (filled n x) k x ≡ x
   unfolding filled
   filled-all zero k x = refl
@@ -167,14 +183,17 @@ module _ {A : Type 0} where
       ∙ over-snoc d (take n s) (getD s n z)
       ∙ ap (over d) (sym a)
 
-  pub copied-end : (d s : List A) (n : ℕ) → copied d s (min n (min (length d) (length s))) ≡ copied d s n
+  copied-min : (d s : List A) (n : ℕ) → copied d s (min n (min (length d) (length s))) ≡ copied d s n
   unfolding copied over
-  copied-end [] s n = refl
-  copied-end (x ∷ d) [] n = ap (over (x ∷ d)) (take-nil (min n (min (suc (length d)) 0)) ∙ sym (take-nil n))
-  copied-end (x ∷ d) (y ∷ s) zero = ap (λ (k : ℕ). over (x ∷ d) (take k (y ∷ s))) (zero-min (min (suc (length d)) (suc (length s))))
-  copied-end (x ∷ d) (y ∷ s) (suc n) =
+  copied-min [] s n = refl
+  copied-min (x ∷ d) [] n = ap (over (x ∷ d)) (take-nil (min n (min (suc (length d)) 0)) ∙ sym (take-nil n))
+  copied-min (x ∷ d) (y ∷ s) zero = ap (λ (k : ℕ). over (x ∷ d) (take k (y ∷ s))) (zero-min (min (suc (length d)) (suc (length s))))
+  copied-min (x ∷ d) (y ∷ s) (suc n) =
       ap (λ (k : ℕ). over (x ∷ d) (take k (y ∷ s))) (ap (min (suc n)) (suc-min-suc (length d) (length s)) ∙ suc-min-suc n (min (length d) (length s)))
-      ∙ ap (λ (l : List A). y ∷ l) (copied-end d s n)
+      ∙ ap (λ (l : List A). y ∷ l) (copied-min d s n)
+
+  pub copied-end : (d s : List A) (m n : ℕ) → m ≡ min n (min (length d) (length s)) → copied d s m ≡ copied d s n
+  copied-end d s m n e = ap (copied d s) e ∙ copied-min d s n
 
   -- ---- placed
 
@@ -275,18 +294,19 @@ cleared-same a b m e h =
 pub cleared-twice : (ws : List ℕ) (m : ℕ) → cleared (cleared ws m) m ≡ cleared ws m
 cleared-twice ws m = cleared-same (cleared ws m) ws m (cleared-length ws m) (cleared-past ws m)
 
--- what was lent as `&mut ws[..m]` is back as zeros
-pub cleared-back : (ws y : List ℕ) (m : ℕ) → y ≡ filled (length (take m ws)) 0 → y ++ drop m ws ≡ cleared ws m
-unfolding cleared over filled
-cleared-back ws y m h = rw h (go ws m)
-  where
-    go : (ws : List ℕ) (m : ℕ) → filled (length (take m ws)) 0 ++ drop m ws ≡ over ws (filled m 0)
-    go ws zero = sym (over-nil ws)
-    go [] (suc m) = refl
-    go (x ∷ ws) (suc m) = ap (λ (l : List ℕ). 0 ∷ l) (go ws m)
-
+-- clearing stops at the end
 pub cleared-min : (ws : List ℕ) (m : ℕ) → cleared ws (min m (length ws)) ≡ cleared ws m
 unfolding cleared over filled
 cleared-min [] m = refl
 cleared-min (x ∷ ws) zero = ap (cleared (x ∷ ws)) (zero-min (suc (length ws)))
 cleared-min (x ∷ ws) (suc m) = ap (cleared (x ∷ ws)) (suc-min-suc m (length ws)) ∙ ap (λ (l : List ℕ). 0 ∷ l) (cleared-min ws m)
+
+cleared-front : (ws : List ℕ) (m : ℕ) → filled (length (take m ws)) 0 ++ drop m ws ≡ cleared ws m
+unfolding cleared over filled
+cleared-front ws zero = sym (over-nil ws)
+cleared-front [] (suc m) = refl
+cleared-front (x ∷ ws) (suc m) = ap (λ (l : List ℕ). 0 ∷ l) (cleared-front ws m)
+
+-- what was lent as `&mut ws[..m]` is back as zeros
+pub cleared-back : (ws y : List ℕ) (m : ℕ) → y ≡ filled (length (take m ws)) 0 → y ++ drop m ws ≡ cleared ws m
+cleared-back ws y m h = ap (λ (l : List ℕ). l ++ drop m ws) h ∙ cleared-front ws m

@@ -1,11 +1,9 @@
 -- Assumes nothing.
 use borrow.Author.Needs.{needs}
-use Rattle.cells.specs.Cells.{cleared, cleared-back, cleared-min}
-use lib.ListN.{length-take}
 use native.Mathlib.Omega.{arith}
-use Prim.Native.Nat.{ℕ, _+_, _-_, _*_, _<_, _≤_}
-use mathlib.Core.Path.{_≡_, refl, sym, ap, _∙_, subst}
-use lib.ListN.{length, getD, set, length-set}
+use mathlib.Core.Path.{ap, _∙_}
+use lib.ListN.{length-take}
+use Rattle.cells.specs.Cells.{cleared, cleared-back, cleared-min}
 use Rattle.cells.proofs.clear.Statement.{statement}
 use Rattle.cells.proofs.clear.Tie as tie
 
@@ -25,15 +23,9 @@ same-length : tie.Need-same-length
 same-length c = search needs
 
 returns : tie.Need-returns
-returns c = cleared-back (c .before .before .before .before .before .before .args .ws .now) (c .before .before .fill64 .last .0) (c .before .before .before .before .min .result) (c .before .before .fill64 .ensures) ∙ ap (cleared (c .before .before .before .before .before .before .args .ws .now)) (c .before .before .before .before .min .ensures) ∙ cleared-min (c .before .before .before .before .before .before .args .ws .now) (c .before .before .before .before .before .before .args .m)
+returns c =
+    let ws = c .before .before .before .before .before .before .args .words .now in
+    cleared-back ws _ _ (c .before .before .fill64 .ensures) ∙ ap (cleared ws) (c .before .before .before .before .min .ensures) ∙ cleared-min ws _
 
 pub clear-spec : {M : Type 1} → statement M
-clear-spec =
-    tie.close
-    (tie.spec
-    min-requires
-    slice-relend-prefix-fill64
-    slice-aggregate-fill64
-    fill64-requires
-    same-length
-    returns)
+clear-spec = tie.close (tie.spec min-requires slice-relend-prefix-fill64 slice-aggregate-fill64 fill64-requires same-length returns)

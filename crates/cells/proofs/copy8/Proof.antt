@@ -9,10 +9,10 @@ use Rattle.cells.proofs.copy8.Statement.{statement}
 use Rattle.cells.proofs.copy8.Tie as tie
 
 abbrev Inv-loop : tie.InvT-loop
-Inv-loop to₀ from n i₀ i-end to i = (i ≤ i-end) × (i-end ≡ min n (min (length to₀) (length from))) × (length to ≡ length to₀) × (to ≡ copied to₀ from i)
+Inv-loop to₀ bytes n k₀ k-end to k = (k ≤ k-end) × (k-end ≡ min n (min (length to₀) (length bytes))) × (length to ≡ length to₀) × (to ≡ copied to₀ bytes k)
 
 abbrev μ-loop : tie.MeasureT-loop
-μ-loop to₀ from n i₀ i-end to i = i-end - i
+μ-loop to₀ bytes n k₀ k-end to k = k-end - k
 
 min-requires : tie.Need-min-requires Inv-loop μ-loop
 min-requires c κs = search needs
@@ -29,8 +29,8 @@ shared-slice-read-to c = search needs
 slice-write-to : tie.Need-slice-write-to Inv-loop μ-loop
 slice-write-to c = search needs
 
-add-i : tie.Need-add-i Inv-loop μ-loop
-add-i c = search needs
+add-k : tie.Need-add-k Inv-loop μ-loop
+add-k c = search needs
 
 loop-less : tie.Need-loop-less Inv-loop μ-loop
 loop-less c = search needs
@@ -44,9 +44,7 @@ same-length : tie.Need-same-length Inv-loop μ-loop
 same-length c = search needs
 
 returns : tie.Need-returns Inv-loop μ-loop
-returns c =
-    let l = c .before .loop in
-    l .inv .3 ∙ ap (copied _ _) (let e : l .i ≡ min (c .before .before .before .before .before .before .args .n) (min (length (c .before .before .before .before .before .before .args .to .now)) (length (c .before .before .before .before .before .before .args .from .now))) = omega arith in e) ∙ copied-end _ _ _
+returns c = c .before .loop .inv .3 ∙ copied-end _ _ _ _ (omega arith)
 
 pub copy8-spec : {M : Type 1} → statement M
-copy8-spec = tie.close (tie.spec Inv-loop μ-loop min-requires min-requires-2 loop-holds shared-slice-read-to slice-write-to add-i loop-less loop-again same-length returns)
+copy8-spec = tie.close (tie.spec Inv-loop μ-loop min-requires min-requires-2 loop-holds shared-slice-read-to slice-write-to add-k loop-less loop-again same-length returns)

@@ -2,26 +2,26 @@
 use borrow.Author.Needs.{needs}
 use native.Mathlib.Omega.{arith}
 use Prim.Native.Nat.{_-_, _≤_}
-use mathlib.Core.Path.{_≡_, refl, ap, _∙_}
+use mathlib.Core.Path.{_≡_, refl, _∙_}
 use lib.ListN.{length, length-set}
 use Rattle.cells.specs.Cells.{filled, over, filled-none, filled-next, filled-end}
 use Rattle.cells.proofs.fill8.Statement.{statement}
 use Rattle.cells.proofs.fill8.Tie as tie
 
 abbrev Inv-loop : tie.InvT-loop
-Inv-loop a₀ x i₀ i-end a i = (i ≤ length a₀) × (i-end ≡ length a₀) × (length a ≡ length a₀) × (a ≡ over a₀ (filled i x))
+Inv-loop bytes₀ x k₀ k-end bytes k = (k ≤ length bytes₀) × (k-end ≡ length bytes₀) × (length bytes ≡ length bytes₀) × (bytes ≡ over bytes₀ (filled k x))
 
 abbrev μ-loop : tie.MeasureT-loop
-μ-loop a₀ x i₀ i-end a i = length a₀ - i
+μ-loop bytes₀ x k₀ k-end bytes k = length bytes₀ - k
 
 loop-holds : tie.Need-loop-holds Inv-loop μ-loop
 loop-holds c = (omega arith, refl, refl, filled-none _ _)
 
-slice-write-a : tie.Need-slice-write-a Inv-loop μ-loop
-slice-write-a c = search needs
+slice-write-bytes : tie.Need-slice-write-bytes Inv-loop μ-loop
+slice-write-bytes c = search needs
 
-add-i : tie.Need-add-i Inv-loop μ-loop
-add-i c = search needs
+add-k : tie.Need-add-k Inv-loop μ-loop
+add-k c = search needs
 
 loop-less : tie.Need-loop-less Inv-loop μ-loop
 loop-less c = search needs
@@ -38,4 +38,4 @@ returns : tie.Need-returns Inv-loop μ-loop
 returns c = c .before .loop .inv .3 ∙ filled-end _ _ _ (omega arith)
 
 pub fill8-spec : {M : Type 1} → statement M
-fill8-spec = tie.close (tie.spec Inv-loop μ-loop loop-holds slice-write-a add-i loop-less loop-again same-length returns)
+fill8-spec = tie.close (tie.spec Inv-loop μ-loop loop-holds slice-write-bytes add-k loop-less loop-again same-length returns)

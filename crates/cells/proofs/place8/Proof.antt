@@ -1,10 +1,7 @@
 -- Assumes nothing.
 use borrow.Author.Needs.{needs}
+use mathlib.Core.Path.{sym, _∙_}
 use Rattle.cells.specs.Cells.{placed-back, placed-out, copied-all}
-use native.Mathlib.Omega.{arith}
-use Prim.Native.Nat.{ℕ, _+_, _-_, _*_, _<_, _≤_}
-use mathlib.Core.Path.{_≡_, refl, sym, ap, _∙_, subst}
-use lib.ListN.{length, getD, set, length-set}
 use Rattle.cells.proofs.place8.Statement.{statement}
 use Rattle.cells.proofs.place8.Tie as tie
 
@@ -24,19 +21,10 @@ same-length : tie.Need-same-length
 same-length c = search needs
 
 returns : tie.Need-returns
-returns c = placed-back (c .before .before .before .before .before .before .before .args .out .now) (c .before .before .before .before .before .before .before .args .src .now) (c .before .before .copy8 .last .0) (c .before .before .before .before .before .before .before .args .at) (c .before .before .copy8 .ensures ∙ copied-all _ _)
+returns c = placed-back _ _ _ _ (c .before .before .copy8 .ensures ∙ copied-all _ _)
 
 returns-2 : tie.Need-returns-2
-returns-2 c = sym (placed-out (c .before .before .before .args .out .now) (c .before .before .before .args .src .now) (c .before .before .before .args .at) (c .if1 .left))
+returns-2 c = sym (placed-out (c .before .before .before .args .out .now) _ _ (c .if1 .left))
 
 pub place8-spec : {M : Type 1} → statement M
-place8-spec =
-    tie.close
-    (tie.spec
-    sub-copy8
-    part-copy8-start
-    part-copy8-end
-    copy8-requires
-    same-length
-    returns
-    returns-2)
+place8-spec = tie.close (tie.spec sub-copy8 part-copy8-start part-copy8-end copy8-requires same-length returns returns-2)

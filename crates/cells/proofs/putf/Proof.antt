@@ -1,18 +1,15 @@
 -- Assumes nothing.
 use borrow.Author.Needs.{needs}
+use mathlib.Core.Path.{sym}
 use lib.Seq.{set-out}
-use native.Mathlib.Omega.{arith}
-use Prim.Native.Nat.{ℕ, _+_, _-_, _*_, _<_, _≤_}
-use mathlib.Core.Path.{_≡_, refl, sym, ap, _∙_, subst}
-use lib.ListN.{length, getD, set, length-set}
 use Rattle.cells.proofs.putf.Statement.{statement}
 use Rattle.cells.proofs.putf.Tie as tie
 
-mul-a : tie.Need-mul-a
-mul-a c = search needs
+mul-floats : tie.Need-mul-floats
+mul-floats c = search needs
 
-slice-write-a : tie.Need-slice-write-a
-slice-write-a c = search needs
+slice-write-floats : tie.Need-slice-write-floats
+slice-write-floats c = search needs
 
 same-length : tie.Need-same-length
 same-length c = search needs
@@ -21,7 +18,7 @@ returns : tie.Need-returns
 returns c = search needs
 
 returns-2 : tie.Need-returns-2
-returns-2 c = sym (set-out (c .before .args .a .now) (c .before .args .i) (c .before .args .x) (c .if1 .left))
+returns-2 c = sym (set-out (c .before .args .floats .now) _ _ (c .if1 .left))
 
 pub putf-spec : {M : Type 1} → statement M
-putf-spec = tie.close (tie.spec mul-a slice-write-a same-length returns returns-2)
+putf-spec = tie.close (tie.spec mul-floats slice-write-floats same-length returns returns-2)
