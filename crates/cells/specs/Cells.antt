@@ -1,43 +1,14 @@
--- Lists filled, cleared, copied and written into, as definitions for every length, and their laws. Assumes nothing.
+-- Lists filled, cleared, copied and written into: laws, and samples. Assumes nothing.
 use mathlib.Core.Path.{_≡_, refl, sym, ap, _∙_}
 use mathlib.Core.List.{List, [], _∷_, _++_, append-nil}
-use mathlib.Core.Bool.{false}
 use Prim.Native.Nat.{ℕ, zero, suc, _+_, _-_, _<_, _≤_, min}
 use native.Mathlib.Nat.{zero-min, suc-min-suc, zero-add, suc-add}
 use native.Mathlib.Numerals.{add-one}
 use native.Mathlib.Omega.{arith}
 use native.Mathlib.Decide.{decLe}
-use lib.IntN.{pos}
-use lib.Ieee.{Float, fin}
 use lib.ListN.{length, getD, set, take, drop, replicate, length-append, length-take, length-drop, length-replicate, getD-replicate, drop-of-length-le, List·getD-eq-default}
 use lib.Seq.{take-nil, take-all, take-length, take-suc, drop-drop, ext-getD, length-take-le, getD-take}
-
--- 0.0
-abbrev pub zeroFloat : Float
-zeroFloat = fin false 0 (pos 0)
-
-module _ {A : Type 0} where
-  -- n times x
-  unfoldable pub filled : ℕ → A → List A
-  filled n x = replicate n x
-
-  -- s over the front of d, as far as d goes
-  unfoldable pub over : List A → List A → List A
-  over [] s = []
-  over (x ∷ d) [] = x ∷ d
-  over (x ∷ d) (y ∷ s) = y ∷ over d s
-
-  -- the first n of s over the front of d
-  unfoldable pub copied : List A → List A → ℕ → List A
-  copied d s n = over d (take n s)
-
-  -- s over what stands in d from `at` on
-  unfoldable pub placed : List A → ℕ → List A → List A
-  placed d at s = take at d ++ over (drop at d) s
-
--- the first m words 0, or all where there are fewer
-unfoldable pub cleared : List ℕ → ℕ → List ℕ
-cleared ws m = over ws (filled m 0)
+use Rattle.spec.specs.Memory.{filled, over, copied, placed, cleared}
 
 -- ---- samples: within the list, and past its end
 

@@ -2,10 +2,11 @@
 -- Definitions only. Assumes nothing.
 use mathlib.Core.Bool.{Bool, true, false, not, _&&_, _||_, cond}
 use mathlib.Core.List.{List, _++_}
-use Prim.Native.Nat.{ℕ, _+_, _-_, _%_, min}
+use Prim.Native.Nat.{ℕ, _+_, _-_, _%_}
 use lib.Dec.{eqb, ltb}
-use lib.ListN.{length, drop, getD, replicate}
+use lib.ListN.{length, getD}
 use Rattle.spec.specs.Lists.{memb, range, anyb, keep}
+use Rattle.spec.specs.Memory.{cleared}
 use Rattle.spec.specs.Refusal.{Refusal, truncated, wrongTag, tooLarge, overweight, outOfRange, repeated, shortBuffer, invalidTree, invalidFlags, totalBeyond, danglingIndex, tableTooWide, drawsExhausted, Check, check, Result, refused, done}
 use Rattle.spec.specs.Network.{Network, leafCount, indexCount, legs}
 use Rattle.spec.specs.Tree.{Pair, valid, pairsOf}
@@ -77,10 +78,6 @@ touches totalBeyond = true
 touches danglingIndex = true
 touches tableTooWide = true
 touches drawsExhausted = true
-
--- the first m words zero, the others as they were
-unfoldable pub cleared : List ℕ → ℕ → List ℕ
-cleared ws m = replicate (min m (length ws)) 0 ++ drop m ws
 
 -- "After every call the stated workspace is zero, except after 3 to 7 .. Words and list places past the stated lengths stay."
 abbrev pub workspaceAfter : {A : Type 0} → ℕ → Result A → List ℕ → List ℕ

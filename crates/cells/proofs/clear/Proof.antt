@@ -3,7 +3,8 @@ use borrow.Author.Needs.{needs}
 use native.Mathlib.Omega.{arith}
 use mathlib.Core.Path.{ap, _∙_}
 use lib.ListN.{length-take}
-use Rattle.cells.specs.Cells.{cleared, cleared-back, cleared-min}
+use Rattle.spec.specs.Memory.{cleared}
+use Rattle.cells.specs.Cells.{cleared-back, cleared-min}
 use Rattle.cells.proofs.clear.Statement.{statement}
 use Rattle.cells.proofs.clear.Tie as tie
 

@@ -4,7 +4,8 @@ use native.Mathlib.Omega.{arith}
 use Prim.Native.Nat.{_-_, _≤_, min}
 use mathlib.Core.Path.{_≡_, refl, ap, _∙_}
 use lib.ListN.{length, length-set}
-use Rattle.cells.specs.Cells.{copied, copied-none, copied-next, copied-end}
+use Rattle.spec.specs.Memory.{copied}
+use Rattle.cells.specs.Cells.{copied-none, copied-next, copied-end}
 use Rattle.cells.proofs.copy8.Statement.{statement}
 use Rattle.cells.proofs.copy8.Tie as tie
 

@@ -4,7 +4,8 @@ use native.Mathlib.Omega.{arith}
 use Prim.Native.Nat.{_-_, _≤_}
 use mathlib.Core.Path.{_≡_, refl, _∙_}
 use lib.ListN.{length, length-set}
-use Rattle.cells.specs.Cells.{filled, over, filled-none, filled-next, filled-end}
+use Rattle.spec.specs.Memory.{filled, over}
+use Rattle.cells.specs.Cells.{filled-none, filled-next, filled-end}
 use Rattle.cells.proofs.fill64.Statement.{statement}
 use Rattle.cells.proofs.fill64.Tie as tie
 
