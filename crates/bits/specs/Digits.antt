@@ -2,13 +2,13 @@
 -- Assumes nothing.
 use mathlib.Core.Bool.{Bool, true, false, not, _&&_, _||_, cond}
 use mathlib.Core.Path.{_≡_, refl, sym, _∙_, ap}
-use Prim.Native.Nat.{ℕ, zero, suc, _+_, _*_, _/_, _%_, _^_, _≤_, _<_, min, max}
+use Prim.Native.Nat.{ℕ, zero, suc, _+_, _*_, _/_, _%_, _^_, _<_, min, max}
 use native.Mathlib.Omega.{arith}
 use native.Mathlib.Nat.{pow-suc}
 use native.Mathlib.Decide.{ℕ-discrete}
-use lib.Bits.{bitAnd, bitOr, bitXor, differ}
+use lib.Bits.{bitAnd, bitOr, bitXor, differ, xor-lt, and-le-l}
 use lib.Dec.{eqb}
-use borrow.Author.Tests.{eq-eqb, ne-eqb, eqb-true, eqb-false}
+use borrow.Author.Tests.{eqb-true, eqb-false}
 use Rattle.laws.specs.ListLaws.{by-cases}
 use Rattle.bits.specs.Bit.{bit, bit-lt, bit-zero, bit-suc, bit-of-zero, or-bit, and-bit, xor-bit, bit-pow-same, bit-pow-other}
 
@@ -99,3 +99,6 @@ pub of-none : (n : ℕ) → ofDigits n (λ i. false) ≡ 0
 unfolding ofDigits
 of-none zero = refl
 of-none (suc n) = omega (arith, of-none n)
+
+pub diff-lt : (k x y : ℕ) → x < 2 ^ k → bitDiff x y < 2 ^ k
+diff-lt k x y h = xor-lt k x (bitAnd x y) h (omega (arith, and-le-l x y))

@@ -1,20 +1,19 @@
 -- The set digits of a word, walked from the lowest up: x & (x - 1) is x without its lowest set digit, whose place is the count of
 -- trailing zeros. Assumes nothing.
-use mathlib.Core.Bool.{Bool, true, false, cond}
+use mathlib.Core.Bool.{Bool, true, false}
 use mathlib.Core.List.{List, [], _∷_}
-use mathlib.Core.Path.{_≡_, refl, sym, _∙_, ap}
-use Prim.Native.Nat.{ℕ, zero, suc, _+_, _-_, _*_, _/_, _%_, _^_, _≤_, _<_, min}
+use mathlib.Core.Path.{_≡_, sym, _∙_, ap}
+use Prim.Native.Nat.{ℕ, zero, suc, _+_, _-_, _*_, _/_, _%_, _^_, _<_}
 use native.Mathlib.Omega.{arith}
 use native.Mathlib.Nat.{pow-suc}
 use native.Mathlib.Decide.{ℕ-discrete}
 use lib.Bits.{bitAnd, and-step, and-le-r, and-self}
-use lib.Count.{trailingZeros, under, ones, ones-step, ones-le}
+use lib.Count.{trailingZeros, ones, ones-step, ones-le}
 use lib.Dec.{eqb}
 use lib.ListN.{length}
-use borrow.Author.Tests.{eq-eqb, ne-eqb}
 use Rattle.spec.specs.Lists.{keep, from}
 use Rattle.laws.specs.ListLaws.{keep-ext-from, keep-none-from}
-use Rattle.bits.specs.Bit.{bit, bit-zero, bit-suc}
+use Rattle.bits.specs.Bit.{bit-zero, bit-suc}
 use Rattle.bits.specs.Digits.{digit, zero-digits}
 
 pub drop-less : (x : ℕ) → 0 < x → bitAnd x (x - 1) < x

@@ -1,7 +1,7 @@
 -- The sub-masks of a mask: the numbers whose digits are all digits of it. The walk sub = (sub - 1) & rest goes through all of them, from
 -- `rest` down to 0; how many there are, and a value carried along the walk. Assumes nothing.
 use mathlib.Core.Bool.{cond}
-use mathlib.Core.Path.{_≡_, refl, sym, _∙_, ap}
+use mathlib.Core.Path.{_≡_, sym, ap}
 use mathlib.Core.Logic.{_⊎_, inl, inr, ⊎-elim}
 use Prim.Native.Nat.{ℕ, zero, suc, _+_, _-_, _*_, _/_, _%_, _≤_, _<_, min}
 use native.Mathlib.Omega.{arith}
@@ -9,7 +9,7 @@ use native.Mathlib.Nat.{le-refl}
 use native.Mathlib.Decide.{ℕ-discrete}
 use native.Mathlib.Numerals.{add-one}
 use lib.Arith.{bin-ind}
-use lib.Bits.{bitAnd, and-zero-l, and-step, and-le-l, and-le-r}
+use lib.Bits.{bitAnd, and-zero-l, and-step, and-le-l}
 use lib.Dec.{eqb}
 use borrow.Author.Tests.{eq-eqb, ne-eqb}
 
@@ -75,7 +75,7 @@ gap rest m (suc n) h none =
 pub step-down : (rest sub : ℕ) → 0 < sub → Part sub rest → partsBelow rest (sub + 1) ≡ 1 + partsBelow rest (bitAnd (sub - 1) rest + 1)
 unfolding partsBelow
 step-down rest sub p h =
-    rw (add-one, add-one)
+    rw (add-one sub, add-one (bitAnd (sub - 1) rest))
     (omega (
       arith,
       part-yes rest sub h,

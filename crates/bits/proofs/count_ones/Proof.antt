@@ -1,10 +1,7 @@
 -- Assumes nothing.
-use borrow.Author.Needs.{needs}
 use lib.Count.{ones-le}
 use native.Mathlib.Omega.{arith}
-use Prim.Native.Nat.{ℕ, _+_, _-_, _*_, _<_, _≤_}
-use mathlib.Core.Path.{_≡_, refl, sym, ap, _∙_, subst}
-use lib.ListN.{length, getD, set, length-set}
+use mathlib.Core.Path.{refl}
 use Rattle.bits.proofs.count_ones.Statement.{statement}
 use Rattle.bits.proofs.count_ones.Tie as tie
 

@@ -5,9 +5,8 @@ use Rattle.bits.specs.Splits.{parts-count}
 use Rattle.bits.specs.Submask.{Part, partsBelow, step-down, and-part, below-one}
 use lib.Bits.{and-le-l, and-le-r, and-self}
 use native.Mathlib.Omega.{arith}
-use Prim.Native.Nat.{ℕ, _+_, _-_, _*_, _<_, _≤_}
-use mathlib.Core.Path.{_≡_, refl, sym, ap, _∙_, subst}
-use lib.ListN.{length, getD, set, length-set}
+use Prim.Native.Nat.{_+_, _-_, _≤_}
+use mathlib.Core.Path.{_≡_, ap}
 use Rattle.bits.proofs.count_parts.Statement.{statement}
 use Rattle.bits.proofs.count_parts.Tie as tie
 

@@ -5,11 +5,9 @@ use native.Mathlib.Nat.{two-pow-succ}
 use Rattle.bits.specs.Splits.{most-none, most-step, most-small}
 use Rattle.spec.specs.ImproveClaims.{mostSplits}
 use lib.Pow.{pow-pos}
-use Prim.Native.Nat.{_^_}
+use Prim.Native.Nat.{_^_, _-_, _≤_}
 use native.Mathlib.Omega.{arith}
-use Prim.Native.Nat.{ℕ, _+_, _-_, _*_, _<_, _≤_}
-use mathlib.Core.Path.{_≡_, refl, sym, ap, _∙_, subst}
-use lib.ListN.{length, getD, set, length-set}
+use mathlib.Core.Path.{_≡_, refl, sym, ap, _∙_}
 use Rattle.bits.proofs.most_splits.Statement.{statement}
 use Rattle.bits.proofs.most_splits.Tie as tie
 
