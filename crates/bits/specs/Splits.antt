@@ -148,6 +148,7 @@ most-none = refl
 pub most-small : (m : ℕ) → m ≤ 12 → (mostSplits m ≤ 531441) × (2 ^ m ≤ 4096)
 most-small m h = (omega (arith, most-pow m, pow-le-pow-right {n = 3} (omega arith) h), pow-le-pow-right {n = 2} (omega arith) h)
 
-counted-values : (splitsBelow 8 ≡ 6) × (splitsBelow 16 ≡ 25) × (mostSplits 12 ≡ 261625)
+-- of 3, 4 and 12 members
+splits-values : (splitsBelow 8 ≡ 6) × (splitsBelow 16 ≡ 25) × (splitsBelow (2 ^ 12) ≡ 261625)
 unfolding splitsBelow ones mostSplits
-counted-values = (refl, refl, refl)
+splits-values = (refl, refl, splits-most 12)

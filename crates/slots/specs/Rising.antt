@@ -10,13 +10,28 @@ use lib.Bits.{bitAnd}
 use lib.Count.{trailingZeros, ones, ones-le}
 use lib.ListN.{length, getD, set, length-append}
 use lib.Seq.{sets}
-use Rattle.spec.specs.Lists.{keep, from, range}
+use Rattle.spec.specs.Lists.{memb, keep, from, range}
+use Rattle.laws.specs.ListLaws.{keep-ext, memb-keep-range}
 use Rattle.bits.specs.Lowest.{Tests, places, places-step, places-none, places-ones, keep-places}
-use Rattle.slots.specs.Slots.{held, held-digit}
+use Rattle.slots.specs.Slots.{held, withSet, held-digit, held-with, held-with-other}
 
 -- the members of slot s, rising
 unfoldable pub risingOf : List ℕ → ℕ → ℕ → List ℕ
 risingOf ws W s = keep (held ws W s) (range (W * 64))
+
+pub memb-rising : (ws : List ℕ) (W s j : ℕ) → j < W * 64 → memb j (risingOf ws W s) ≡ held ws W s j
+unfolding risingOf
+memb-rising ws W s j h = memb-keep-range j (W * 64) (held ws W s) h
+
+-- after a slot was written
+pub rising-with : (ws : List ℕ) (W s : ℕ) (p : ℕ → Bool) → s * W + W ≤ length ws → risingOf (withSet ws W s p) W s ≡ keep p (range (W * 64))
+unfolding risingOf
+rising-with ws W s p r = keep-ext (held (withSet ws W s p) W s) p (W * 64) (λ j h. held-with ws W s p j r h)
+
+pub rising-with-other : (ws : List ℕ) (W s : ℕ) (p : ℕ → Bool) (u : ℕ) → (u ≡ s → ⊥) → risingOf (withSet ws W s p) W u ≡ risingOf ws W u
+unfolding risingOf
+rising-with-other ws W s p u g =
+    keep-ext (held (withSet ws W s p) W u) (held ws W u) (W * 64) (λ j h. held-with-other ws W s p u j h g)
 
 -- ---- a range in two parts ----
 

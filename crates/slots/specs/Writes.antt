@@ -3,7 +3,7 @@
 use mathlib.Core.Bool.{Bool, false, _||_, or-assoc, or-false}
 use mathlib.Core.Path.{_≡_, sym, _∙_, ap, ap₂}
 use mathlib.Core.List.{List}
-use Prim.Native.Nat.{ℕ, zero, suc, _+_, _*_, _/_, _%_, _^_, _<_}
+use Prim.Native.Nat.{ℕ, zero, suc, _+_, _*_, _/_, _%_, _^_, _≤_, _<_}
 use native.Mathlib.Omega.{arith}
 use native.Mathlib.Numerals.{add-one}
 use native.Mathlib.Decide.{ℕ-discrete}
@@ -14,7 +14,22 @@ use lib.Pow.{pow-lt}
 use lib.Seq.{getD-set-same, getD-set-other}
 use borrow.Author.Tests.{eq-eqb, ne-eqb}
 use Rattle.bits.specs.Digits.{digit, Digitwise, or-digits, pow-digits, zero-digits}
-use Rattle.slots.specs.Slots.{held, wordOf, written, withSet, Words, held-digit, word-is, written-other, written-next, withSet-is, withSet-ext, withSet-held, withSet-then, place-eq}
+use Rattle.slots.specs.Slots.{
+  held,
+  wordOf,
+  written,
+  withSet,
+  Words,
+  held-digit,
+  word-is,
+  written-other,
+  written-next,
+  withSet-is,
+  withSet-ext,
+  withSet-held,
+  withSet-then,
+  place-eq,
+}
 
 -- the empty set's words
 pub word-none : (k : ℕ) → 0 ≡ wordOf (λ j. false) k
@@ -35,7 +50,7 @@ module _ (ws : List ℕ) (W s i : ℕ) where
   abbrev pub andOne : ℕ → Bool
   andOne j = held ws W s j || eqb j i
 
-  pub insert-is : Words ws → i < W * 64
+  pub insert-is : Words ws → i / 64 < W
       → set ws (s * W + i / 64) (bitOr (getD ws (s * W + i / 64) 0) (2 ^ (i % 64))) ≡ withSet ws W s andOne
   insert-is h b =
       withSet-is ws W s andOne _ (simp length-set) inside
@@ -53,6 +68,13 @@ module _ (ws : List ℕ) (W s i : ℕ) where
                 ∙ word-is andOne k _ (h (s * W + k)) (λ t q.
                 sym (or-false _) ∙ ap₂ (λ (x y : Bool). x || y) (sym (held-digit ws W s k t q)) (sym (ne-eqb (k * 64 + t) i (λ z. f (omega arith)))))
           ]
+
+  -- an index too high for the slot
+  pub insert-none : Words ws → W ≤ i / 64 → ws ≡ withSet ws W s andOne
+  insert-none h b =
+      withSet-held ws W s h
+      ∙ withSet-ext ws W s (held ws W s) andOne (λ j q.
+      sym (or-false (held ws W s j)) ∙ ap (λ (x : Bool). held ws W s j || x) (sym (ne-eqb j i (λ e. omega arith))))
 
 -- ---- the places of a list ----
 

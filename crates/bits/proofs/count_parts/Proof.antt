@@ -29,10 +29,16 @@ loop-less : tie.Need-loop-less Inv-loop μ-loop
 loop-less c = omega (arith, and-le-l (c .before .loop .sub - 1) (c .before .before .args .rest))
 
 loop-again : tie.Need-loop-again Inv-loop μ-loop
-loop-again c = let s = c .before .loop .sub in let r = c .before .before .args .rest in (and-part (s - 1) r, and-le-r (s - 1) r, omega (arith, and-le-l (s - 1) r), omega (arith, step-down r s (omega arith) (c .before .loop .inv .0)))
+loop-again c =
+    let s = c .before .loop .sub in
+    let r = c .before .before .args .rest in
+    (and-part (s - 1) r, and-le-r (s - 1) r, omega (arith, and-le-l (s - 1) r), omega (arith, step-down r s (omega arith) (c .before .loop .inv .0)))
 
 returns : tie.Need-returns Inv-loop μ-loop
-returns c = let s0 : c .before .loop .sub ≡ 0 = c .if1 .taken in let r = c .before .before .args .rest in omega (arith, below-one r (c .before .loop .sub) s0, add-one r, ap (partsBelow r) (add-one r), parts-count 64 r (omega arith))
+returns c =
+    let s0 : c .before .loop .sub ≡ 0 = c .if1 .taken in
+    let r = c .before .before .args .rest in
+    omega (arith, below-one r (c .before .loop .sub) s0, add-one r, ap (partsBelow r) (add-one r), parts-count 64 r (omega arith))
 
 pub count-parts-spec : {M : Type 1} → statement M
 count-parts-spec =

@@ -42,7 +42,8 @@ loop-less : tie.Need-loop-less Inv-loop μ-loop
 loop-less c = search needs
 
 loop-again : tie.Need-loop-again Inv-loop μ-loop
-loop-again c = let l = c .before .loop in (omega arith, omega (arith, most-step (l .k)), rw (add-one (l .k)) (omega (arith, l .inv .2, two-pow-succ (l .k))))
+loop-again c =
+    let l = c .before .loop in (omega arith, omega (arith, most-step (l .k)), rw (add-one (l .k)) (omega (arith, l .inv .2, two-pow-succ (l .k))))
 
 returns : tie.Need-returns Inv-loop μ-loop
 returns c = let l = c .before .loop in l .inv .1 ∙ ap mostSplits (omega arith)

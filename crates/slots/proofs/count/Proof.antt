@@ -40,10 +40,19 @@ loop-less : tie.Need-loop-less Inv-loop μ-loop
 loop-less c = search needs
 
 loop-again : tie.Need-loop-again Inv-loop μ-loop
-loop-again c = let d = c .before .before .before .before .before .args in let l = c .before .before .before .loop in (omega arith, count-next (d .words .now) (d .w) (d .s) (l .k) (l .n) (c .before .get64 .result) (c .count-ones .result) (l .inv .1) (c .before .get64 .ensures) (omega arith) (c .count-ones .ensures .0), omega (arith, c .count-ones .ensures .1, l .inv .2))
+loop-again c =
+    let d = c .before .before .before .before .before .args in
+    let l = c .before .before .before .loop in (
+      omega arith,
+      count-next (d .words .now) (d .w) (d .s) (l .k) (l .n) (c .before .get64 .result) (c .count-ones .result) (l .inv .1)
+          (c .before .get64 .ensures) (omega arith) (c .count-ones .ensures .0),
+      omega (arith, c .count-ones .ensures .1, l .inv .2),
+    )
 
 returns : tie.Need-returns Inv-loop μ-loop
-returns c = let d = c .before .before .before .args in count-end (d .words .now) (d .w) (d .s) (c .before .loop .k) (c .before .loop .n) (omega arith) (c .before .loop .inv .1)
+returns c =
+    let d = c .before .before .before .args in
+    count-end (d .words .now) (d .w) (d .s) (c .before .loop .k) (c .before .loop .n) (omega arith) (c .before .loop .inv .1)
 
 pub count-spec : {M : Type 1} → statement M
 count-spec =

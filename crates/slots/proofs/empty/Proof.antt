@@ -35,7 +35,10 @@ loop-less : tie.Need-loop-less Inv-loop μ-loop
 loop-less c = search needs
 
 loop-again : tie.Need-loop-again Inv-loop μ-loop
-loop-again c = (omega arith, written-next _ _ _ _ _ _ _ (c .before .before .before .before .before .loop .inv .1) (word-none _) (c .before .before .put64 .ensures))
+loop-again c = (
+  omega arith,
+  written-next _ _ _ _ _ _ _ (c .before .before .before .before .before .loop .inv .1) (word-none _) (c .before .before .put64 .ensures),
+)
 
 same-length : tie.Need-same-length Inv-loop μ-loop
 same-length c = ap length (c .before .loop .inv .1) ∙ written-length _ _ _ _

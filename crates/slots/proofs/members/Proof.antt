@@ -33,7 +33,9 @@ mul-members-word : tie.Need-mul-members-word Inv-loop μ-loop
 mul-members-word c = search needs
 
 members-word-requires : tie.Need-members-word-requires Inv-loop μ-loop
-members-word-requires c κs = let d = c .before .before .before .before .before .before in (omega (arith, d .pre .0), omega (arith, d .pre .0, d .pre .2, c .before .before .before .loop .inv .2))
+members-word-requires c κs =
+    let d = c .before .before .before .before .before .before in
+    (omega (arith, d .pre .0), omega (arith, d .pre .0, d .pre .2, c .before .before .before .loop .inv .2))
 
 add-k : tie.Need-add-k Inv-loop μ-loop
 add-k c = search needs
@@ -42,7 +44,15 @@ loop-less : tie.Need-loop-less Inv-loop μ-loop
 loop-less c = search needs
 
 loop-again : tie.Need-loop-again Inv-loop μ-loop
-loop-again c = let d = c .before .before .before .before .before .before .before .before .before .args in let l = c .before .before .before .before .before .before .loop in (omega arith, walk-next (d .words .now) (d .w) (d .s) (d .out .now) (d .at) (l .out) _ (l .n) (c .before .before .members-word .result) (l .k) (c .before .before .before .before .get64 .result) (c .before .before .before .before .get64 .ensures) (c .before .before .members-word .ensures .0) (c .before .before .members-word .ensures .2) (l .inv .1), omega (arith, c .before .before .members-word .ensures .1, l .inv .2))
+loop-again c =
+    let d = c .before .before .before .before .before .before .before .before .before .args in
+    let l = c .before .before .before .before .before .before .loop in (
+      omega arith,
+      walk-next (d .words .now) (d .w) (d .s) (d .out .now) (d .at) (l .out) _ (l .n) (c .before .before .members-word .result) (l .k)
+          (c .before .before .before .before .get64 .result) (c .before .before .before .before .get64 .ensures)
+          (c .before .before .members-word .ensures .0) (c .before .before .members-word .ensures .2) (l .inv .1),
+      omega (arith, c .before .before .members-word .ensures .1, l .inv .2),
+    )
 
 sub-result : tie.Need-sub-result Inv-loop μ-loop
 sub-result c = omega (arith, c .before .loop .inv .1 .1)
@@ -51,7 +61,9 @@ same-length : tie.Need-same-length Inv-loop μ-loop
 same-length c = ap length (c .before .loop .inv .1 .0) ∙ simp length-sets
 
 returns : tie.Need-returns Inv-loop μ-loop
-returns c = let d = c .before .before .before .before .args in let l = c .before .loop in walk-end (d .words .now) (d .w) (d .s) (d .out .now) (d .at) (l .out) (l .n) (l .k) (omega arith) (l .inv .1)
+returns c =
+    let d = c .before .before .before .before .args in
+    let l = c .before .loop in walk-end (d .words .now) (d .w) (d .s) (d .out .now) (d .at) (l .out) (l .n) (l .k) (omega arith) (l .inv .1)
 
 pub members-spec : {M : Type 1} → statement M
 members-spec =

@@ -31,7 +31,14 @@ put16-requires : tie.Need-put16-requires Inv-loop μ-loop
 put16-requires c κs = search needs
 
 add-n : tie.Need-add-n Inv-loop μ-loop
-add-n c = let d = c .before .before .before .before .before .before .before .before .args in let l = c .before .before .before .before .before .before .loop in omega (arith, put-most (d .out .now) (d .at) (d .base) (d .x) (l .out) (l .n) (l .rest) (omega arith) (l .inv .0), c .before .before .before .before .before .before .before .before .pre .1)
+add-n c =
+    let d = c .before .before .before .before .before .before .before .before .args in
+    let l = c .before .before .before .before .before .before .loop in
+    omega (
+      arith,
+      put-most (d .out .now) (d .at) (d .base) (d .x) (l .out) (l .n) (l .rest) (omega arith) (l .inv .0),
+      c .before .before .before .before .before .before .before .before .pre .1,
+    )
 
 sub-rest : tie.Need-sub-rest Inv-loop μ-loop
 sub-rest c = search needs
@@ -40,13 +47,22 @@ loop-less : tie.Need-loop-less Inv-loop μ-loop
 loop-less c = drop-less (c .before .before .before .before .before .before .loop .rest) (omega arith)
 
 loop-again : tie.Need-loop-again Inv-loop μ-loop
-loop-again c = let d = c .before .before .before .before .before .before .before .before .args in let l = c .before .before .before .before .before .before .loop in (put-next (d .out .now) (d .at) (d .base) (d .x) (l .out) _ (l .n) (l .rest) (c .before .before .before .before .low .result) (omega arith) (omega arith) (c .before .before .before .before .low .ensures .0) (c .before .before .put16 .ensures) (l .inv .0), omega (arith, drop-less (l .rest) (omega arith)), ap length (c .before .before .put16 .ensures) ∙ simp length-set (l .inv .2))
+loop-again c =
+    let d = c .before .before .before .before .before .before .before .before .args in
+    let l = c .before .before .before .before .before .before .loop in (
+      put-next (d .out .now) (d .at) (d .base) (d .x) (l .out) _ (l .n) (l .rest) (c .before .before .before .before .low .result) (omega arith)
+          (omega arith) (c .before .before .before .before .low .ensures .0) (c .before .before .put16 .ensures) (l .inv .0),
+      omega (arith, drop-less (l .rest) (omega arith)),
+      ap length (c .before .before .put16 .ensures) ∙ simp length-set (l .inv .2),
+    )
 
 same-length : tie.Need-same-length Inv-loop μ-loop
 same-length c = search needs
 
 returns : tie.Need-returns Inv-loop μ-loop
-returns c = let d = c .before .before .before .args in let l = c .before .loop in put-end (d .out .now) (d .at) (d .base) (d .x) (l .out) (l .n) (l .rest) (omega arith) (omega arith) (l .inv .0)
+returns c =
+    let d = c .before .before .before .args in
+    let l = c .before .loop in put-end (d .out .now) (d .at) (d .base) (d .x) (l .out) (l .n) (l .rest) (omega arith) (omega arith) (l .inv .0)
 
 pub members-word-spec : {M : Type 1} → statement M
 members-word-spec =

@@ -36,13 +36,16 @@ get64-requires : tie.Need-get64-requires Inv-loop μ-loop
 get64-requires c κs = search needs
 
 add-get64-2 : tie.Need-add-get64-2 Inv-loop μ-loop
-add-get64-2 c = let d = c .before .before .before .before .before .before in omega (arith, slot-small 1048576 (d .args .b) (d .args .w) (d .pre .2) (d .pre .0))
+add-get64-2 c =
+    let d = c .before .before .before .before .before .before in omega (arith, slot-small 1048576 (d .args .b) (d .args .w) (d .pre .2) (d .pre .0))
 
 get64-requires-2 : tie.Need-get64-requires-2 Inv-loop μ-loop
 get64-requires-2 c κs = search needs
 
 add-put64 : tie.Need-add-put64 Inv-loop μ-loop
-add-put64 c = let d = c .before .before .before .before .before .before .before .before in omega (arith, slot-small 1048576 (d .args .c) (d .args .w) (d .pre .3) (d .pre .0))
+add-put64 c =
+    let d = c .before .before .before .before .before .before .before .before in
+    omega (arith, slot-small 1048576 (d .args .c) (d .args .w) (d .pre .3) (d .pre .0))
 
 put64-requires : tie.Need-put64-requires Inv-loop μ-loop
 put64-requires c κs = search needs
@@ -54,7 +57,15 @@ loop-less : tie.Need-loop-less Inv-loop μ-loop
 loop-less c = search needs
 
 loop-again : tie.Need-loop-again Inv-loop μ-loop
-loop-again c = let d = c .before .before .before .before .before .before .before .before .before .before .before .args in let l = c .before .before .before .before .before .before .before .before .before .loop in (omega arith, mix-next bitDiff (λ x y. x && not y) diff-digits (λ x y h g. diff-lt 64 x y h) (d .words .now) (d .w) (d .a) (d .b) (d .c) (l .k) (c .before .before .before .before .before .before .get64 .result) (c .before .before .before .before .get642 .result) _ _ (omega arith) (l .inv .1) (omega arith) (omega arith) (c .before .before .before .before .before .before .get64 .ensures) (c .before .before .before .before .get642 .ensures) (c .before .before .put64 .ensures))
+loop-again c =
+    let d = c .before .before .before .before .before .before .before .before .before .before .before .args in
+    let l = c .before .before .before .before .before .before .before .before .before .loop in (
+      omega arith,
+      mix-next bitDiff (λ x y. x && not y) diff-digits (λ x y h g. diff-lt 64 x y h) (d .words .now) (d .w) (d .a) (d .b) (d .c) (l .k)
+          (c .before .before .before .before .before .before .get64 .result) (c .before .before .before .before .get642 .result) _ _ (omega arith)
+          (l .inv .1) (omega arith) (omega arith) (c .before .before .before .before .before .before .get64 .ensures)
+          (c .before .before .before .before .get642 .ensures) (c .before .before .put64 .ensures),
+    )
 
 same-length : tie.Need-same-length Inv-loop μ-loop
 same-length c = ap length (c .before .loop .inv .1) ∙ written-length _ _ _ _
