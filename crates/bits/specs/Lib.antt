@@ -1,0 +1,5 @@
+pub mod Bit
+pub mod Digits
+pub mod Lowest
+pub mod Submask
+pub mod Splits
