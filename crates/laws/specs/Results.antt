@@ -5,7 +5,7 @@ use Prim.Native.Nat.{ℕ}
 use native.Mathlib.Omega.{arith}
 use Rattle.spec.specs.Refusal.{Refusal, Result, refused, done, andThen}
 
--- a refusal is no answer, and answers are the same as results only if they are the same
+-- a refusal is no answer, and the same result has the same answer
 pub not-done {ℓ} : {A : Type 0} {P : Type ℓ} (k : Refusal) (x : A) → _≡_ {A = Result A} (refused k) (done x) → P
 not-done k x e = absurd (let w : _≡_ {A = ℕ} 0 1 = cc in omega arith)
 
