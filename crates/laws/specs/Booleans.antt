@@ -1,5 +1,4 @@
--- Laws of Booleans, and of the test of two numbers for equality, that `mathlib.Core.Bool` and `borrow.Author.Tests` do not have.
--- Assumes nothing.
+-- Laws of Booleans and of tests of numbers, beside those of `mathlib.Core.Bool` and `borrow.Author.Tests`. Assumes nothing.
 use mathlib.Core.Path.{_≡_, refl, sym, ap, _∙_}
 use mathlib.Core.Bool.{Bool, true, false, not, _&&_, _||_, cond, true≢false}
 use Prim.Native.Nat.{ℕ, _≤_}

@@ -2,6 +2,7 @@
 -- array are one; and what is left of that, when one tree is left, is a valid tree. Assumes nothing.
 use mathlib.Core.Path.{_≡_, refl, sym, ap, _∙_}
 use mathlib.Core.Bool.{true, false, cond}
+use mathlib.Mathlib.Data.Bool.Basic.{eq-false-of-not-eq-true, eq-true-of-not-eq-false}
 use mathlib.Core.List.{List, [], _∷_, _++_}
 use Prim.Native.Nat.{ℕ, zero, suc, _+_, _-_, _≤_, _<_}
 use native.Mathlib.Omega.{arith}
@@ -234,12 +235,10 @@ stock-valid n a u s =
 
     above : (v : ℕ) → n + length a ≤ v → memb v (numbers u) ≡ false
     above v b =
-        by-cases (memb v (numbers u))
-        (λ e. absurd (omega (arith, count-memb v (numbers u) e, s .counts v, fresh-none n (n + length a) v b, leaves-free n v (omega arith))))
-        (λ e. e)
+        eq-false-of-not-eq-true (λ e. omega (arith, count-memb v (numbers u) e, s .counts v, fresh-none n (n + length a) v b, leaves-free n v (omega arith)))
 
     in-u : (v : ℕ) → v < n + length a → memb v (numbers u) ≡ true
-    in-u v b = by-cases (memb v (numbers u)) (λ e. e) (λ e. absurd (omega (arith, met v b, count-not-memb v (numbers u) e)))
+    in-u v b = eq-true-of-not-eq-false (λ e. omega (arith, met v b, count-not-memb v (numbers u) e))
 
     low : (v : ℕ) → memb v (numbers u) ≡ true → v < n + length a
     low v m = by-cases (ltb v (n + length a)) (ltb-true v (n + length a)) (λ e. clash m (above v (ltb-false v (n + length a) e)))
