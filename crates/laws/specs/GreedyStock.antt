@@ -6,6 +6,7 @@ use mathlib.Mathlib.Data.Bool.Basic.{eq-false-of-not-eq-true, eq-true-of-not-eq-
 use mathlib.Core.List.{List, [], _∷_, _++_}
 use Prim.Native.Nat.{ℕ, zero, suc, _+_, _-_, _≤_, _<_}
 use native.Mathlib.Omega.{arith}
+use native.Mathlib.Nat.{lt-of-not-le}
 use lib.Dec.{eqb, ltb}
 use lib.ListN.{length, length-append, length-map}
 use borrow.Author.Tests.{eqb-true, eqb-false, ne-eqb, lt-ltb, le-ltb, ltb-true, ltb-false}
@@ -102,10 +103,7 @@ module _ (N : Network) {base : ℕ → ℕ} {lo all : ℕ} (a : List Pair) (ts t
     -- what stands in a tree is below the next free number
     below-next : (v : ℕ) → 1 ≤ sumOf (λ t. count v (numbers t)) ts → v < leafCount N + length a
     below-next v m =
-        by-cases (ltb v (leafCount N + length a))
-        (ltb-true v (leafCount N + length a))
-        (λ e. let h : leafCount N + length a ≤ v = ltb-false v (leafCount N + length a) e in
-        absurd (omega (arith, s .counts v, s .free v (omega (arith, s .high)), fresh-none lo (leafCount N + length a) v h)))
+        lt-of-not-le (λ h. omega (arith, s .counts v, s .free v (omega (arith, s .high)), fresh-none lo (leafCount N + length a) v h))
 
     longer : length (plus a t u) ≡ suc (length a)
     longer = length-append a _ ∙ omega arith
@@ -241,4 +239,4 @@ stock-valid n a u s =
     in-u v b = eq-true-of-not-eq-false (λ e. omega (arith, met v b, count-not-memb v (numbers u) e))
 
     low : (v : ℕ) → memb v (numbers u) ≡ true → v < n + length a
-    low v m = by-cases (ltb v (n + length a)) (ltb-true v (n + length a)) (λ e. clash m (above v (ltb-false v (n + length a) e)))
+    low v m = lt-of-not-le (λ h. clash m (above v h))
