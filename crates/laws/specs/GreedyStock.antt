@@ -1,6 +1,6 @@
 -- Stocks: an array and the trees over it, which share no number. Joining two trees under a new node keeps a stock; the leaves over the empty
 -- array are one; and what is left of that, when one tree is left, is a valid tree. Assumes nothing.
-use mathlib.Core.Path.{_≡_, refl, sym, ap, _∙_}
+use mathlib.Core.Path.{_≡_, refl, _∙_}
 use mathlib.Core.Bool.{true, false, cond}
 use mathlib.Mathlib.Data.Bool.Basic.{eq-false-of-not-eq-true, eq-true-of-not-eq-false}
 use mathlib.Core.List.{List, [], _∷_, _++_}
@@ -15,9 +15,9 @@ use Rattle.spec.specs.Members.{All}
 use Rattle.spec.specs.Network.{Network, leafCount}
 use Rattle.spec.specs.Tree.{Tree, leaf, node, number, numbers, Pair, Describes, ValidTree}
 use Rattle.spec.specs.Greedy.{plus, joined, leavesOf}
-use Rattle.laws.specs.Booleans.{by-cases, or-cases, clash}
+use Rattle.laws.specs.Booleans.{by-cases, clash}
 use Rattle.laws.specs.MemberLaws.{all-map, get-more, get-last}
-use Rattle.laws.specs.ListLaws.{count-append, count-memb, count-not-memb, memb-append, range-length, sum-length}
+use Rattle.laws.specs.ListLaws.{count-memb, count-not-memb, range-length, sum-length, memb-one, count-three, three-cases}
 use Rattle.laws.specs.Counts.{count-in, count-out}
 use Rattle.laws.specs.Walks.{inners}
 use Rattle.laws.specs.Arrays.{number-in}
@@ -110,16 +110,13 @@ module _ (N : Network) {base : ℕ → ℕ} {lo all : ℕ} (a : List Pair) (ts t
 
     new-topped : Topped (joined N a t u)
     new-topped v m =
-        or-cases (memb v (numbers t)) _ (sym (memb-append v (numbers t) _) ∙ m)
+        three-cases v (leafCount N + length a) (numbers t) (numbers u) m
         (λ e. omega (arith, below-next v (omega (arith, count-memb v (numbers t) e, p .sums (λ t. count v (numbers t))))))
-        (λ e. or-cases (memb v (numbers u)) _ (sym (memb-append v (numbers u) _) ∙ e)
-        (λ f. omega (
+        (λ e. omega (
           arith,
-          below-next v (omega (arith, count-memb v (numbers u) f, p .sums (λ t. count v (numbers t)), q .sums (λ t. count v (numbers t)))),
+          below-next v (omega (arith, count-memb v (numbers u) e, p .sums (λ t. count v (numbers t)), q .sums (λ t. count v (numbers t)))),
         ))
-        (λ f. or-cases (eqb v (leafCount N + length a)) false f
-        (λ g. omega (arith, eqb-true v (leafCount N + length a) g))
-        (λ g. clash g refl)))
+        (λ e. omega arith)
 
     -- what there was of the trees
     parts : (Describes (leafCount N) a t × Topped t) × All (λ t. Describes (leafCount N) a t × Topped t) ts₁
@@ -135,10 +132,6 @@ module _ (N : Network) {base : ℕ → ℕ} {lo all : ℕ} (a : List Pair) (ts t
       describes-more (leafCount N) a _ t (parts .0 .0),
       describes-more (leafCount N) a _ u (parts′ .0 .0),
     )
-
-    counts-node : (v : ℕ) → count v (numbers (joined N a t u)) ≡ count v (numbers t) + (count v (numbers u) + count v ((leafCount N + length a) ∷ []))
-    counts-node v =
-        count-append v (numbers t) _ ∙ ap (λ x. count v (numbers t) + x) (count-append v (numbers u) _)
 
     lengths : suc (length ts′) ≡ length ts
     lengths =
@@ -165,7 +158,7 @@ module _ (N : Network) {base : ℕ → ℕ} {lo all : ℕ} (a : List Pair) (ts t
                 p .sums (λ t. count v (numbers t)),
                 q .sums (λ t. count v (numbers t)),
                 r .sums (λ t. count v (numbers t)),
-                counts-node v,
+                count-three v (leafCount N + length a) (numbers t) (numbers u),
                 s .counts v,
                 fresh-step lo (leafCount N + length a) v (s .high),
               ));
@@ -182,7 +175,7 @@ leaves-count v [] = refl
 leaves-count v (i ∷ l) = by-cases (eqb v i) (λ e. rw e (omega (arith, leaves-count v l))) (λ e. rw e (omega (arith, leaves-count v l)))
 
 leaf-topped : (i : ℕ) → Topped (leaf i)
-leaf-topped i v m = or-cases (eqb v i) false m (λ e. omega (arith, eqb-true v i e)) (λ e. clash e refl)
+leaf-topped i v m = omega (arith, memb-one v i m)
 
 leaves-each : (n : ℕ) (a : List Pair) (k m : ℕ) → k + m ≤ n → All (λ t. Describes n a t × Topped t) (leavesOf (from k m))
 leaves-each n a k zero h = tt
