@@ -18,7 +18,7 @@ use Rattle.laws.specs.Booleans.{by-cases}
 use Rattle.laws.specs.MemberLaws.{all-append, all-map, all-both, all-in, in-all}
 use Rattle.laws.specs.Results.{not-done, done-same}
 use Rattle.laws.specs.GreedyOrder.{least-least}
-use Rattle.laws.specs.GreedyStock.{Takes, takes-head, takes-cons, takes-last, Stock, join-stock}
+use Rattle.laws.specs.GreedyForest.{Takes, takes-head, takes-cons, takes-last, Forest, join-forest}
 
 -- ---- slots ----
 
@@ -123,7 +123,7 @@ trees-append (x ∷ l) k = ap (λ y. x .tree ∷ y) (trees-append l k)
 
 -- what holds of every state
 pub record Sound (N : Network) (base : ℕ → ℕ) (lo all : ℕ) (s : State) : Type 0 where
-  pub stock : Stock (leafCount N) base lo all (s .pairs) (trees (s .live))
+  pub forest : Forest (leafCount N) base lo all (s .pairs) (trees (s .live))
   pub rising : Rising 0 (s .live)
   pub slotted : All (λ x. x .slot < s .next) (s .live)
 
@@ -149,7 +149,7 @@ module _ (N : Network) (base : ℕ → ℕ) (lo all n₀ : ℕ) where
       let t = joined N (s .pairs) (x .tree) (y .tree) in
       let low : All (λ z. z .slot < s .next) l₂ = off-all _ (y .slot) l₁ (off-all _ (x .slot) (s .live) (g .slotted)) in
       record {
-        stock = join-stock N (s .pairs) (trees (s .live)) (trees l₁) (trees l₂) _ (x .tree) (y .tree) (g .stock)
+        forest = join-forest N (s .pairs) (trees (s .live)) (trees l₁) (trees l₂) _ (x .tree) (y .tree) (g .forest)
             (takes₁ s (g .rising) c f) (takes₂ s (g .rising) c f) (rw (trees-append l₂ _) (takes-last t (trees l₂)));
         rising = rising-last 0 l₂ _ (rising-off (y .slot) 0 l₁ (rising-off (x .slot) 0 (s .live) (g .rising))) (omega arith) low;
         slotted = all-append _ l₂ _ (all-map _ _ l₂ (λ z h. omega arith) low) (omega arith, tt);
@@ -175,7 +175,7 @@ module _ (N : Network) (base : ℕ → ℕ) (lo all n₀ : ℕ) where
       → all ≤ fuel + length (s .pairs) → pairsOf N n₀ (s′ .live) ≡ []
   connect-ends zero s s′ e g h =
       subst (λ (z : State). pairsOf N n₀ (z .live) ≡ []) (done-same s s′ e)
-      (no-tables (s .live) (omega (arith, g .stock .amount)))
+      (no-tables (s .live) (omega (arith, g .forest .amount)))
     where
       no-tables : (l : List Live) → length (trees l) ≡ 0 → pairsOf N n₀ l ≡ []
       no-tables [] z = refl
@@ -214,11 +214,11 @@ slots-below : (k : ℕ) (ts : List Tree) → All (λ x. x .slot < k + length ts)
 slots-below k [] = tt
 slots-below k (t ∷ ts) = (omega arith, all-map _ _ (slots (suc k) ts) (λ x h. omega arith) (slots-below (suc k) ts))
 
-pub start-sound : (N : Network) (base : ℕ → ℕ) (lo all : ℕ) (a : List Pair) (ts : List Tree) → Stock (leafCount N) base lo all a ts
+pub start-sound : (N : Network) (base : ℕ → ℕ) (lo all : ℕ) (a : List Pair) (ts : List Tree) → Forest (leafCount N) base lo all a ts
     → Sound N base lo all (startOf a ts)
 start-sound N base lo all a ts s =
     record {
-      stock = rw (trees-slots 0 ts) s;
+      forest = rw (trees-slots 0 ts) s;
       rising = slots-rising 0 ts;
       slotted = all-map _ _ (slots 0 ts) (λ x h. omega arith) (slots-below 0 ts);
     }

@@ -1,4 +1,4 @@
--- Stocks: an array and the trees over it, which share no number. Joining two trees under a new node keeps a stock; the leaves over the empty
+-- Forests: an array and the trees over it, which share no number. Joining two trees under a new node keeps a forest; the leaves over the empty
 -- array are one; and what is left of that, when one tree is left, is a valid tree. Assumes nothing.
 use mathlib.Core.Path.{_≡_, refl, _∙_}
 use mathlib.Core.Bool.{true, false, cond}
@@ -44,7 +44,7 @@ pub takes-last : (t : Tree) (l : List Tree) → Takes t l (l ++ (t ∷ []))
 takes-last t [] = takes-head t []
 takes-last t (u ∷ l) = takes-cons t u l (l ++ (t ∷ [])) (takes-last t l)
 
--- ---- stocks ----
+-- ---- forests ----
 
 -- no number of the tree is above its root's
 abbrev pub Topped : Tree → Type 0
@@ -74,7 +74,7 @@ fresh-one lo hi v = by-cases (ltb v lo) (λ e. rw e (omega arith)) (λ e. rw e (
 
 -- `base` is how often the start has each number, lo the first number that was free at the start, and `all` what nodes and trees come to
 -- together
-pub record Stock (n : ℕ) (base : ℕ → ℕ) (lo all : ℕ) (a : List Pair) (ts : List Tree) : Type 0 where
+pub record Forest (n : ℕ) (base : ℕ → ℕ) (lo all : ℕ) (a : List Pair) (ts : List Tree) : Type 0 where
   pub free : (v : ℕ) → lo ≤ v → base v ≡ 0
   pub amount : length a + length ts ≡ all
   pub each : All (λ t. Describes n a t × Topped t) ts
@@ -83,9 +83,9 @@ pub record Stock (n : ℕ) (base : ℕ → ℕ) (lo all : ℕ) (a : List Pair) (
   pub deep : sumOf inners ts ≤ length a
 
 -- no number stands twice, if none does at the start
-pub stock-once : {n : ℕ} {base : ℕ → ℕ} {lo all : ℕ} {a : List Pair} {ts : List Tree} → Stock n base lo all a ts → ((v : ℕ) → base v ≤ 1)
+pub forest-once : {n : ℕ} {base : ℕ → ℕ} {lo all : ℕ} {a : List Pair} {ts : List Tree} → Forest n base lo all a ts → ((v : ℕ) → base v ≤ 1)
     → (v : ℕ) → sumOf (λ t. count v (numbers t)) ts ≤ 1
-stock-once {n} {base} {lo} {all} {a} s single v =
+forest-once {n} {base} {lo} {all} {a} s single v =
     by-cases (ltb v lo)
     (λ e. omega (arith, rw e at (s .counts v), single v))
     (λ e. omega (arith, s .counts v, s .free v (ltb-false v lo e), fresh-one lo (n + length a) v))
@@ -98,7 +98,7 @@ describes-more n a b (node v l r) d =
 -- ---- two trees are joined under a new node ----
 
 module _ (N : Network) {base : ℕ → ℕ} {lo all : ℕ} (a : List Pair) (ts ts₁ rest ts′ : List Tree) (t u : Tree)
-    (s : Stock (leafCount N) base lo all a ts) (p : Takes t ts₁ ts) (q : Takes u rest ts₁) (r : Takes (joined N a t u) rest ts′)
+    (s : Forest (leafCount N) base lo all a ts) (p : Takes t ts₁ ts) (q : Takes u rest ts₁) (r : Takes (joined N a t u) rest ts′)
   where
     -- what stands in a tree is below the next free number
     below-next : (v : ℕ) → 1 ≤ sumOf (λ t. count v (numbers t)) ts → v < leafCount N + length a
@@ -144,8 +144,8 @@ module _ (N : Network) {base : ℕ → ℕ} {lo all : ℕ} (a : List Pair) (ts t
           sum-length ts′,
         )
 
-    pub join-stock : Stock (leafCount N) base lo all (plus a t u) ts′
-    join-stock =
+    pub join-forest : Forest (leafCount N) base lo all (plus a t u) ts′
+    join-forest =
         record {
           free = s .free;
           amount = omega (arith, longer, lengths, s .amount);
@@ -194,9 +194,9 @@ leaves-single n v =
     (λ e. omega (arith, count-in v 0 n (omega arith) (omega (arith, ltb-true v n e))))
     (λ e. omega (arith, leaves-free n v (ltb-false v n e)))
 
--- over the empty array they are a stock
-pub leaves-stock : (n : ℕ) → Stock n (λ v. count v (range n)) n n [] (leavesOf (range n))
-leaves-stock n =
+-- over the empty array they are a forest
+pub leaves-forest : (n : ℕ) → Forest n (λ v. count v (range n)) n n [] (leavesOf (range n))
+leaves-forest n =
     record {
       free = leaves-free n;
       amount = omega (arith, leaves-length n);
@@ -208,8 +208,8 @@ leaves-stock n =
     }
 
 -- and one tree left of them is a valid tree
-pub stock-valid : (n : ℕ) (a : List Pair) (u : Tree) → Stock n (λ v. count v (range n)) n n a (u ∷ []) → ValidTree n a u
-stock-valid n a u s =
+pub forest-valid : (n : ℕ) (a : List Pair) (u : Tree) → Forest n (λ v. count v (range n)) n n a (u ∷ []) → ValidTree n a u
+forest-valid n a u s =
     record {
       inner = omega (arith, s .amount);
       described = s .each .0 .0;
