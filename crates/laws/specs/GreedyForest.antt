@@ -1,5 +1,5 @@
--- Forests: an array and the trees over it, which share no number. Joining two trees under a new node keeps a forest; the leaves over the empty
--- array are one; and what is left of that, when one tree is left, is a valid tree. Assumes nothing.
+-- Forests: an array, the trees over it, and how often each number stands in them. Joining two trees under a new node keeps a forest; the leaves
+-- over the empty array are one; and one tree left of that forest is a valid tree. Assumes nothing.
 use mathlib.Core.Path.{_≡_, refl, _∙_}
 use mathlib.Core.Bool.{true, false, cond}
 use mathlib.Mathlib.Data.Bool.Basic.{eq-false-of-not-eq-true, eq-true-of-not-eq-false}
