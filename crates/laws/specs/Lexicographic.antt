@@ -1,6 +1,5 @@
--- Orders by one key after another, and the scan of a list for the member that no other comes before. Greedy's order of pairs and slicing's
--- order of indices are such orders, and `least` and `best` are such scans.
--- Assumes nothing.
+-- Orders by one key after another, and the scan of a list for the member that no other comes before: `least` of greedy's pairs and `best` of
+-- slicing's indices are such scans, by such orders. Assumes nothing.
 use mathlib.Core.Path.{_≡_, sym, ap, ap₂, _∙_, subst}
 use mathlib.Core.Bool.{Bool, true, false, _&&_, _||_, cond}
 use mathlib.Core.List.{List, [], _∷_}
@@ -14,7 +13,7 @@ use Rattle.laws.specs.Booleans.{by-cases, clash, or-cases, or-none, and-
 -- ---- orders ----
 
 module _ {A : Type 0} where
-  -- x comes before y, or the two tie. (That x does not come before y is transitive, so ties are too.)
+  -- a strict weak order, as two tests: x comes before y, or the two tie
   pub record Order (before tie : A → A → Bool) : Type 0 where
     pub asym : (x y : A) → before x y ≡ true → before y x ≡ false
     pub trans : (x y z : A) → before x y ≡ false → before y z ≡ false → before x z ≡ false
@@ -24,7 +23,7 @@ module _ {A : Type 0} where
   pub not-before-self : {before tie : A → A → Bool} → Order before tie → (x : A) → before x x ≡ false
   not-before-self {before} o x = by-cases (before x x) (o .asym x x) (λ e. e)
 
-  -- By a number, which may be a difference: f x y is what x adds and y takes off. (The tie is the spec's, either way round.)
+  -- By a number: f x y is x's. Where that is a difference, f x y is x's minuend and y's subtrahend, so that none is taken.
   pub by-number : (f : A → A → ℕ) (tie : A → A → Bool) → ((x y : A) → tie x y ≡ eqb (f x y) (f y x))
       → ((x y z : A) → f x y + (f y z + f z x) ≡ f y x + (f z y + f x z)) → Order (λ x y. ltb (f x y) (f y x)) tie
   by-number f tie is round =
@@ -37,7 +36,7 @@ module _ {A : Type 0} where
             (le-ltb (f x y) (f y x) (omega arith), le-ltb (f y x) (f x y) (omega arith));
       }
 
-  -- by a first order, and where that ties by a second
+  -- lexicographic: by a first order, and where that ties by a second
   module _ {before tie then tie′ : A → A → Bool} (o : Order before tie) (r : Order then tie′) where
     abbrev lex : A → A → Bool
     lex x y = before x y || (tie x y && then x y)
@@ -71,7 +70,7 @@ module _ {A : Type 0} where
               (lex-false x y a (λ s. c), lex-false y x b (λ s. d));
         }
 
--- by the order of what f makes of them
+-- by the order of what f gives for each
 pub order-of : {A B : Type 0} {before tie : A → A → Bool} (f : B → A) → Order before tie
     → Order (λ x y. before (f x) (f y)) (λ x y. tie (f x) (f y))
 order-of f o =
