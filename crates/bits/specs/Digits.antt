@@ -9,7 +9,7 @@ use native.Mathlib.Decide.{ℕ-discrete}
 use lib.Bits.{bitAnd, bitOr, bitXor, differ, xor-lt, and-le-l}
 use lib.Dec.{eqb}
 use borrow.Author.Tests.{eqb-true, eqb-false}
-use Rattle.laws.specs.ListLaws.{by-cases}
+use Rattle.laws.specs.Booleans.{by-cases}
 use Rattle.bits.specs.Bit.{bit, bit-lt, bit-zero, bit-suc, bit-of-zero, or-bit, and-bit, xor-bit, bit-pow-same, bit-pow-other}
 
 -- is digit i of x set

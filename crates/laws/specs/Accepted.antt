@@ -47,7 +47,8 @@ use Rattle.spec.specs.Network.{
   accepted,
 }
 use Rattle.spec.specs.NetworkClaims.{NumbersTell, Accepted, AcceptedMeans}
-use Rattle.laws.specs.ListLaws.{any-intro, by-cases, or-introl, or-intror, or-none, clash, eqb-self, count-memb, count-not-memb}
+use Rattle.laws.specs.ListLaws.{any-intro, count-memb, count-not-memb}
+use Rattle.laws.specs.Booleans.{by-cases, or-introl, or-intror, or-none, clash, eqb-self}
 
 -- ---- numbers ----
 
