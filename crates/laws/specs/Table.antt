@@ -1,7 +1,7 @@
 -- THE TABLE: document 01's cases marked † that the definitions decide, in its order, and one theorem on all of them. A row has what the
 -- document says and what the definitions give, as numbers: 1 for valid or accepted, a refusal's number, an order, a total, lines of output.
 -- Assumes nothing.
-use mathlib.Core.Bool.{Bool, true, false, not, cond}
+use mathlib.Core.Bool.{false}
 use mathlib.Core.List.{List, [], _∷_, _++_, map}
 use mathlib.Core.Option.{Option, none, some}
 use mathlib.Core.Path.{_≡_, refl}
@@ -10,8 +10,8 @@ use lib.Ieee.{binary64, round, mul, sub, lt, ofInt, toBits}
 use lib.ListN.{replicate}
 use Rattle.spec.specs.Lists.{range, keep}
 use Rattle.spec.specs.Refusal.{Refusal, numberOf, first, Result, refused, done}
-use Rattle.spec.specs.Network.{Network, indexCount, named, refusalOf}
-use Rattle.spec.specs.Tree.{Pair, treeAt, valid, pairsOf, stepOrder}
+use Rattle.spec.specs.Network.{Network, named, refusalOf}
+use Rattle.spec.specs.Tree.{treeAt, valid, pairsOf, stepOrder}
 use Rattle.spec.specs.Price.{kept, Step, listing, Total, exact, beyond, total}
 use Rattle.spec.specs.Calls.{treeCheck}
 use Rattle.spec.specs.Draws.{unitOf, indexOf}
@@ -21,6 +21,7 @@ use Rattle.spec.specs.Improve.{weigh, keeps, passed, effort, splits, frontier, 
 use Rattle.spec.specs.ImproveClaims.{mostSplits}
 use Rattle.spec.specs.Slicing.{slice, asIs}
 use Rattle.spec.specs.Program.{target, improveCall, planOf, Printed, program}
+use Rattle.laws.specs.Samples.{network, sample}
 
 pub record Row : Type 0 where
   pub says : List ℕ
@@ -43,9 +44,6 @@ abbrev ofImproved : Result Improved → ℕ
 ofImproved (refused r) = numberOf r
 ofImproved (done d) = 1
 
-abbrev network : List (List ℕ) → List ℕ → List ℕ → Network
-network leaves outputs weights = record { leaves = leaves; outputs = outputs; weights = weights }
-
 -- leaves of no index
 abbrev bare : ℕ → Network
 bare n = network (replicate n []) [] []
@@ -64,10 +62,6 @@ apart w = network ((0 ∷ 1 ∷ 2 ∷ 3 ∷ []) ∷ (4 ∷ 5 ∷ 6 ∷ []) ∷ [
 -- one leaf of n indices
 abbrev leafOf : ℕ → Network
 leafOf n = network (range n ∷ []) [] (replicate n 1)
-
--- the sample plan's input: 01 0003 010201, 02 0002 0001, 02 0002 0102, 02 0001 02, 03 0001 00, 06 0001 02
-abbrev sample : Network
-sample = network ((0 ∷ 1 ∷ []) ∷ (1 ∷ 2 ∷ []) ∷ (2 ∷ []) ∷ []) (0 ∷ []) (1 ∷ 2 ∷ 1 ∷ [])
 
 -- a line of output: its numbers, after the number of its word
 abbrev stepLine : Step → List ℕ
@@ -115,7 +109,7 @@ rows =
     ∷ row (1 ∷ 0 ∷ []) (indexOf 7 3 ∷ toBits binary64 (unitOf 0) ∷ [])
     -- "One leaf {0,1}, weights 1, no output, target 1, no improving: index 0 is sliced."
     ∷ row (0 ∷ []) (keep ((slice (leafOf 2) 1 asIs []) .flag) (range 2))
-    -- the sample plan: plan 3 3, step 3 2 1 1 0 1, step 4 3 0 1 1 0, total 4, widest 1, slice 1, bits 2, improved 1, splits 18
+    -- the sample plan, from the network of Samples with the target 2: plan 3 3, step 3 2 1 1 0 1, step 4 3 0 1 1 0, total 4, widest 1, slice 1, bits 2, improved 1, splits 18
     ∷ row
     (3 ∷ 3 ∷ 3 ∷ 2 ∷ 1 ∷ 1 ∷ 0 ∷ 1 ∷ 4 ∷ 3 ∷ 0 ∷ 1 ∷ 1 ∷ 0 ∷ 4 ∷ 1 ∷ 1 ∷ 2 ∷ 1 ∷ 18 ∷ [])
     (outputLines (program sample none (target 2)))
