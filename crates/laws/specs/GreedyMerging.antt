@@ -12,7 +12,7 @@ use Rattle.spec.specs.Members.{In, here, there, All}
 use Rattle.spec.specs.Network.{Network, leafCount}
 use Rattle.spec.specs.Tree.{Tree, number, Pair}
 use Rattle.spec.specs.Refusal.{tableTooWide, Result, done}
-use Rattle.spec.specs.Greedy.{Live, Cand, share, inOrder, pairsWith, pairsOf, least, anyWide, State, off, joined, merge, turn, connect, trees, slots, startOf}
+use Rattle.spec.specs.Greedy.{Live, Cand, share, inOrder, sharingWith, sharingPairs, least, anyWide, State, off, joined, merge, turn, connect, trees, slots, startOf}
 use Rattle.spec.specs.GreedyClaims.{others}
 use Rattle.laws.specs.Booleans.{by-cases}
 use Rattle.laws.specs.MemberLaws.{all-append, all-map, all-both, all-in, in-all}
@@ -81,7 +81,7 @@ pub record Fine (l : List Live) (c : Cand) : Type 0 where
   pub apart : c .first .slot ≡ c .second .slot → ⊥
 
 module _ (N : Network) (n₀ : ℕ) (whole : List Live) where
-  with-fine : (x : Live) → In x whole → (l : List Live) → All (λ y. In y whole × (x .slot < y .slot)) l → All (Fine whole) (pairsWith N n₀ x l)
+  with-fine : (x : Live) → In x whole → (l : List Live) → All (λ y. In y whole × (x .slot < y .slot)) l → All (Fine whole) (sharingWith N n₀ x l)
   with-fine x i [] h = tt
   with-fine x i (y ∷ l) h =
       by-cases (share N (x .tree) (y .tree))
@@ -94,15 +94,15 @@ module _ (N : Network) (n₀ : ℕ) (whole : List Live) where
           (λ e. rw e (record { one = i; two = h .0 .0; apart = λ q. omega (arith, h .0 .1) }))
           (λ e. rw e (record { one = h .0 .0; two = i; apart = λ q. omega (arith, h .0 .1) }))
 
-  of-fine : (lo : ℕ) (l : List Live) → Rising lo l → All (λ y. In y whole) l → All (Fine whole) (pairsOf N n₀ l)
+  of-fine : (lo : ℕ) (l : List Live) → Rising lo l → All (λ y. In y whole) l → All (Fine whole) (sharingPairs N n₀ l)
   of-fine lo [] r h = tt
   of-fine lo (x ∷ l) r h =
-      all-append (Fine whole) (pairsWith N n₀ x l) (pairsOf N n₀ l)
+      all-append (Fine whole) (sharingWith N n₀ x l) (sharingPairs N n₀ l)
       (with-fine x (h .0) l (all-both (λ y. In y whole) (λ y. x .slot < y .slot) l (h .1) (rising-above (suc (x .slot)) l (r .1))))
       (of-fine (suc (x .slot)) l (r .1) (h .1))
 
 -- each pair of a list is of two of its members
-pub pairs-fine : (N : Network) (n₀ : ℕ) (l : List Live) → Rising 0 l → All (Fine l) (pairsOf N n₀ l)
+pub pairs-fine : (N : Network) (n₀ : ℕ) (l : List Live) → Rising 0 l → All (Fine l) (sharingPairs N n₀ l)
 pairs-fine N n₀ l r = of-fine N n₀ l 0 l r (in-all l)
 
 -- the live tables are the pair's two, and others
@@ -155,7 +155,7 @@ module _ (N : Network) (base : ℕ → ℕ) (lo all n₀ : ℕ) where
         slotted = all-append _ l₂ _ (all-map _ _ l₂ (λ z h. omega arith) low) (omega arith, tt);
       }
 
-  pub turn-sound : (s : State) → Sound N base lo all s → (c : Cand) (l : List Cand) → pairsOf N n₀ (s .live) ≡ c ∷ l
+  pub turn-sound : (s : State) → Sound N base lo all s → (c : Cand) (l : List Cand) → sharingPairs N n₀ (s .live) ≡ c ∷ l
       → Sound N base lo all (merge N (least N c l) s)
   turn-sound s g c l e =
       let h : All (Fine (s .live)) (c ∷ l) = subst (All (Fine (s .live))) e (pairs-fine N n₀ (s .live) (g .rising)) in
@@ -166,23 +166,23 @@ module _ (N : Network) (base : ℕ → ℕ) (lo all n₀ : ℕ) where
   pub connect-sound : (fuel : ℕ) (s s′ : State) → connect N n₀ fuel s ≡ done s′ → Sound N base lo all s → Sound N base lo all s′
   connect-sound zero s s′ e g = subst (Sound N base lo all) (done-same s s′ e) g
   connect-sound (suc fuel) s s′ e g =
-      turn-cases N (pairsOf N n₀ (s .live)) s (λ s′. connect N n₀ fuel s′) s′ e
+      turn-cases N (sharingPairs N n₀ (s .live)) s (λ s′. connect N n₀ fuel s′) s′ e
       (λ p q. subst (Sound N base lo all) q g)
       (λ c l p w q. connect-sound fuel (merge N (least N c l) s) s′ q (turn-sound s g c l p))
 
   -- the fuel never cuts the merging off: no pair that shares an index is left
   pub connect-ends : (fuel : ℕ) (s s′ : State) → connect N n₀ fuel s ≡ done s′ → Sound N base lo all s
-      → all ≤ fuel + length (s .pairs) → pairsOf N n₀ (s′ .live) ≡ []
+      → all ≤ fuel + length (s .pairs) → sharingPairs N n₀ (s′ .live) ≡ []
   connect-ends zero s s′ e g h =
-      subst (λ (z : State). pairsOf N n₀ (z .live) ≡ []) (done-same s s′ e)
+      subst (λ (z : State). sharingPairs N n₀ (z .live) ≡ []) (done-same s s′ e)
       (no-tables (s .live) (omega (arith, g .forest .amount)))
     where
-      no-tables : (l : List Live) → length (trees l) ≡ 0 → pairsOf N n₀ l ≡ []
+      no-tables : (l : List Live) → length (trees l) ≡ 0 → sharingPairs N n₀ l ≡ []
       no-tables [] z = refl
       no-tables (x ∷ l) z = absurd (omega arith)
   connect-ends (suc fuel) s s′ e g h =
-      turn-cases N (pairsOf N n₀ (s .live)) s (λ s′. connect N n₀ fuel s′) s′ e
-      (λ p q. ap (λ (z : State). pairsOf N n₀ (z .live)) (sym q) ∙ p)
+      turn-cases N (sharingPairs N n₀ (s .live)) s (λ s′. connect N n₀ fuel s′) s′ e
+      (λ p q. ap (λ (z : State). sharingPairs N n₀ (z .live)) (sym q) ∙ p)
       (λ c l p w q. connect-ends fuel (merge N (least N c l) s) s′ q (turn-sound s g c l p)
       (omega (arith, length-append (s .pairs) (record { left = number ((least N c l) .first .tree); right = number ((least N c l) .second .tree) } ∷ []))))
 
@@ -195,7 +195,7 @@ pub connect-some : (N : Network) (n₀ fuel : ℕ) (s s′ : State) → connect 
     → 1 ≤ length (trees (s′ .live))
 connect-some N n₀ zero s s′ e h = subst (λ (z : State). 1 ≤ length (trees (z .live))) (done-same s s′ e) h
 connect-some N n₀ (suc fuel) s s′ e h =
-    turn-cases N (pairsOf N n₀ (s .live)) s (λ s′. connect N n₀ fuel s′) s′ e
+    turn-cases N (sharingPairs N n₀ (s .live)) s (λ s′. connect N n₀ fuel s′) s′ e
     (λ p q. subst (λ (z : State). 1 ≤ length (trees (z .live))) q h)
     (λ c l p w q. connect-some N n₀ fuel (merge N (least N c l) s) s′ q
     (some-last (off ((least N c l) .second .slot) (off ((least N c l) .first .slot) (s .live))) _))

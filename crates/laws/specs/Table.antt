@@ -17,7 +17,7 @@ use Rattle.spec.specs.Calls.{treeCheck}
 use Rattle.spec.specs.Draws.{unitOf, indexOf}
 use Rattle.spec.specs.Greedy.{greedyFrom, greedy}
 use Rattle.spec.specs.Undercut.{undercuts}
-use Rattle.spec.specs.Improve.{weigh, keeps, passed, effort, splits, frontier, locals, reform, visit, pass, arrayFor, Improved, improve}
+use Rattle.spec.specs.Improve.{weigh, keeps, passed, effort, splitCount, frontier, locals, reform, visit, pass, arrayFor, Improved, improve}
 use Rattle.spec.specs.ImproveClaims.{mostSplits}
 use Rattle.spec.specs.Slicing.{slice, asIs}
 use Rattle.spec.specs.Program.{target, improveCall, planOf, Printed, program}
@@ -117,5 +117,5 @@ rows =
 
 -- EVERY ROW HOLDS
 pub table : map (λ r. r .gives) rows ≡ map (λ r. r .says) rows
-unfolding rows valid treeAt pairsOf stepOrder listing kept named mostSplits unitOf slice greedy greedyFrom planOf improve weigh keeps passed effort splits frontier locals reform visit pass arrayFor undercuts round mul sub lt ofInt toBits
+unfolding rows valid treeAt pairsOf stepOrder listing kept named mostSplits unitOf slice greedy greedyFrom planOf improve weigh keeps passed effort splitCount frontier locals reform visit pass arrayFor undercuts round mul sub lt ofInt toBits
 table = refl

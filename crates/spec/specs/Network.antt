@@ -45,7 +45,7 @@ named N p j = anyb (λ i. p i && memb j (legs N i)) (range (leafCount N))
 abbrev pub InRange : Network → Type 0
 InRange N = (i j : ℕ) → i < leafCount N → memb j (legs N i) ≡ true → j < indexCount N
 
--- the flagged indices are named by leaves and are no outputs. (A list of flags stands for the test `λ j. getD flags j false`.)
+-- the flagged indices are named by leaves and are no outputs. (A list of flags stands for the test `flagAt` of Calls.)
 abbrev pub Sliceable : Network → (ℕ → Bool) → Type 0
 Sliceable N flag = (j : ℕ) → flag j ≡ true → (named N (λ i. true) j ≡ true) × (memb j (N .outputs) ≡ false)
 
