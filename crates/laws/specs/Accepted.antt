@@ -2,50 +2,15 @@
 use mathlib.Core.Path.{_≡_, refl, sym, ap, _∙_}
 use mathlib.Core.Bool.{Bool, true, false, _||_, cond}
 use mathlib.Core.List.{List, [], _∷_}
-use mathlib.Core.Option.{Option, none, some, Option·some-injective}
+use mathlib.Core.Option.{none, some}
 use Prim.Native.Nat.{ℕ, zero, suc, _-_, _≤_, _<_}
 use native.Mathlib.Omega.{arith}
 use lib.Dec.{eqb, ltb, leb}
 use lib.ListN.{length, getD, List·getD-eq-default}
 use borrow.Author.Tests.{eqb-true, ltb-true, ltb-false, le-ltb, leb-false, lt-leb}
 use Rattle.spec.specs.Lists.{memb, anyb, count}
-use Rattle.spec.specs.Refusal.{
-  Refusal,
-  truncated,
-  wrongTag,
-  tooLarge,
-  overweight,
-  outOfRange,
-  repeated,
-  shortBuffer,
-  invalidTree,
-  invalidFlags,
-  totalBeyond,
-  danglingIndex,
-  tableTooWide,
-  drawsExhausted,
-  numberOf,
-  Check,
-  first,
-  passes,
-}
-use Rattle.spec.specs.Network.{
-  Network,
-  leafCount,
-  indexCount,
-  weight,
-  legs,
-  InRange,
-  maxLeaves,
-  maxIndices,
-  maxLegs,
-  maxOutputs,
-  maxWeight,
-  repeats,
-  strays,
-  networkChecks,
-  accepted,
-}
+use Rattle.spec.specs.Refusal.{Refusal, truncated, wrongTag, tooLarge, overweight, outOfRange, repeated, shortBuffer, invalidTree, invalidFlags, totalBeyond, danglingIndex, tableTooWide, drawsExhausted, numberOf, passes}
+use Rattle.spec.specs.Network.{Network, leafCount, indexCount, weight, legs, InRange, maxLeaves, maxIndices, maxLegs, maxOutputs, maxWeight, repeats, strays, accepted}
 use Rattle.spec.specs.NetworkClaims.{NumbersTell, Accepted, AcceptedMeans}
 use Rattle.laws.specs.ListLaws.{any-intro, count-memb, count-not-memb}
 use Rattle.laws.specs.Booleans.{by-cases, or-introl, or-intror, or-none, clash, eqb-self}
@@ -53,7 +18,7 @@ use Rattle.laws.specs.Booleans.{by-cases, or-introl, or-intror, or-none,
 -- ---- numbers ----
 
 -- the refusals by their numbers
-abbrev byNumber : List Refusal
+abbrev pub byNumber : List Refusal
 byNumber =
     truncated
     ∷ wrongTag
@@ -158,7 +123,7 @@ means N e =
       fewIndices = ltb-false maxIndices (indexCount N) i;
       fewLegs = λ k b. ltb-false maxLegs (length (legs N k)) (none-at (λ x. ltb maxLegs (length x)) [] (N .leaves) g k b);
       fewOutputs = ltb-false maxOutputs (length (N .outputs)) o;
-      light = λ j. by-cases (ltb j (indexCount N))
+      weightsFit = λ j. by-cases (ltb j (indexCount N))
           (λ b. ltb-false maxWeight (weight N j) (none-at (λ w. ltb maxWeight w) 0 (N .weights) heavy j (ltb-true j (indexCount N) b)))
           (λ b. rw (List·getD-eq-default (N .weights) 0 (ltb-false j (indexCount N) b)) (omega arith));
       inRange = λ k j b m. in-range (indexCount N) (legs N k) (none-at (strays (indexCount N)) [] (N .leaves) sl k b) j m;
@@ -174,7 +139,7 @@ test N a =
       le-ltb maxIndices (indexCount N) (a .fewIndices),
       at-none (λ x. ltb maxLegs (length x)) [] (N .leaves) (λ k b. le-ltb maxLegs (length (legs N k)) (a .fewLegs k b)),
       le-ltb maxOutputs (length (N .outputs)) (a .fewOutputs),
-      at-none (λ w. ltb maxWeight w) 0 (N .weights) (λ j b. le-ltb maxWeight (weight N j) (a .light j)),
+      at-none (λ w. ltb maxWeight w) 0 (N .weights) (λ j b. le-ltb maxWeight (weight N j) (a .weightsFit j)),
       at-none (strays (indexCount N)) [] (N .leaves) (λ k b. no-strays (indexCount N) (legs N k) (λ j m. a .inRange k j b m)),
       no-strays (indexCount N) (N .outputs) (a .outputsInRange),
       at-none repeats [] (N .leaves) (λ k b. no-repeats (legs N k) (λ j. a .once k j b)),

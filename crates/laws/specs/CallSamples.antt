@@ -5,11 +5,23 @@ use mathlib.Core.Path.{_≡_, refl}
 use Prim.Native.Nat.{ℕ, _-_, _^_}
 use lib.Ieee.{binary64, round, mul, ofInt, toBits}
 use Rattle.spec.specs.Memory.{filled, over, cleared}
-use Rattle.spec.specs.Refusal.{shortBuffer, invalidTree, invalidFlags, first, Result, refused, done}
+use Rattle.spec.specs.Lists.{from}
+use Rattle.spec.specs.Refusal.{numberOf, word, tooLarge, overweight, shortBuffer, invalidTree, invalidFlags, first, Result, refused, done}
+use Rattle.spec.specs.Network.{Network}
 use Rattle.spec.specs.Tree.{valid, treeAt, pairsOf}
-use Rattle.spec.specs.Calls.{Lent, lengthCheck, treeCheck, flagsCheck, workspaceAfter}
+use Rattle.spec.specs.Calls.{lent, lengthCheck, treeCheck, flagsCheck, workspaceAfter, improveCall}
 use Rattle.spec.specs.Draws.{unitOf}
-use Rattle.laws.specs.Samples.{sample}
+use Rattle.laws.specs.Accepted.{byNumber}
+use Rattle.laws.specs.Samples.{network, sample}
+
+-- ---- the table of refusals: numbers and words ----
+
+numbers : map numberOf byNumber ≡ from 1 13
+numbers = refl
+
+words : map word byNumber
+    ≡ "short" ∷ "tag" ∷ "large" ∷ "weight" ∷ "stray" ∷ "twice" ∷ "bench" ∷ "tree" ∷ "flag" ∷ "dear" ∷ "loose" ∷ "wide" ∷ "spent" ∷ []
+words = refl
 
 -- ---- draws: 2^11 is one unit of 2^-53, a word below it none, and the largest word 1 - 2^-53 ----
 
@@ -19,9 +31,6 @@ unfolding unitOf round mul ofInt toBits
 units = refl
 
 -- ---- 7: one word short; the checks come in the order of their numbers ----
-
-abbrev lent : ℕ → ℕ → Lent
-lent has needs = record { has = has; needs = needs }
 
 short : first (lengthCheck (lent 4096 4096 ∷ lent 3 4 ∷ []) ∷ []) ≡ some shortBuffer
 short = refl
@@ -49,6 +58,27 @@ flag-over-1 = refl
 
 few-flags : first (flagsCheck sample (0 ∷ 1 ∷ []) ∷ []) ≡ none
 few-flags = refl
+
+-- ---- the order of the numbers: a weight of 9 and 256 passes are 3; k is clamped before the workspace is measured ----
+
+abbrev heavy : Network
+heavy = network [] [] (9 ∷ [])
+
+numbers-first : improveCall heavy 8 256 none 0 [] [] ≡ refused tooLarge
+unfolding improveCall
+numbers-first = refl
+
+then-weights : improveCall heavy 8 255 none 0 [] [] ≡ refused overweight
+unfolding improveCall
+then-weights = refl
+
+one-word-short : improveCall sample 0 4 none 4159 [] [] ≡ refused shortBuffer
+unfolding improveCall
+one-word-short = refl
+
+words-enough : improveCall sample 0 4 none 4160 [] [] ≡ refused invalidTree
+unfolding improveCall valid treeAt pairsOf
+words-enough = refl
 
 -- ---- the workspace of two words after 7, after 8 and after an answer ----
 

@@ -9,18 +9,18 @@ use Prim.Native.Nat.{ℕ, _^_}
 use lib.Ieee.{binary64, round, mul, sub, lt, ofInt, toBits}
 use lib.ListN.{replicate}
 use Rattle.spec.specs.Lists.{range, keep}
-use Rattle.spec.specs.Refusal.{Refusal, numberOf, first, Result, refused, done}
+use Rattle.spec.specs.Refusal.{Refusal, numberOf, Result, refused, done}
 use Rattle.spec.specs.Network.{Network, named, refusalOf}
-use Rattle.spec.specs.Tree.{treeAt, valid, pairsOf, stepOrder}
+use Rattle.spec.specs.Tree.{treeAt, valid, pairsOf, flatOf, stepOrder}
 use Rattle.spec.specs.Price.{kept, Step, listing, Total, exact, beyond, total}
-use Rattle.spec.specs.Calls.{treeCheck}
+use Rattle.spec.specs.Calls.{plainWords, improveWords, validCall, greedyCall, improveCall, sliceCall}
 use Rattle.spec.specs.Draws.{unitOf, indexOf}
 use Rattle.spec.specs.Greedy.{greedyFrom, greedy}
 use Rattle.spec.specs.Undercut.{undercuts}
-use Rattle.spec.specs.Improve.{weigh, keeps, passed, effort, splitCount, frontier, locals, reform, visit, pass, arrayFor, Improved, improve}
+use Rattle.spec.specs.Improve.{weigh, keeps, passed, splitWork, splitCount, frontier, locals, reconfNode, visit, pass, arrayFor, improve}
 use Rattle.spec.specs.ImproveClaims.{mostSplits}
 use Rattle.spec.specs.Slicing.{slice, asIs}
-use Rattle.spec.specs.Program.{target, improveCall, planOf, Printed, program}
+use Rattle.spec.specs.Program.{target, planOf, Printed, program}
 use Rattle.laws.specs.Samples.{network, sample}
 
 pub record Row : Type 0 where
@@ -40,9 +40,9 @@ abbrev ofTotal : Total → List ℕ
 ofTotal (exact x) = x ∷ []
 ofTotal beyond = []
 
-abbrev ofImproved : Result Improved → ℕ
-ofImproved (refused r) = numberOf r
-ofImproved (done d) = 1
+abbrev ofResult : {A : Type 0} → Result A → ℕ
+ofResult (refused r) = numberOf r
+ofResult (done x) = 1
 
 -- leaves of no index
 abbrev bare : ℕ → Network
@@ -50,7 +50,7 @@ bare n = network (replicate n []) [] []
 
 -- the tree check of a flat list of children, over n leaves
 abbrev treeOver : ℕ → List ℕ → ℕ
-treeOver n kids = ofOption (first (treeCheck (bare n) kids ∷ []))
+treeOver n kids = ofResult (validCall (bare n) plainWords kids)
 
 abbrev totalOver : Network → List ℕ → List ℕ
 totalOver N kids = ofTotal (total (listing N (λ j. false) (pairsOf kids)))
@@ -102,7 +102,7 @@ rows =
     ∷ row (1 ∷ 3 ∷ []) (ofOption (refusalOf (leafOf 32)) ∷ ofOption (refusalOf (leafOf 33)) ∷ [])
     -- "Two leaves with no common index, all outputs: union of 52 bits has total 2^52; of 53 bits improvement refuses 10."
     ∷ row (2 ^ 52 ∷ []) (totalOver (apart 4) (0 ∷ 1 ∷ []))
-    ∷ row (10 ∷ []) (ofImproved (improveCall (apart 5) 8 4 none (λ j. false) (pairsOf (0 ∷ 1 ∷ []))) ∷ [])
+    ∷ row (10 ∷ []) (ofResult (improveCall (apart 5) 8 4 none (improveWords 8) [] (0 ∷ 1 ∷ [])) ∷ [])
     -- "Most splits at m = 3, 4, 12: 6, 25, 261,625."
     ∷ row (6 ∷ 25 ∷ 261625 ∷ []) (mostSplits 3 ∷ mostSplits 4 ∷ mostSplits 12 ∷ [])
     -- "Word 7, index draw below 3: 1. Unit draw of word 0: 0." (The f64 0 has the bits 0.)
@@ -117,5 +117,5 @@ rows =
 
 -- EVERY ROW HOLDS
 pub table : map (λ r. r .gives) rows ≡ map (λ r. r .says) rows
-unfolding rows valid treeAt pairsOf stepOrder listing kept named mostSplits unitOf slice greedy greedyFrom planOf improve weigh keeps passed effort splitCount frontier locals reform visit pass arrayFor undercuts round mul sub lt ofInt toBits
+unfolding rows validCall greedyCall improveCall sliceCall flatOf valid treeAt pairsOf stepOrder listing kept named mostSplits unitOf slice greedy greedyFrom planOf improve weigh keeps passed splitWork splitCount frontier locals reconfNode visit pass arrayFor undercuts round mul sub lt ofInt toBits
 table = refl

@@ -1,16 +1,20 @@
--- What calls have in common: the lists that are lent, the conditions of the refusals 7 to 11, and what the workspace has afterwards.
+-- The calls: what is refused and in which order, by what is lent and handed in; the stated workspace, and what is lent afterwards.
 -- Definitions only. Assumes nothing.
 use mathlib.Core.Bool.{Bool, true, false, not, _&&_, _||_, cond}
-use mathlib.Core.List.{List, _++_}
-use Prim.Native.Nat.{ℕ, _+_, _-_, _%_}
-use lib.Dec.{eqb, ltb}
+use mathlib.Core.List.{List, [], _∷_, _++_}
+use mathlib.Core.Option.{Option}
+use Prim.Native.Nat.{ℕ, _+_, _-_, _*_, _%_, _^_}
+use lib.Dec.{eqb, ltb, leb}
 use lib.ListN.{length, getD}
 use Rattle.spec.specs.Lists.{memb, range, anyb, keep}
 use Rattle.spec.specs.Memory.{cleared}
-use Rattle.spec.specs.Refusal.{Refusal, truncated, wrongTag, tooLarge, overweight, outOfRange, repeated, shortBuffer, invalidTree, invalidFlags, totalBeyond, danglingIndex, tableTooWide, drawsExhausted, Check, check, Result, refused, done}
-use Rattle.spec.specs.Network.{Network, leafCount, indexCount, legs}
-use Rattle.spec.specs.Tree.{Pair, valid, pairsOf}
-use Rattle.spec.specs.Price.{listing, Total, exact, beyond, total}
+use Rattle.spec.specs.Refusal.{Refusal, shortBuffer, invalidTree, invalidFlags, totalBeyond, danglingIndex, numberOf, Check, check, Result, refused, done, checked}
+use Rattle.spec.specs.Network.{Network, leafCount, indexCount, legs, networkChecks}
+use Rattle.spec.specs.Tree.{Pair, valid, pairsOf, samePlan}
+use Rattle.spec.specs.Price.{listing, Total, exact, beyond, total, Prices, priceOf}
+use Rattle.spec.specs.Greedy.{greedy}
+use Rattle.spec.specs.Improve.{clamped, Improved, improve}
+use Rattle.spec.specs.Slicing.{Plan, slice, asIs, onePass}
 
 -- ---- 7 ----
 
@@ -19,13 +23,33 @@ pub record Lent : Type 0 where
   pub has : ℕ
   pub needs : ℕ
 
+abbrev pub lent : ℕ → ℕ → Lent
+lent has needs = record { has = has; needs = needs }
+
 -- "a workspace or output list shorter than stated"
 abbrev pub lengthCheck : List Lent → Check
 lengthCheck l = check (anyb (λ x. ltb (x .has) (x .needs)) l) shortBuffer
 
--- "Output lists: n−1 nodes or steps, one flag an index": places of a tree's flat list of children
+-- "Workspace in 64-bit words: 32,768 for bisection; 4,096 + 8 × 2^k, k after clamping (8 in slicing), for improvement and slicing with it;
+-- else 4,096."
+abbrev pub plainWords : ℕ
+plainWords = 4096
+
+abbrev pub bisectionWords : ℕ
+bisectionWords = 32768
+
+abbrev pub improveWords : ℕ → ℕ
+improveWords k = 4096 + 8 * 2 ^ clamped k
+
+abbrev pub sliceWords : Bool → ℕ
+sliceWords improving = cond improving (improveWords 8) plainWords
+
+-- "Output lists: n−1 nodes or steps, one flag an index": a node takes two places of a tree's flat list
+abbrev pub stepPlaces : Network → ℕ
+stepPlaces N = leafCount N - 1
+
 abbrev pub treePlaces : Network → ℕ
-treePlaces N = (leafCount N - 1) + (leafCount N - 1)
+treePlaces N = stepPlaces N + stepPlaces N
 
 -- ---- 8 and 9 ----
 
@@ -56,30 +80,86 @@ beyondCheck N flag a = check (totalIsBeyond N flag a) totalBeyond
 
 -- "a non-output index in just one leaf"
 abbrev pub dangling : Network → Bool
-dangling N = anyb (λ j. not (memb j (N .outputs)) && eqb (length (keep (λ i. memb j (legs N i)) (range (leafCount N)))) 1) (range (indexCount N))
+dangling N =
+    anyb (λ j. not (memb j (N .outputs)) && eqb (length (keep (λ i. memb j (legs N i)) (range (leafCount N)))) 1) (range (indexCount N))
 
 abbrev pub danglingCheck : Network → Check
 danglingCheck N = check (dangling N) danglingIndex
 
--- ---- the workspace ----
+-- ---- the calls ----
+-- words, steps, places, flagPlaces: the lengths of the lent workspace, listing, flat list of children, and list of flags
+
+module _ (N : Network) where
+  -- the tree check
+  unfoldable pub validCall : ℕ → List ℕ → Result (Unit {0})
+  validCall words kids = checked (networkChecks false N ++ (lengthCheck (lent words plainWords ∷ []) ∷ treeCheck N kids ∷ [])) (done tt)
+
+  -- sameness of two trees
+  unfoldable pub sameCall : ℕ → List ℕ → List ℕ → Result Bool
+  sameCall words kids others =
+      checked (networkChecks false N ++ (lengthCheck (lent words plainWords ∷ []) ∷ treeCheck N kids ∷ treeCheck N others ∷ []))
+      (done (samePlan (leafCount N) (pairsOf kids) (pairsOf others)))
+
+  -- pricing; `more` are the lists that the price list is written to
+  unfoldable pub priceCall : ℕ → ℕ → List Lent → List ℕ → List ℕ → Result Prices
+  priceCall words steps more flags kids =
+      checked
+      (networkChecks false N
+      ++ (lengthCheck (lent words plainWords ∷ lent steps (stepPlaces N) ∷ more) ∷ treeCheck N kids ∷ flagsCheck N flags ∷ []))
+      (done (priceOf N (flagAt flags) (pairsOf kids)))
+
+  unfoldable pub greedyCall : ℕ → ℕ → Result (List Pair)
+  greedyCall words places =
+      checked (networkChecks false N ++ (lengthCheck (lent words plainWords ∷ lent places (treePlaces N) ∷ []) ∷ [])) (greedy N)
+
+  abbrev pub improveChecks : ℕ → ℕ → List ℕ → List ℕ → List Check
+  improveChecks k words flags kids =
+      lengthCheck (lent words (improveWords k) ∷ [])
+      ∷ treeCheck N kids
+      ∷ flagsCheck N flags
+      ∷ beyondCheck N (flagAt flags) (pairsOf kids)
+      ∷ danglingCheck N
+      ∷ []
+
+  -- "0 to 255 passes (more: refused 3)"
+  unfoldable pub improveCall : ℕ → ℕ → Option ℕ → ℕ → List ℕ → List ℕ → Result Improved
+  improveCall k passes limit words flags kids =
+      checked (networkChecks (ltb 255 passes) N ++ improveChecks k words flags kids)
+      (done (improve N k passes limit (flagAt flags) (pairsOf kids)))
+
+  -- 11 only with improvement, then "even if nothing need be sliced"
+  abbrev pub danglingIf : Bool → List Check
+  danglingIf true = danglingCheck N ∷ []
+  danglingIf false = []
+
+  abbrev pub followUp : Bool → (ℕ → Bool) → ℕ → List Pair → Improved
+  followUp true = onePass N
+  followUp false = asIs
+
+  abbrev pub sliceChecks : Bool → ℕ → ℕ → List ℕ → List Check
+  sliceChecks improving words flagPlaces kids =
+      lengthCheck (lent words (sliceWords improving) ∷ lent flagPlaces (indexCount N) ∷ [])
+      ∷ treeCheck N kids
+      ∷ beyondCheck N (λ j. false) (pairsOf kids)
+      ∷ danglingIf improving
+
+  unfoldable pub sliceCall : Bool → ℕ → ℕ → ℕ → List ℕ → Result Plan
+  sliceCall improving target words flagPlaces kids =
+      checked (networkChecks false N ++ sliceChecks improving words flagPlaces kids)
+      (done (slice N target (followUp improving) (pairsOf kids)))
+
+-- ---- what is lent, afterwards ----
 
 -- "except after 3 to 7, which don't touch it"
 abbrev pub touches : Refusal → Bool
-touches truncated = false
-touches wrongTag = false
-touches tooLarge = false
-touches overweight = false
-touches outOfRange = false
-touches repeated = false
-touches shortBuffer = false
-touches invalidTree = true
-touches invalidFlags = true
-touches totalBeyond = true
-touches danglingIndex = true
-touches tableTooWide = true
-touches drawsExhausted = true
+touches r = not (leb 3 (numberOf r) && leb (numberOf r) 7)
 
--- "After every call the stated workspace is zero, except after 3 to 7 .. Words and list places past the stated lengths stay."
+-- "After every call the stated workspace is zero", and "Words and list places past the stated lengths stay."
 abbrev pub workspaceAfter : {A : Type 0} → ℕ → Result A → List ℕ → List ℕ
 workspaceAfter stated (refused r) ws = cond (touches r) (cleared ws stated) ws
 workspaceAfter stated (done x) ws = cleared ws stated
+
+-- after a refusal "Trees, flags, listings and output lists are then unchanged"; else the answer says what was written
+abbrev pub listAfter : {A : Type 0} → Result A → (A → List ℕ → List ℕ) → List ℕ → List ℕ
+listAfter (refused r) written l = l
+listAfter (done x) written l = written x l

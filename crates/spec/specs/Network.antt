@@ -76,12 +76,14 @@ repeats (j ∷ l) = memb j l || repeats l
 abbrev pub strays : ℕ → List ℕ → Bool
 strays m l = anyb (λ j. leb m j) l
 
--- the conditions on a network, in their order: "all of 3, then all of 4, 5, 6"
-abbrev pub networkChecks : Network → List Check
-networkChecks N =
+-- The conditions on a network, in their order; `large` is a count of the call's own that is above its limit. A record is checked
+-- by number: all of 3, then all of 4, of 5, of 6.
+abbrev pub networkChecks : Bool → Network → List Check
+networkChecks large N =
     check
-    (ltb maxLeaves (leafCount N)
-    || (ltb maxIndices (indexCount N) || (anyb (λ l. ltb maxLegs (length l)) (N .leaves) || ltb maxOutputs (length (N .outputs)))))
+    (large
+    || (ltb maxLeaves (leafCount N)
+    || (ltb maxIndices (indexCount N) || (anyb (λ l. ltb maxLegs (length l)) (N .leaves) || ltb maxOutputs (length (N .outputs))))))
     tooLarge
     ∷ check (anyb (λ w. ltb maxWeight w) (N .weights)) overweight
     ∷ check (anyb (strays (indexCount N)) (N .leaves) || strays (indexCount N) (N .outputs)) outOfRange
@@ -90,7 +92,7 @@ networkChecks N =
 
 -- "A network that keeps all this, from a file or as a record, is called accepted."
 abbrev pub refusalOf : Network → Option Refusal
-refusalOf N = first (networkChecks N)
+refusalOf N = first (networkChecks false N)
 
 abbrev pub accepted : Network → Bool
 accepted N = passes (refusalOf N)

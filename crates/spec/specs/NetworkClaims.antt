@@ -1,26 +1,11 @@
 -- What is claimed of the refusals and of acceptance. Definitions only; proofs in Accepted of laws. Assumes nothing.
 use mathlib.Core.Bool.{true}
-use mathlib.Core.List.{List}
-use mathlib.Core.Option.{Option, some}
 use mathlib.Core.Path.{_≡_}
 use Prim.Native.Nat.{ℕ, _≤_, _<_}
 use lib.ListN.{length}
 use Rattle.spec.specs.Lists.{memb, count}
 use Rattle.spec.specs.Refusal.{Refusal, numberOf}
-use Rattle.spec.specs.Network.{
-  Network,
-  leafCount,
-  indexCount,
-  weight,
-  legs,
-  InRange,
-  maxLeaves,
-  maxIndices,
-  maxLegs,
-  maxOutputs,
-  maxWeight,
-  accepted,
-}
+use Rattle.spec.specs.Network.{Network, leafCount, indexCount, weight, legs, InRange, maxLeaves, maxIndices, maxLegs, maxOutputs, maxWeight, accepted}
 
 -- two refusals have two numbers
 abbrev pub NumbersTell : Type 0
@@ -32,7 +17,7 @@ pub record Accepted (N : Network) : Type 0 where
   pub fewIndices : indexCount N ≤ maxIndices
   pub fewLegs : (i : ℕ) → i < leafCount N → length (legs N i) ≤ maxLegs
   pub fewOutputs : length (N .outputs) ≤ maxOutputs
-  pub light : (j : ℕ) → weight N j ≤ maxWeight
+  pub weightsFit : (j : ℕ) → weight N j ≤ maxWeight
   pub inRange : InRange N
   pub outputsInRange : (j : ℕ) → memb j (N .outputs) ≡ true → j < indexCount N
   pub once : (i j : ℕ) → i < leafCount N → count j (legs N i) ≤ 1

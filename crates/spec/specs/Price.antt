@@ -72,8 +72,7 @@ listing N flag a = map (stepAt N flag a) (innerOf (treeAt (leafCount N) a (root 
 
 -- the nodes that steps make
 abbrev pub madeNodes : List Step → List ℕ
-madeNodes [] = []
-madeNodes (c ∷ cs) = c .made ∷ madeNodes cs
+madeNodes l = map (λ c. c .made) l
 
 -- the tables that steps take off: left and right, step after step
 abbrev pub taken : List Step → List ℕ
@@ -84,7 +83,7 @@ taken (c ∷ cs) = c .left ∷ c .right ∷ taken cs
 abbrev pub work : List Step → ℕ
 work l = sumOf (λ c. 2 ^ c .workBits) l
 
--- "Total: the exact sum of 2 to the work bits, or beyond from 2^53 on."
+-- "Total: the exact sum of 2 to the work bits, or "beyond" from 2^53 on."
 pub data Total : Type 0 where
   exact : ℕ → Total
   beyond : Total
@@ -109,6 +108,16 @@ widest N flag l =
 -- "Slice bits: unsliced weights of the flagged indices."
 abbrev pub sliceBits : Network → (ℕ → Bool) → ℕ
 sliceBits N flag = bits N (λ j. false) (keep flag (range (indexCount N)))
+
+-- what pricing answers beside its listing
+pub record Prices : Type 0 where
+  pub total : Total
+  pub widest : Option ℕ
+  pub sliceBits : ℕ
+
+abbrev pub priceOf : Network → (ℕ → Bool) → List Pair → Prices
+priceOf N flag a =
+    record { total = total (listing N flag a); widest = widest N flag (listing N flag a); sliceBits = sliceBits N flag }
 
 -- does a step drop the index j: one of its children lists it, and its node does not
 abbrev pub drops : Network → List Pair → ℕ → Step → Bool

@@ -97,9 +97,11 @@ abbrev pub andThen : {A B : Type 0} → Result A → (A → Result B) → Result
 andThen (refused k) f = refused k
 andThen (done x) f = f x
 
+-- the refusal, if there is one; else the answer
+abbrev pub decide : {A : Type 0} → Option Refusal → Result A → Result A
+decide none x = x
+decide (some r) x = refused r
+
 -- the answer, unless a condition holds: then the first one's refusal
 abbrev pub checked : {A : Type 0} → List Check → Result A → Result A
-checked [] x = x
-checked (c ∷ cs) x =
-    let rest = checked cs x in
-    cond (c .holds) (refused (c .gives)) rest
+checked cs x = decide (first cs) x

@@ -57,12 +57,12 @@ module _ (R : Semiring) where
 
   -- the table under the number v at the end of a run, read at the cell o
   abbrev pub readSlot : Place → Assign → R .Car
-  readSlot unmade o = R .none
+  readSlot unmade o = R .addUnit
   readSlot (present A) o = read A o
-  readSlot used o = R .none
+  readSlot used o = R .addUnit
 
   abbrev pub readEnd : ℕ → Option Store → Assign → R .Car
-  readEnd v none o = R .none
+  readEnd v none o = R .addUnit
   readEnd v (some s) o = readSlot (s v) o
 
   module _ (N : Network) (cells : ℕ → List ℕ → R .Car) where
@@ -76,7 +76,7 @@ module _ (R : Semiring) where
 
     -- the product of all leaf tables
     abbrev pub product : Assign → R .Car
-    product σ = foldr (λ i x. R ._⊗_ (read (leafTable i) σ) x) (R .unit) (range (leafCount N))
+    product σ = foldr (λ i x. R ._⊗_ (read (leafTable i) σ) x) (R .mulUnit) (range (leafCount N))
 
     -- "The direct sum multiplies the tables of all leaves, each once, and sums that product over the non-output indices that leaves name;
     -- it is defined without any tree." At an output cell o.

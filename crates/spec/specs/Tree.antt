@@ -60,7 +60,7 @@ walk n a (suc fuel) v =
 unfoldable pub treeAt : ℕ → List Pair → ℕ → Option Tree
 treeAt n a v = walk n a (suc (length a)) v
 
--- "the root is the last internal node, or 0 if none"
+-- "the root is the last internal node, or 0 if none": with no internal node a valid tree has at most one leaf
 abbrev pub root : ℕ → List Pair → ℕ
 root n a = n + length a - 1
 
@@ -101,6 +101,10 @@ unfoldable pub pairsOf : List ℕ → List Pair
 pairsOf [] = []
 pairsOf (x ∷ []) = []
 pairsOf (x ∷ y ∷ l) = record { left = x; right = y } ∷ pairsOf l
+
+unfoldable pub flatOf : List Pair → List ℕ
+flatOf [] = []
+flatOf (p ∷ a) = p .left ∷ p .right ∷ flatOf a
 
 -- the inner nodes in step order
 unfoldable pub stepOrder : List ℕ → ℕ → List ℕ
