@@ -11,7 +11,7 @@ use borrow.Author.Tests.{eqb-true, ltb-true, ltb-false, le-ltb, leb-false, lt-le
 use Rattle.spec.specs.Lists.{memb, anyb, count}
 use Rattle.spec.specs.Refusal.{Refusal, truncated, wrongTag, tooLarge, overweight, outOfRange, repeated, shortBuffer, invalidTree, invalidFlags, totalBeyond, danglingIndex, tableTooWide, drawsExhausted, numberOf, passes}
 use Rattle.spec.specs.Network.{Network, leafCount, indexCount, weight, legs, InRange, maxLeaves, maxIndices, maxLegs, maxOutputs, maxWeight, repeats, strays, accepted}
-use Rattle.spec.specs.NetworkClaims.{NumbersTell, Accepted, AcceptedMeans}
+use Rattle.spec.specs.NetworkClaims.{DistinctNumbers, Accepted, AcceptedMeans}
 use Rattle.laws.specs.ListLaws.{any-intro, count-memb, count-not-memb}
 use Rattle.laws.specs.Booleans.{by-cases, or-introl, or-intror, or-none, clash, eqb-self}
 
@@ -53,7 +53,7 @@ back danglingIndex = refl
 back tableTooWide = refl
 back drawsExhausted = refl
 
-pub numbers-tell : NumbersTell
+pub numbers-tell : DistinctNumbers
 numbers-tell r s e = sym (back r) ∙ ap ofNumber e ∙ back s
 
 -- ---- tests over lists ----

@@ -1,15 +1,19 @@
 -- Samples of what calls have in common, and of draws, by computation. Assumes nothing.
+use mathlib.Core.Bool.{true, false}
 use mathlib.Core.List.{List, [], _∷_, map}
-use mathlib.Core.Option.{none, some}
+use mathlib.Core.Option.{Option, none, some}
 use mathlib.Core.Path.{_≡_, refl}
 use Prim.Native.Nat.{ℕ, _-_, _^_}
 use lib.Ieee.{binary64, round, mul, ofInt, toBits}
+use Rattle.spec.specs.Lists.{from, range}
 use Rattle.spec.specs.Memory.{filled, over, cleared}
-use Rattle.spec.specs.Lists.{from}
-use Rattle.spec.specs.Refusal.{numberOf, word, tooLarge, overweight, shortBuffer, invalidTree, invalidFlags, first, Result, refused, done}
-use Rattle.spec.specs.Network.{Network}
-use Rattle.spec.specs.Tree.{valid, treeAt, pairsOf}
-use Rattle.spec.specs.Calls.{lent, lengthCheck, treeCheck, flagsCheck, workspaceAfter, improveCall}
+use Rattle.spec.specs.Refusal.{Refusal, tooLarge, overweight, shortBuffer, invalidTree, invalidFlags, numberOf, word, first, Result, refused, done}
+use Rattle.spec.specs.Network.{Network, named, refusalOf}
+use Rattle.spec.specs.Tree.{valid, treeAt, pairsOf, flatOf, samePlan}
+use Rattle.spec.specs.Price.{kept, listing, exact}
+use Rattle.spec.specs.Greedy.{greedyFrom, greedy}
+use Rattle.spec.specs.Slicing.{slice}
+use Rattle.spec.specs.Calls.{lent, lengthCheck, treeCheck, flagsCheck, improveWords, PriceRoom, validCall, sameCall, priceCall, greedyCall, improveCall, sliceCall, workspaceAfter, greedyTree}
 use Rattle.spec.specs.Draws.{unitOf}
 use Rattle.laws.specs.Accepted.{byNumber}
 use Rattle.laws.specs.Samples.{network, sample}
@@ -80,12 +84,102 @@ words-enough : improveCall sample 0 4 none 4160 [] [] ≡ refused invalidTree
 unfolding improveCall valid treeAt pairsOf
 words-enough = refl
 
--- ---- the workspace of two words after 7, after 8 and after an answer ----
+-- ---- the limits of a network: at each, and one past it ----
+
+abbrev numberFor : Network → ℕ
+numberFor N = ofOption (refusalOf N)
+  where
+    ofOption : Option Refusal → ℕ
+    ofOption none = 0
+    ofOption (some r) = numberOf r
+
+limits : map numberFor (
+    network (filled 128 []) [] []
+    ∷ network (filled 129 []) [] []
+    ∷ network [] [] (filled 256 0)
+    ∷ network [] [] (filled 257 0)
+    ∷ network [] (range 32) (filled 33 0)
+    ∷ network [] (range 33) (filled 33 0)
+    ∷ [])
+    ≡ 0 ∷ 3 ∷ 0 ∷ 3 ∷ 0 ∷ 3 ∷ []
+unfolding filled
+limits = refl
+
+-- ---- stated lengths: one word or place short of each, and enough ----
+
+abbrev ofResult : {A : Type 0} → Result A → ℕ
+ofResult (refused r) = numberOf r
+ofResult (done x) = 0
+
+abbrev room : ℕ → ℕ → ℕ → ℕ → PriceRoom
+room sets sizes works steps = record { sets = sets; sizes = sizes; works = works; steps = steps }
+
+abbrev kids : List ℕ
+kids = 0 ∷ 1 ∷ 3 ∷ 2 ∷ []
+
+-- three leaves: five nodes, two steps, four places of children, three indices
+plain-calls : (
+    ofResult (validCall sample 4095 kids)
+    ∷ ofResult (validCall sample 4096 kids)
+    ∷ ofResult (sameCall sample 4095 kids kids)
+    ∷ ofResult (sameCall sample 4096 kids (0 ∷ 1 ∷ []))
+    ∷ ofResult (greedyCall sample 4095 4)
+    ∷ ofResult (greedyCall sample 4096 3)
+    ∷ ofResult (greedyCall sample 4096 4)
+    ∷ [])
+    ≡ 7 ∷ 0 ∷ 7 ∷ 8 ∷ 7 ∷ 7 ∷ 0 ∷ []
+unfolding validCall sameCall greedyCall valid treeAt pairsOf samePlan greedy greedyFrom kept named
+plain-calls = refl
+
+price-calls : map (λ r. ofResult (priceCall sample 4096 r [] kids)) (
+    room 20 5 5 2 ∷ room 19 5 5 2 ∷ room 20 4 5 2 ∷ room 20 5 4 2 ∷ room 20 5 5 1 ∷ [])
+    ≡ 0 ∷ 7 ∷ 7 ∷ 7 ∷ 7 ∷ []
+unfolding priceCall valid treeAt pairsOf
+price-calls = refl
+
+price-words : (ofResult (priceCall sample 4095 (room 20 5 5 2) [] kids) ∷ ofResult (priceCall sample 4096 (room 20 5 5 2) (2 ∷ []) kids) ∷ [])
+    ≡ 7 ∷ 9 ∷ []
+unfolding priceCall valid treeAt pairsOf
+price-words = refl
+
+-- 4,096 + 8 × 2^8 words with improvement; 11 only with it
+slice-calls : (
+    ofResult (sliceCall sample true 2 6143 3 kids)
+    ∷ ofResult (sliceCall sample true 2 6144 2 kids)
+    ∷ ofResult (sliceCall sample false 2 4095 3 kids)
+    ∷ ofResult (sliceCall sample false 2 4096 3 kids)
+    ∷ ofResult (sliceCall (network ((0 ∷ []) ∷ []) [] (1 ∷ [])) true 2 6144 1 [])
+    ∷ ofResult (sliceCall (network ((0 ∷ []) ∷ []) [] (1 ∷ [])) false 2 4096 1 [])
+    ∷ [])
+    ≡ 7 ∷ 7 ∷ 7 ∷ 0 ∷ 11 ∷ 0 ∷ []
+unfolding sliceCall slice listing valid treeAt pairsOf kept named
+slice-calls = refl
+
+-- k is clamped to 3 to 12
+clamps : map improveWords (0 ∷ 3 ∷ 4 ∷ 12 ∷ 13 ∷ []) ≡ 4160 ∷ 4160 ∷ 4224 ∷ 36864 ∷ 36864 ∷ []
+clamps = refl
+
+-- pricing goes by the flags, and sameness by the trees
+flags-count : priceCall sample 4096 (room 20 5 5 2) (0 ∷ 1 ∷ []) (2 ∷ 1 ∷ 3 ∷ 0 ∷ [])
+    ≡ done (record { total = exact 4; widest = some 1; sliceBits = 2 })
+unfolding priceCall listing valid treeAt pairsOf kept named
+flags-count = refl
+
+sameness : (sameCall sample 4096 kids (1 ∷ 0 ∷ 2 ∷ 3 ∷ []) ≡ done true) × (sameCall sample 4096 kids (1 ∷ 2 ∷ 3 ∷ 0 ∷ []) ≡ done false)
+unfolding sameCall samePlan valid treeAt pairsOf
+sameness = (refl, refl)
+
+-- ---- the workspace of two words after 3, 7, 8 and after an answer; lists of which more is lent than is written ----
 
 abbrev after : Result ℕ → List ℕ
 after r = workspaceAfter 2 r (7 ∷ 8 ∷ 9 ∷ [])
 
-workspace : map after (refused shortBuffer ∷ refused invalidTree ∷ done 0 ∷ [])
-    ≡ (7 ∷ 8 ∷ 9 ∷ []) ∷ (0 ∷ 0 ∷ 9 ∷ []) ∷ (0 ∷ 0 ∷ 9 ∷ []) ∷ []
+workspace : map after (refused tooLarge ∷ refused shortBuffer ∷ refused invalidTree ∷ done 0 ∷ [])
+    ≡ (7 ∷ 8 ∷ 9 ∷ []) ∷ (7 ∷ 8 ∷ 9 ∷ []) ∷ (0 ∷ 0 ∷ 9 ∷ []) ∷ (0 ∷ 0 ∷ 9 ∷ []) ∷ []
 unfolding cleared over filled
 workspace = refl
+
+lists : (greedyTree (greedyCall sample 4096 5) (7 ∷ 7 ∷ 7 ∷ 7 ∷ 7 ∷ []) ≡ 0 ∷ 1 ∷ 3 ∷ 2 ∷ 7 ∷ [])
+    × (greedyTree (greedyCall sample 0 5) (7 ∷ 7 ∷ 7 ∷ 7 ∷ 7 ∷ []) ≡ 7 ∷ 7 ∷ 7 ∷ 7 ∷ 7 ∷ [])
+unfolding greedyCall greedy greedyFrom kept named flatOf over
+lists = (refl, refl)

@@ -9,18 +9,20 @@ use Prim.Native.Nat.{ℕ, _^_}
 use lib.Ieee.{binary64, round, mul, sub, lt, ofInt, toBits}
 use lib.ListN.{replicate}
 use Rattle.spec.specs.Lists.{range, keep}
+use Rattle.spec.specs.Memory.{over}
 use Rattle.spec.specs.Refusal.{Refusal, numberOf, Result, refused, done}
 use Rattle.spec.specs.Network.{Network, named, refusalOf}
 use Rattle.spec.specs.Tree.{treeAt, valid, pairsOf, flatOf, stepOrder}
 use Rattle.spec.specs.Price.{kept, Step, listing, Total, exact, beyond, total}
-use Rattle.spec.specs.Calls.{plainWords, improveWords, validCall, greedyCall, improveCall, sliceCall}
+use Rattle.spec.specs.Calls.{plainWords, improveWords, validCall, greedyCall, improveCall, sliceCall, slicedFlags}
 use Rattle.spec.specs.Draws.{unitOf, indexOf}
 use Rattle.spec.specs.Greedy.{greedyFrom, greedy}
 use Rattle.spec.specs.Undercut.{undercuts}
 use Rattle.spec.specs.Improve.{weigh, keeps, passed, splitWork, splitCount, frontier, locals, reconfNode, visit, pass, arrayFor, improve}
 use Rattle.spec.specs.ImproveClaims.{mostSplits}
 use Rattle.spec.specs.Slicing.{slice, asIs}
-use Rattle.spec.specs.Program.{target, planOf, Printed, program}
+use Rattle.spec.specs.Program.{planOf, Printed, program}
+use Rattle.spec.specs.File.{target}
 use Rattle.laws.specs.Samples.{network, sample}
 
 pub record Row : Type 0 where
@@ -63,7 +65,7 @@ apart w = network ((0 ∷ 1 ∷ 2 ∷ 3 ∷ []) ∷ (4 ∷ 5 ∷ 6 ∷ []) ∷ [
 abbrev leafOf : ℕ → Network
 leafOf n = network (range n ∷ []) [] (replicate n 1)
 
--- a line of output: its numbers, after the number of its word
+-- the numbers of the output, line after line
 abbrev stepLine : Step → List ℕ
 stepLine c = c .made ∷ c .left ∷ c .right ∷ c .workBits ∷ c .sizeBits ∷ c .list
 
@@ -108,7 +110,7 @@ rows =
     -- "Word 7, index draw below 3: 1. Unit draw of word 0: 0." (The f64 0 has the bits 0.)
     ∷ row (1 ∷ 0 ∷ []) (indexOf 7 3 ∷ toBits binary64 (unitOf 0) ∷ [])
     -- "One leaf {0,1}, weights 1, no output, target 1, no improving: index 0 is sliced."
-    ∷ row (0 ∷ []) (keep ((slice (leafOf 2) 1 asIs []) .flag) (range 2))
+    ∷ row (1 ∷ 0 ∷ []) (slicedFlags (leafOf 2) (sliceCall (leafOf 2) false 1 plainWords 2 []) (7 ∷ 7 ∷ []))
     -- the sample plan, from the network of Samples with the target 2: plan 3 3, step 3 2 1 1 0 1, step 4 3 0 1 1 0, total 4, widest 1, slice 1, bits 2, improved 1, splits 18
     ∷ row
     (3 ∷ 3 ∷ 3 ∷ 2 ∷ 1 ∷ 1 ∷ 0 ∷ 1 ∷ 4 ∷ 3 ∷ 0 ∷ 1 ∷ 1 ∷ 0 ∷ 4 ∷ 1 ∷ 1 ∷ 2 ∷ 1 ∷ 18 ∷ [])
@@ -117,5 +119,5 @@ rows =
 
 -- EVERY ROW HOLDS
 pub table : map (λ r. r .gives) rows ≡ map (λ r. r .says) rows
-unfolding rows validCall greedyCall improveCall sliceCall flatOf valid treeAt pairsOf stepOrder listing kept named mostSplits unitOf slice greedy greedyFrom planOf improve weigh keeps passed splitWork splitCount frontier locals reconfNode visit pass arrayFor undercuts round mul sub lt ofInt toBits
+unfolding rows over validCall greedyCall improveCall sliceCall flatOf valid treeAt pairsOf stepOrder listing kept named mostSplits unitOf slice greedy greedyFrom planOf improve weigh keeps passed splitWork splitCount frontier locals reconfNode visit pass arrayFor undercuts round mul sub lt ofInt toBits
 table = refl

@@ -1,17 +1,17 @@
 -- The calls: what is refused and in which order, by what is lent and handed in; the stated workspace, and what is lent afterwards.
 -- Definitions only. Assumes nothing.
 use mathlib.Core.Bool.{Bool, true, false, not, _&&_, _||_, cond}
-use mathlib.Core.List.{List, [], _∷_, _++_}
+use mathlib.Core.List.{List, [], _∷_, _++_, map}
 use mathlib.Core.Option.{Option}
 use Prim.Native.Nat.{ℕ, _+_, _-_, _*_, _%_, _^_}
 use lib.Dec.{eqb, ltb, leb}
 use lib.ListN.{length, getD}
 use Rattle.spec.specs.Lists.{memb, range, anyb, keep}
-use Rattle.spec.specs.Memory.{cleared}
+use Rattle.spec.specs.Memory.{over, cleared}
 use Rattle.spec.specs.Refusal.{Refusal, shortBuffer, invalidTree, invalidFlags, totalBeyond, danglingIndex, numberOf, Check, check, Result, refused, done, checked}
 use Rattle.spec.specs.Network.{Network, leafCount, indexCount, legs, networkChecks}
-use Rattle.spec.specs.Tree.{Pair, valid, pairsOf, samePlan}
-use Rattle.spec.specs.Price.{listing, Total, exact, beyond, total, Prices, priceOf}
+use Rattle.spec.specs.Tree.{Pair, valid, pairsOf, flatOf, samePlan}
+use Rattle.spec.specs.Price.{Step, listing, Total, exact, beyond, total, Prices, priceOf}
 use Rattle.spec.specs.Greedy.{greedy}
 use Rattle.spec.specs.Improve.{clamped, Improved, improve}
 use Rattle.spec.specs.Slicing.{Plan, slice, asIs, onePass}
@@ -30,13 +30,9 @@ lent has needs = record { has = has; needs = needs }
 abbrev pub lengthCheck : List Lent → Check
 lengthCheck l = check (anyb (λ x. ltb (x .has) (x .needs)) l) shortBuffer
 
--- "Workspace in 64-bit words: 32,768 for bisection; 4,096 + 8 × 2^k, k after clamping (8 in slicing), for improvement and slicing with it;
--- else 4,096."
+-- Workspace: "4,096 + 8 × 2^k, k after clamping (8 in slicing), for improvement and slicing with it; else 4,096."
 abbrev pub plainWords : ℕ
 plainWords = 4096
-
-abbrev pub bisectionWords : ℕ
-bisectionWords = 32768
 
 abbrev pub improveWords : ℕ → ℕ
 improveWords k = 4096 + 8 * 2 ^ clamped k
@@ -50,6 +46,13 @@ stepPlaces N = leafCount N - 1
 
 abbrev pub treePlaces : Network → ℕ
 treePlaces N = stepPlaces N + stepPlaces N
+
+-- the price list has an entry for each node; "sets of four 64-bit words per node"
+abbrev pub nodePlaces : Network → ℕ
+nodePlaces N = leafCount N + stepPlaces N
+
+abbrev pub setWords : ℕ
+setWords = 4
 
 -- ---- 8 and 9 ----
 
@@ -86,67 +89,92 @@ dangling N =
 abbrev pub danglingCheck : Network → Check
 danglingCheck N = check (dangling N) danglingIndex
 
--- ---- the calls ----
--- words, steps, places, flagPlaces: the lengths of the lent workspace, listing, flat list of children, and list of flags
+-- ---- the calls: their checks, "by number", and their answers ----
+-- words, places, flagPlaces: the lengths of the lent workspace, flat list of children, and list of flags. Improvement, and slicing with it,
+-- work in the tree that is handed in, so nothing is lent for it.
+
+-- the lengths of the lists that pricing fills: sets, size bits and work bits by node, and the listing
+pub record PriceRoom : Type 0 where
+  pub sets : ℕ
+  pub sizes : ℕ
+  pub works : ℕ
+  pub steps : ℕ
+
+-- 11 only with improvement, then "even if nothing need be sliced"
+abbrev pub danglingIf : Network → Bool → List Check
+danglingIf N true = danglingCheck N ∷ []
+danglingIf N false = []
+
+abbrev pub followUp : Network → Bool → (ℕ → Bool) → ℕ → List Pair → Improved
+followUp N true = onePass N
+followUp N false = asIs
 
 module _ (N : Network) where
   -- the tree check
+  abbrev pub validChecks : ℕ → List ℕ → List Check
+  validChecks words kids = networkChecks false N ++ (lengthCheck (lent words plainWords ∷ []) ∷ treeCheck N kids ∷ [])
+
   unfoldable pub validCall : ℕ → List ℕ → Result (Unit {0})
-  validCall words kids = checked (networkChecks false N ++ (lengthCheck (lent words plainWords ∷ []) ∷ treeCheck N kids ∷ [])) (done tt)
+  validCall words kids = checked (validChecks words kids) (done tt)
 
   -- sameness of two trees
-  unfoldable pub sameCall : ℕ → List ℕ → List ℕ → Result Bool
-  sameCall words kids others =
-      checked (networkChecks false N ++ (lengthCheck (lent words plainWords ∷ []) ∷ treeCheck N kids ∷ treeCheck N others ∷ []))
-      (done (samePlan (leafCount N) (pairsOf kids) (pairsOf others)))
+  abbrev pub sameChecks : ℕ → List ℕ → List ℕ → List Check
+  sameChecks words kids others = networkChecks false N ++ (lengthCheck (lent words plainWords ∷ []) ∷ treeCheck N kids ∷ treeCheck N others ∷ [])
 
-  -- pricing; `more` are the lists that the price list is written to
-  unfoldable pub priceCall : ℕ → ℕ → List Lent → List ℕ → List ℕ → Result Prices
-  priceCall words steps more flags kids =
-      checked
-      (networkChecks false N
-      ++ (lengthCheck (lent words plainWords ∷ lent steps (stepPlaces N) ∷ more) ∷ treeCheck N kids ∷ flagsCheck N flags ∷ []))
-      (done (priceOf N (flagAt flags) (pairsOf kids)))
+  unfoldable pub sameCall : ℕ → List ℕ → List ℕ → Result Bool
+  sameCall words kids others = checked (sameChecks words kids others) (done (samePlan (leafCount N) (pairsOf kids) (pairsOf others)))
+
+  -- pricing
+  abbrev pub priceChecks : ℕ → PriceRoom → List ℕ → List ℕ → List Check
+  priceChecks words room flags kids =
+      networkChecks false N
+      ++ (lengthCheck
+      (lent words plainWords
+      ∷ lent (room .sets) (nodePlaces N * setWords)
+      ∷ lent (room .sizes) (nodePlaces N)
+      ∷ lent (room .works) (nodePlaces N)
+      ∷ lent (room .steps) (stepPlaces N)
+      ∷ [])
+      ∷ treeCheck N kids
+      ∷ flagsCheck N flags
+      ∷ [])
+
+  unfoldable pub priceCall : ℕ → PriceRoom → List ℕ → List ℕ → Result Prices
+  priceCall words room flags kids = checked (priceChecks words room flags kids) (done (priceOf N (flagAt flags) (pairsOf kids)))
+
+  abbrev pub greedyChecks : ℕ → ℕ → List Check
+  greedyChecks words places =
+      networkChecks false N ++ (lengthCheck (lent words plainWords ∷ lent places (treePlaces N) ∷ []) ∷ [])
 
   unfoldable pub greedyCall : ℕ → ℕ → Result (List Pair)
-  greedyCall words places =
-      checked (networkChecks false N ++ (lengthCheck (lent words plainWords ∷ lent places (treePlaces N) ∷ []) ∷ [])) (greedy N)
+  greedyCall words places = checked (greedyChecks words places) (greedy N)
 
-  abbrev pub improveChecks : ℕ → ℕ → List ℕ → List ℕ → List Check
-  improveChecks k words flags kids =
-      lengthCheck (lent words (improveWords k) ∷ [])
+  -- "0 to 255 passes (more: refused 3)"
+  abbrev pub improveChecks : ℕ → ℕ → ℕ → List ℕ → List ℕ → List Check
+  improveChecks k passes words flags kids =
+      networkChecks (ltb 255 passes) N
+      ++ (lengthCheck (lent words (improveWords k) ∷ [])
       ∷ treeCheck N kids
       ∷ flagsCheck N flags
       ∷ beyondCheck N (flagAt flags) (pairsOf kids)
       ∷ danglingCheck N
-      ∷ []
+      ∷ [])
 
-  -- "0 to 255 passes (more: refused 3)"
   unfoldable pub improveCall : ℕ → ℕ → Option ℕ → ℕ → List ℕ → List ℕ → Result Improved
   improveCall k passes limit words flags kids =
-      checked (networkChecks (ltb 255 passes) N ++ improveChecks k words flags kids)
-      (done (improve N k passes limit (flagAt flags) (pairsOf kids)))
-
-  -- 11 only with improvement, then "even if nothing need be sliced"
-  abbrev pub danglingIf : Bool → List Check
-  danglingIf true = danglingCheck N ∷ []
-  danglingIf false = []
-
-  abbrev pub followUp : Bool → (ℕ → Bool) → ℕ → List Pair → Improved
-  followUp true = onePass N
-  followUp false = asIs
+      checked (improveChecks k passes words flags kids) (done (improve N k passes limit (flagAt flags) (pairsOf kids)))
 
   abbrev pub sliceChecks : Bool → ℕ → ℕ → List ℕ → List Check
   sliceChecks improving words flagPlaces kids =
-      lengthCheck (lent words (sliceWords improving) ∷ lent flagPlaces (indexCount N) ∷ [])
+      networkChecks false N
+      ++ (lengthCheck (lent words (sliceWords improving) ∷ lent flagPlaces (indexCount N) ∷ [])
       ∷ treeCheck N kids
       ∷ beyondCheck N (λ j. false) (pairsOf kids)
-      ∷ danglingIf improving
+      ∷ danglingIf N improving)
 
   unfoldable pub sliceCall : Bool → ℕ → ℕ → ℕ → List ℕ → Result Plan
   sliceCall improving target words flagPlaces kids =
-      checked (networkChecks false N ++ sliceChecks improving words flagPlaces kids)
-      (done (slice N target (followUp improving) (pairsOf kids)))
+      checked (sliceChecks improving words flagPlaces kids) (done (slice N target (followUp N improving) (pairsOf kids)))
 
 -- ---- what is lent, afterwards ----
 
@@ -159,7 +187,23 @@ abbrev pub workspaceAfter : {A : Type 0} → ℕ → Result A → List ℕ → L
 workspaceAfter stated (refused r) ws = cond (touches r) (cleared ws stated) ws
 workspaceAfter stated (done x) ws = cleared ws stated
 
--- after a refusal "Trees, flags, listings and output lists are then unchanged"; else the answer says what was written
-abbrev pub listAfter : {A : Type 0} → Result A → (A → List ℕ → List ℕ) → List ℕ → List ℕ
+-- after a refusal "Trees, flags, listings and output lists are then unchanged"; else what is written stands over the front of the list
+abbrev pub listAfter : {A B : Type 0} → Result A → (A → List B) → List B → List B
 listAfter (refused r) written l = l
-listAfter (done x) written l = written x l
+listAfter (done x) written l = over l (written x)
+
+-- the lists that each call writes: greedy's tree; improvement's; slicing's and its flags; pricing's listing
+abbrev pub greedyTree : Result (List Pair) → List ℕ → List ℕ
+greedyTree r l = listAfter r flatOf l
+
+abbrev pub improvedTree : Result Improved → List ℕ → List ℕ
+improvedTree r l = listAfter r (λ d. flatOf (d .tree)) l
+
+abbrev pub slicedTree : Result Plan → List ℕ → List ℕ
+slicedTree r l = listAfter r (λ p. flatOf (p .tree)) l
+
+abbrev pub slicedFlags : Network → Result Plan → List ℕ → List ℕ
+slicedFlags N r l = listAfter r (λ p. map (λ j. cond (p .flag j) 1 0) (range (indexCount N))) l
+
+abbrev pub pricedSteps : Network → List ℕ → List ℕ → Result Prices → List Step → List Step
+pricedSteps N flags kids r l = listAfter r (λ p. listing N (flagAt flags) (pairsOf kids)) l

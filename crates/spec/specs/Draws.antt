@@ -1,4 +1,4 @@
--- Draws from a lent list of 64-bit words. Definitions only. Assumes nothing.
+-- A draw from a 64-bit word. Definitions only. Assumes nothing.
 use Prim.Native.Nat.{ℕ, _/_, _%_, _^_}
 use lib.IntN.{pos}
 use lib.Ieee.{Float, binary64, mul, ofInt}

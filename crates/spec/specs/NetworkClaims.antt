@@ -8,8 +8,8 @@ use Rattle.spec.specs.Refusal.{Refusal, numberOf}
 use Rattle.spec.specs.Network.{Network, leafCount, indexCount, weight, legs, InRange, maxLeaves, maxIndices, maxLegs, maxOutputs, maxWeight, accepted}
 
 -- two refusals have two numbers
-abbrev pub NumbersTell : Type 0
-NumbersTell = (r s : Refusal) → numberOf r ≡ numberOf s → r ≡ s
+abbrev pub DistinctNumbers : Type 0
+DistinctNumbers = (r s : Refusal) → numberOf r ≡ numberOf s → r ≡ s
 
 -- acceptance as a statement: "A leaf or the outputs never name an index twice, and name only indices below the index count."
 pub record Accepted (N : Network) : Type 0 where

@@ -25,6 +25,7 @@ lists N (node v l r) = keep (kept N (node v l r)) (range (indexCount N))
 
 -- ---- steps and their prices ----
 
+-- "step records (node, left, right, work bits, size bits)", each "with its node's list of indices from the price list"
 pub record Step : Type 0 where
   pub made : ℕ
   pub left : ℕ

@@ -11,13 +11,15 @@ use Rattle.spec.specs.Price.{listing, work}
 use Rattle.spec.specs.RunClaims.{RunsToDirectSum}
 use Rattle.spec.specs.Refusal.{done}
 use Rattle.spec.specs.Improve.{Improved}
+use Rattle.spec.specs.Calls.{flagAt}
 use Rattle.spec.specs.Slicing.{Plan}
 use Rattle.spec.specs.SlicingClaims.{finished}
-use Rattle.spec.specs.Program.{Ask, flagged, target, flagsOf, treeFor, improveFor, planOf}
+use Rattle.spec.specs.Program.{flagsOf, treeFor, improveFor, planOf}
+use Rattle.spec.specs.File.{Ask, flagged, target}
 
 -- Whatever `plan` answers, its tree is valid. If the given flags, if any, are of indices that leaves name and that are no outputs, then so
--- are the answer's, and the run of its listing gives the direct sum. (A file's flags may flag outputs, or indices that no leaf names. They
--- stand all the same, and nothing is said of the run.)
+-- are the answer's, and over two leaves or more the run of its listing gives the direct sum. (A file's flags may flag outputs, or indices
+-- that no leaf names. They stand all the same, and nothing is said of the run.)
 pub record PlanRight (N : Network) (ask : Ask) (p : Plan) : Type 1 where
   pub isValid : valid (leafCount N) (p .tree) ≡ true
   pub sliceable : Sliceable N (flagsOf ask) → Sliceable N (p .flag)
@@ -35,8 +37,8 @@ NoMoreRefusals =
     → improveFor N ask kids ≡ done d → (p : Plan) × (planOf N given ask ≡ done p)
 
 -- "The total never rises": the plan's total is at most that of the tree it starts from, under the given flags
-abbrev pub TotalFalls : Type 0
-TotalFalls =
+abbrev pub TotalNeverRises : Type 0
+TotalNeverRises =
     (N : Network) (given : Option (List ℕ)) (ask : Ask) (kids : List ℕ) (p : Plan) → treeFor N given ≡ done kids
     → planOf N given ask ≡ done p → work (listing N (p .flag) (p .tree)) ≤ work (listing N (flagsOf ask) (pairsOf kids))
 
@@ -44,9 +46,9 @@ TotalFalls =
 abbrev pub FlagsStand : Type 0
 FlagsStand =
     (N : Network) (given : Option (List ℕ)) (l : List ℕ) (p : Plan) → planOf N given (flagged l) ≡ done p
-    → p .flag ≡ flagsOf (flagged l)
+    → p .flag ≡ flagAt l
 
 -- with a target, the widest table is within it or no candidate is left
-abbrev pub TargetMet : Type 0
-TargetMet =
+abbrev pub TargetOrNoCandidate : Type 0
+TargetOrNoCandidate =
     (N : Network) (given : Option (List ℕ)) (w : ℕ) (p : Plan) → planOf N given (target w) ≡ done p → finished N w p ≡ true
