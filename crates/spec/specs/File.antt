@@ -44,7 +44,7 @@ askField plain = []
 askField (flagged l) = field 5 l
 askField (target w) = field 6 (w ∷ [])
 
--- "Tags in hex, in this order: 01 weights, one byte an index; 02 .. ; 03 outputs"
+-- the fields "in this order"; "01 and 03 stand once and may be empty"
 unfoldable pub fileOf : Contents → List ℕ
 fileOf c =
     field 1 (c .network .weights)
@@ -79,7 +79,7 @@ mayEnd endDue = true
 -- what was read so far, and what is due
 pub record Reading : Type 0 where
   pub due : Due
-  pub so : Contents
+  pub read : Contents
 
 -- the indices of a leaf, or the outputs, "bytes left to right": not below the index count m, or named before
 abbrev pub indexBytes : ℕ → List ℕ → List ℕ → Option Refusal
@@ -88,61 +88,55 @@ indexBytes m before (j ∷ l) =
     let rest = indexBytes m (j ∷ before) l in
     cond (leb m j) (some outOfRange) (cond (memb j before) (some repeated) rest)
 
+-- a network alone
+abbrev pub bare : Network → Contents
+bare N = record { network = N; tree = none; ask = plain }
+
+-- the fields in their order: "length and leaf count, then bytes left to right; 8 for a tree that is not valid as its field ends"
+abbrev pub takeWeights : List ℕ → Result Reading
+takeWeights l =
+    checked (check (ltb maxIndices (length l)) tooLarge ∷ check (anyb (λ w. ltb maxWeight w) l) overweight ∷ [])
+    (done (record { due = leavesDue; read = bare (record { leaves = []; outputs = []; weights = l }) }))
+
 module _ (N : Network) where
-  abbrev pub withWeights : List ℕ → Contents
-  withWeights l = record { network = record { leaves = []; outputs = []; weights = l }; tree = none; ask = plain }
-
-  abbrev pub withLeaf : List ℕ → Contents
-  withLeaf l =
-      record { network = record { leaves = N .leaves ++ (l ∷ []); outputs = []; weights = N .weights }; tree = none; ask = plain }
-
-  abbrev pub withOutputs : List ℕ → Contents
-  withOutputs l = record { network = record { leaves = N .leaves; outputs = l; weights = N .weights }; tree = none; ask = plain }
-
-  -- the fields in their order: "length and leaf count, then bytes left to right; 8 for a tree that is not valid as its field ends"
-  abbrev pub takeWeights : List ℕ → Result Reading
-  takeWeights l =
-      checked (check (ltb maxIndices (length l)) tooLarge ∷ check (anyb (λ w. ltb maxWeight w) l) overweight ∷ [])
-      (done (record { due = leavesDue; so = withWeights l }))
-
   abbrev pub takeLeaf : List ℕ → Result Reading
   takeLeaf l =
       checked (check (ltb maxLegs (length l) || leb maxLeaves (leafCount N)) tooLarge ∷ [])
-      (decide (indexBytes (indexCount N) [] l) (done (record { due = leavesDue; so = withLeaf l })))
+      (decide (indexBytes (indexCount N) [] l) (done (record { due = leavesDue; read = bare (record { leaves = N .leaves ++ (l ∷ []); outputs = []; weights = N .weights }) })))
 
   abbrev pub takeOutputs : List ℕ → Result Reading
   takeOutputs l =
       checked (check (ltb maxOutputs (length l)) tooLarge ∷ [])
-      (decide (indexBytes (indexCount N) [] l) (done (record { due = treeDue; so = withOutputs l })))
+      (decide (indexBytes (indexCount N) [] l) (done (record { due = treeDue; read = bare (record { leaves = N .leaves; outputs = l; weights = N .weights }) })))
 
   abbrev pub takeTree : List ℕ → Result Reading
   takeTree l =
-      checked (treeCheck N l ∷ []) (done (record { due = askDue; so = record { network = N; tree = some l; ask = plain } }))
+      checked (treeCheck N l ∷ []) (done (record { due = askDue; read = record { network = N; tree = some l; ask = plain } }))
 
   abbrev pub takeFlags : Option (List ℕ) → List ℕ → Result Reading
   takeFlags tree l =
-      checked (flagsCheck N l ∷ []) (done (record { due = endDue; so = record { network = N; tree = tree; ask = flagged l } }))
+      checked (flagsCheck N l ∷ []) (done (record { due = endDue; read = record { network = N; tree = tree; ask = flagged l } }))
 
   -- "a target field not of one byte"
   abbrev pub takeTarget : Option (List ℕ) → List ℕ → Result Reading
   takeTarget tree [] = refused tooLarge
-  takeTarget tree (w ∷ []) = done (record { due = endDue; so = record { network = N; tree = tree; ask = target w } })
+  takeTarget tree (w ∷ []) = done (record { due = endDue; read = record { network = N; tree = tree; ask = target w } })
   takeTarget tree (w ∷ v ∷ l) = refused tooLarge
 
 -- a field whose tag t is allowed
 abbrev pub takeField : Reading → ℕ → List ℕ → Result Reading
 takeField s t l =
-    cond (eqb t 1) (takeWeights (s .so .network) l)
-    (cond (eqb t 2) (takeLeaf (s .so .network) l)
-    (cond (eqb t 3) (takeOutputs (s .so .network) l)
-    (cond (eqb t 4) (takeTree (s .so .network) l)
-    (cond (eqb t 5) (takeFlags (s .so .network) (s .so .tree) l) (takeTarget (s .so .network) (s .so .tree) l)))))
+    cond (eqb t 1) (takeWeights l)
+    (cond (eqb t 2) (takeLeaf (s .read .network) l)
+    (cond (eqb t 3) (takeOutputs (s .read .network) l)
+    (cond (eqb t 4) (takeTree (s .read .network) l)
+    (cond (eqb t 5) (takeFlags (s .read .network) (s .read .tree) l) (takeTarget (s .read .network) (s .read .tree) l)))))
 
 -- "The file is checked field by field: header, tag, payload all there, length and leaf count, then bytes left to right". Each field has
 -- three bytes or more, so the file's length is fuel enough.
 abbrev pub readFields : ℕ → Reading → List ℕ → Result Contents
 readFields zero s bytes = refused truncated
-readFields (suc fuel) s [] = cond (mayEnd (s .due)) (done (s .so)) (refused truncated)
+readFields (suc fuel) s [] = cond (mayEnd (s .due)) (done (s .read)) (refused truncated)
 readFields (suc fuel) s (t ∷ []) = refused truncated
 readFields (suc fuel) s (t ∷ high ∷ []) = refused truncated
 readFields (suc fuel) s (t ∷ high ∷ low ∷ bytes) =
@@ -152,7 +146,7 @@ readFields (suc fuel) s (t ∷ high ∷ low ∷ bytes) =
 
 abbrev pub nothingRead : Reading
 nothingRead =
-    record { due = weightsDue; so = record { network = record { leaves = []; outputs = []; weights = [] }; tree = none; ask = plain } }
+    record { due = weightsDue; read = bare (record { leaves = []; outputs = []; weights = [] }) }
 
 -- "7, for lists the reader fills, at the file's end": the tree's if it has a tree, the flags' if it has flags, one place an index
 abbrev pub treeLent : Network → ℕ → Option (List ℕ) → List Lent
