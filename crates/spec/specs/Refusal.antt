@@ -64,6 +64,11 @@ word danglingIndex = "loose"
 word tableTooWide = "wide"
 word drawsExhausted = "spent"
 
+-- the number that is handed out: 0 for none
+abbrev pub codeOf : Option Refusal → ℕ
+codeOf none = 0
+codeOf (some r) = numberOf r
+
 -- ---- checks ----
 
 -- a condition, and the refusal that it brings
