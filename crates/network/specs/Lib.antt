@@ -1,1 +1,3 @@
+-- What a record stands for, and laws of networks as lists with counts. Assumes nothing.
 pub mod Record
+pub mod Layouts
