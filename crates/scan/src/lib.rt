@@ -1,0 +1,199 @@
+// The fields of a network file, one after another, into lists that are lent.
+ghost use mathlib.Core.Path.{_≡_};
+ghost use mathlib.Core.List.{List};
+ghost use Prim.Native.Nat.{ℕ, _+_, _≤_, _<_};
+ghost use lib.ListN.{length};
+ghost use Rattle.spec.specs.File.{allowed, takeWeights, takeLeaf, takeOutputs, takeTree, takeFlags, takeTarget};
+ghost use Rattle.scan.specs.Steps.{part};
+ghost use Rattle.scan.specs.Scans.{dueOf, stopped, bare, withTree, asking, Lists, lists, netIn, treeIn};
+ghost use Rattle.scan.specs.Fields.{Sound, Taken};
+
+// What has been read, as numbers: a refusal's number, or 0; what is due (0 the weights, 1 leaves or the outputs, 2 the tree, flags or target,
+// 3 flags or target, 4 nothing); where the next field starts; the counts of the network; where the tree's payload stands, if there is one;
+// what is asked (0 nothing, 1 flags, 2 a target) and where that payload stands.
+pub struct Scan {
+    pub refusal: u8,
+    pub due: u8,
+    pub at: usize,
+    pub index_count: usize,
+    pub leaf_count: usize,
+    pub output_count: usize,
+    pub has_tree: bool,
+    pub tree_at: usize,
+    pub tree_len: usize,
+    pub ask: u8,
+    pub ask_at: usize,
+    pub ask_len: usize,
+}
+
+impl Scan {
+    // Nothing is read; with a number, refused.
+    pub fn stopped(refusal: u8) -> Self
+        ensures { λ r. ⌜ r ≡ stopped refusal ⌝ }
+    {
+        Self {
+            refusal,
+            due: 0,
+            at: 0,
+            index_count: 0,
+            leaf_count: 0,
+            output_count: 0,
+            has_tree: false,
+            tree_at: 0,
+            tree_len: 0,
+            ask: 0,
+            ask_at: 0,
+            ask_len: 0,
+        }
+    }
+
+    // A network without a tree, and nothing asked.
+    pub fn bare(
+        due: u8,
+        at: usize,
+        index_count: usize,
+        leaf_count: usize,
+        output_count: usize,
+    ) -> Self
+        ensures { λ r. ⌜ r ≡ bare due at «index_count» «leaf_count» «output_count» ⌝ }
+    {
+        Self {
+            refusal: 0,
+            due,
+            at,
+            index_count,
+            leaf_count,
+            output_count,
+            has_tree: false,
+            tree_at: 0,
+            tree_len: 0,
+            ask: 0,
+            ask_at: 0,
+            ask_len: 0,
+        }
+    }
+
+    // The tree's payload is the n bytes from `from` on, which end at `end`.
+    pub fn with_tree(self, from: usize, n: usize, end: usize) -> Self
+        ensures { λ r. ⌜ r ≡ withTree self «from» n end ⌝ }
+    {
+        Self {
+            refusal: 0,
+            due: 3,
+            at: end,
+            index_count: self.index_count,
+            leaf_count: self.leaf_count,
+            output_count: self.output_count,
+            has_tree: true,
+            tree_at: from,
+            tree_len: n,
+            ask: 0,
+            ask_at: 0,
+            ask_len: 0,
+        }
+    }
+
+    // What is asked: its payload is the n bytes from `from` on, which end at `end`.
+    pub fn asking(self, ask: u8, from: usize, n: usize, end: usize) -> Self
+        ensures { λ r. ⌜ r ≡ asking self ask «from» n end ⌝ }
+    {
+        Self {
+            refusal: 0,
+            due: 4,
+            at: end,
+            index_count: self.index_count,
+            leaf_count: self.leaf_count,
+            output_count: self.output_count,
+            has_tree: self.has_tree,
+            tree_at: self.tree_at,
+            tree_len: self.tree_len,
+            ask,
+            ask_at: from,
+            ask_len: n,
+        }
+    }
+}
+
+// Is a tag allowed where `due` is due.
+pub fn tag_allowed(due: u8, tag: u8) -> bool
+    ensures { λ r. ⌜ r ≡ allowed (dueOf due) tag ⌝ }
+{
+    match due {
+        0 => tag == 1,
+        1 => tag == 2 || tag == 3,
+        2 => tag == 4 || (tag == 5 || tag == 6),
+        3 => tag == 5 || tag == 6,
+        _ => false,
+    }
+}
+
+// The payloads stand from `at` on, n bytes. Each function reads one field into the lists that are lent, and says what has been read then.
+fn take_weights(file: &[u8], at: usize, n: usize, weights: &mut [u8]) -> Scan
+    requires { ⌜ (at + n ≤ length (now file)) × (256 ≤ length (now weights)) ⌝ }
+    ensures { λ r. ⌜ ((c l o : List ℕ) → Taken (now (file .entry)) (at + n) r (lists (now (weights .exit)) c l o) (takeWeights (part (now (file .entry)) at n))) ⌝ }
+{
+    let end = at + n;
+    let payload = &file[at..end];
+    let code = fields::check_weights(payload);
+    if code != 0 {
+        return Scan::stopped(code);
+    }
+    cells::place8(weights, 0, payload);
+    Scan::bare(1, end, n, 0, 0)
+}
+
+fn take_leaf(s: Scan, file: &[u8], at: usize, n: usize, counts: &mut [u8], legs: &mut [u16]) -> Scan
+    requires { ⌜ (at + n ≤ length (now file)) × (128 ≤ length (now counts)) × (4096 ≤ length (now legs)) ⌝ }
+    ensures { λ r. ⌜ ((w o : List ℕ) → Sound (now (file .entry)) s (lists w (now (counts .entry)) (now (legs .entry)) o) → Taken (now (file .entry)) (at + n) r (lists w (now (counts .exit)) (now (legs .exit)) o) (takeLeaf (netIn s (lists w (now (counts .entry)) (now (legs .entry)) o)) (part (now (file .entry)) at n))) ⌝ }
+{
+    let end = at + n;
+    let payload = &file[at..end];
+    let m = s.index_count;
+    let leaf = s.leaf_count;
+    let code = fields::check_leaf(payload, m, leaf);
+    if code != 0 {
+        return Scan::stopped(code);
+    }
+    cells::put8(counts, leaf, n as u8);
+    fields::place(legs, leaf * 32, payload);
+    Scan::bare(1, end, m, leaf + 1, 0)
+}
+
+fn take_outputs(s: Scan, file: &[u8], at: usize, n: usize, outputs: &mut [u16]) -> Scan
+    requires { ⌜ (at + n ≤ length (now file)) × (32 ≤ length (now outputs)) ⌝ }
+    ensures { λ r. ⌜ ((w c l : List ℕ) → Sound (now (file .entry)) s (lists w c l (now (outputs .entry))) → Taken (now (file .entry)) (at + n) r (lists w c l (now (outputs .exit))) (takeOutputs (netIn s (lists w c l (now (outputs .entry)))) (part (now (file .entry)) at n))) ⌝ }
+{
+    let end = at + n;
+    let payload = &file[at..end];
+    let m = s.index_count;
+    let code = fields::check_outputs(payload, m);
+    if code != 0 {
+        return Scan::stopped(code);
+    }
+    fields::place(outputs, 0, payload);
+    Scan::bare(2, end, m, s.leaf_count, n)
+}
+
+fn take_flags(s: Scan, file: &[u8], at: usize, n: usize) -> Scan
+    requires { ⌜ at + n ≤ length (now file) ⌝ }
+    ensures { λ r. ⌜ ((l : Lists) → Sound (now (file .entry)) s l → Taken (now (file .entry)) (at + n) r l (takeFlags (netIn s l) (treeIn (now (file .entry)) (s .«has_tree») (s .«tree_at») (s .«tree_len»)) (part (now (file .entry)) at n))) ⌝ }
+{
+    let end = at + n;
+    let payload = &file[at..end];
+    let code = fields::check_flags(payload, s.index_count);
+    if code != 0 {
+        return Scan::stopped(code);
+    }
+    s.asking(1, at, n, end)
+}
+
+fn take_target(s: Scan, file: &[u8], at: usize, n: usize) -> Scan
+    requires { ⌜ at + n ≤ length (now file) ⌝ }
+    ensures { λ r. ⌜ ((l : Lists) → Sound (now (file .entry)) s l → Taken (now (file .entry)) (at + n) r l (takeTarget (netIn s l) (treeIn (now (file .entry)) (s .«has_tree») (s .«tree_at») (s .«tree_len»)) (part (now (file .entry)) at n))) ⌝ }
+{
+    if n != 1 {
+        return Scan::stopped(3);
+    }
+    let end = at + n;
+    s.asking(2, at, n, end)
+}
