@@ -3,6 +3,9 @@ ghost use mathlib.Core.Path.{_≡_};
 ghost use mathlib.Core.List.{[]};
 ghost use Rattle.network.specs.Record.{netOf};
 
+pub mod refusal; // refusal.rt: the refusals by their numbers
+pub mod scan; // scan.rt: searches of lists that are lent
+
 // A record. The places of its arrays past the counts are no part of the network.
 pub struct Network {
     pub index_count: usize,
