@@ -1,17 +1,13 @@
 -- The check by number on lists with counts: its parts, and the facts that follow where it finds nothing. Assumes nothing.
-use mathlib.Core.Path.{_≡_, refl, sym, ap, ap₂, _∙_}
-use mathlib.Core.Bool.{Bool, true, false, _||_, cond}
-use mathlib.Core.List.{List, [], _∷_, map}
-use mathlib.Core.Option.{Option, none, some}
-use Prim.Native.Nat.{ℕ, zero, suc, _+_, _-_, _*_, _≤_, _<_}
-use native.Mathlib.Numerals.{add-one}
+use mathlib.Core.Path.{_≡_, sym, ap, _∙_}
+use mathlib.Core.Bool.{Bool, true, false}
+use mathlib.Core.List.{List, [], map}
+use Prim.Native.Nat.{ℕ, _+_, _-_, _*_, _≤_, _<_}
 use native.Mathlib.Omega.{arith}
-use lib.Dec.{eqb, ltb, leb}
-use lib.ListN.{length, getD, take, drop, length-drop, length-take}
-use lib.Seq.{drop-cons, getD-drop}
-use Rattle.spec.specs.Lists.{memb, anyb, from, range}
-use Rattle.spec.specs.Network.{Network, leafCount, indexCount, weight, legs, maxLeaves, maxIndices, maxLegs, maxOutputs, maxWeight, repeats, strays, refusalOf}
-use Rattle.spec.specs.Layout.{firsts, rowAt, networkOf}
+use lib.ListN.{length, getD, take, drop, length-drop}
+use Rattle.spec.specs.Lists.{anyb, range}
+use Rattle.spec.specs.Network.{maxLeaves, maxIndices, maxLegs, maxOutputs}
+use Rattle.spec.specs.Layout.{rowAt}
 use Rattle.network.specs.Layouts.{firsts-take, map-range-at, map-range-length}
 use Rattle.network.specs.Searches.{NoneBefore, any-next, any-found, any-end}
 
@@ -24,6 +20,13 @@ leavesOf n counts cells = map (rowAt counts cells) (range n)
 pub record Row (counts cells : List ℕ) (i : ℕ) : Type 0 where
   pub counted : i < length counts
   pub room : i * maxLegs + getD counts i 0 ≤ length cells
+
+-- the lists have the places that the limits ask for
+pub record Lent (weights counts cells outputs : List ℕ) : Type 0 where
+  pub weightPlaces : maxIndices ≤ length weights
+  pub countPlaces : maxLeaves ≤ length counts
+  pub legPlaces : maxLeaves * maxLegs ≤ length cells
+  pub outputPlaces : maxOutputs ≤ length outputs
 
 -- n leaves have
 pub record Rows (n : ℕ) (counts cells : List ℕ) : Type 0 where

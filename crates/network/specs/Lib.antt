@@ -3,3 +3,5 @@ pub mod Record
 pub mod Layouts
 pub mod Searches
 pub mod Checks
+pub mod Codes
+pub mod Answers

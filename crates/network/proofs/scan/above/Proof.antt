@@ -2,13 +2,11 @@
 use borrow.Author.Needs.{needs}
 use Rattle.network.specs.Searches.{NoneBefore, any-start, any-next, any-found, any-end}
 use borrow.Author.Tests.{lt-ltb, le-ltb}
-use lib.ListN.{drop}
 use lib.Dec.{ltb}
-use mathlib.Core.Bool.{true, false}
 use native.Mathlib.Omega.{arith}
-use Prim.Native.Nat.{ℕ, _+_, _-_, _*_, _<_, _≤_}
-use mathlib.Core.Path.{_≡_, refl, sym, ap, _∙_, subst}
-use lib.ListN.{length, getD, set, length-set}
+use Prim.Native.Nat.{_-_}
+use mathlib.Core.Path.{_≡_, refl}
+use lib.ListN.{length}
 use Rattle.network.proofs.scan.above.Statement.{statement}
 use Rattle.network.proofs.scan.above.Tie as tie
 

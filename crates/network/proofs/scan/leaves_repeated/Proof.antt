@@ -3,11 +3,8 @@ use borrow.Author.Needs.{needs}
 use Rattle.network.specs.Checks.{leavesOf, row-of, leaves-next, leaves-found, leaves-end}
 use Rattle.network.specs.Searches.{NoneBefore, any-start}
 use Rattle.spec.specs.Network.{repeats}
-use mathlib.Core.List.{List}
 use native.Mathlib.Omega.{arith}
-use Prim.Native.Nat.{ℕ, _+_, _-_, _*_, _<_, _≤_}
-use mathlib.Core.Path.{_≡_, refl, sym, ap, _∙_, subst}
-use lib.ListN.{length, getD, set, length-set}
+use Prim.Native.Nat.{_-_}
 use Rattle.network.proofs.scan.leaves_repeated.Statement.{statement}
 use Rattle.network.proofs.scan.leaves_repeated.Tie as tie
 

@@ -1,12 +1,11 @@
 -- Assumes nothing.
 use borrow.Author.Needs.{needs}
 use Rattle.network.specs.Searches.{NotBetween, OnceBefore, memb-start, memb-next, repeats-start, repeats-next, repeats-found, repeats-end}
-use lib.ListN.{drop}
-use mathlib.Core.Bool.{true, false}
+use mathlib.Core.Bool.{false}
 use native.Mathlib.Omega.{arith}
-use Prim.Native.Nat.{ℕ, _+_, _-_, _*_, _<_, _≤_}
-use mathlib.Core.Path.{_≡_, refl, sym, ap, _∙_, subst}
-use lib.ListN.{length, getD, set, length-set}
+use Prim.Native.Nat.{_-_}
+use mathlib.Core.Path.{_≡_, refl, _∙_}
+use lib.ListN.{length}
 use Rattle.network.proofs.scan.repeated.Statement.{statement}
 use Rattle.network.proofs.scan.repeated.Tie as tie
 
