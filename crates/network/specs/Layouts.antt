@@ -1,20 +1,19 @@
 -- Laws of networks as lists with counts: what they hold, and one weight, leaf or output more. Assumes nothing.
 use mathlib.Core.Path.{_≡_, refl, sym, ap, ap₂, _∙_}
-use mathlib.Core.List.{List, [], _∷_, _++_, map, append-nil}
-use Prim.Native.Nat.{ℕ, zero, suc, _+_, _*_, _≤_, _<_, min}
-use native.Mathlib.Nat.{zero-add, suc-add, add-zero}
+use mathlib.Core.List.{List, [], _∷_, _++_, map}
+use Prim.Native.Nat.{ℕ, zero, suc, _+_, _*_, _≤_, _<_}
+use native.Mathlib.Nat.{zero-add, add-zero}
 use native.Mathlib.Numerals.{add-one}
 use native.Mathlib.Omega.{arith}
-use native.Mathlib.Decide.{decLe}
-use lib.ListN.{length, getD, set, take, drop, length-append, length-take, length-drop, length-map, length-set, List·getD-eq-default}
+use lib.ListN.{length, getD, set, take, drop, length-map}
 use lib.Seq.{ext-getD, getD-take, getD-drop, getD-set-same, getD-set-other, length-take-le, take-length}
 use Rattle.spec.specs.Lists.{from, range}
 use Rattle.spec.specs.Memory.{placed}
-use Rattle.spec.specs.Network.{Network, leafCount, indexCount, weight, legs, maxLegs}
+use Rattle.spec.specs.Network.{leafCount, indexCount, weight, legs, maxLegs}
 use Rattle.spec.specs.Layout.{firsts, rowAt, networkOf}
 use Rattle.spec.specs.Building.{withWeight, withLeaf, withOutput}
 use Rattle.laws.specs.ListLaws.{range-length}
-use Rattle.cells.specs.Cells.{placed-length, placed-nothing-before, placed-there, placed-after}
+use Rattle.cells.specs.Cells.{placed-nothing-before, placed-there, placed-after}
 
 -- ---- a function of each number below n ----
 
