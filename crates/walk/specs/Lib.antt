@@ -1,0 +1,5 @@
+-- The walks over a tree in lent words.
+pub mod Stack
+pub mod Marks
+pub mod Check
+pub mod Wrong
