@@ -1,2 +1,5 @@
--- The payloads of a network file's fields: which refusal each brings, and laws. Assumes nothing.
-pub mod Payload
+-- The fields of a network file, one after another: what has been read, as numbers and lists, and what is read from there on. Assumes nothing.
+pub mod Coded
+pub mod Steps
+pub mod Scans
+pub mod Fields

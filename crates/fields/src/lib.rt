@@ -1,100 +1,204 @@
-// The payloads of a network file's fields: which refusal each brings, by number, 0 for none; and bytes copied to lists of indices.
+// The fields of a network file, one after another, into lists that are lent.
 ghost use mathlib.Core.Path.{_≡_};
-ghost use mathlib.Core.List.{[]};
-ghost use lib.Dec.{ltb};
-ghost use Rattle.spec.specs.Lists.{anyb};
-ghost use Rattle.spec.specs.Memory.{over, placed};
-ghost use Rattle.spec.specs.Refusal.{codeOf};
-ghost use Rattle.spec.specs.File.{indexBytes};
-ghost use Rattle.fields.specs.Payload.{weightsRefusal, leafRefusal, outputsRefusal, flagsRefusal};
+ghost use mathlib.Core.List.{List};
+ghost use Prim.Native.Nat.{ℕ, _+_, _≤_, _<_};
+ghost use lib.ListN.{length};
+ghost use Rattle.spec.specs.File.{allowed, takeWeights, takeLeaf, takeOutputs, takeTree, takeFlags, takeTarget};
+ghost use Rattle.fields.specs.Steps.{part};
+ghost use Rattle.fields.specs.Scans.{dueOf, stopped, bare, withTree, asking, Lists, lists, netIn, treeIn};
+ghost use Rattle.fields.specs.Fields.{Sound, Taken};
 
-// Is one of the bytes above a limit.
-pub fn any_above(bytes: &[u8], limit: u8) -> bool
-    ensures { λ r. ⌜ r ≡ anyb (λ b. ltb limit b) (now (bytes .entry)) ⌝ }
-{
-    for k in 0..bytes.len() {
-        if limit < bytes[k] {
-            return true;
+pub mod ask; // ask.rt: what a file asks, as a number
+pub mod due; // due.rt: what may stand next, as a number
+use network::Network;
+use network::refusal;
+use payloads::tags;
+
+// What has been read, as numbers: a refusal's number, or 0; what is due; where the next field starts; the counts of the network; where the
+// tree's payload stands, if there is one; what is asked, and where that payload stands.
+pub struct Scan {
+    pub refusal: u8,
+    pub due: u8,
+    pub at: usize,
+    pub index_count: usize,
+    pub leaf_count: usize,
+    pub output_count: usize,
+    pub has_tree: bool,
+    pub tree_at: usize,
+    pub tree_len: usize,
+    pub ask: u8,
+    pub ask_at: usize,
+    pub ask_len: usize,
+}
+
+impl Scan {
+    // Nothing is read; with a number, refused.
+    pub fn stopped(refusal: u8) -> Self
+        ensures { λ r. ⌜ r ≡ stopped refusal ⌝ }
+    {
+        Self {
+            refusal,
+            due: due::WEIGHTS,
+            at: 0,
+            index_count: 0,
+            leaf_count: 0,
+            output_count: 0,
+            has_tree: false,
+            tree_at: 0,
+            tree_len: 0,
+            ask: ask::PLAIN,
+            ask_at: 0,
+            ask_len: 0,
         }
     }
-    false
-}
 
-// Indices of a network of m, byte by byte: 5 for one that is not below m, 6 for one that stands before. Both loops are left at the first.
-pub fn check_indices(bytes: &[u8], m: usize) -> u8
-    ensures { λ r. ⌜ r ≡ codeOf (indexBytes m [] (now (bytes .entry))) ⌝ }
-{
-    let mut code = 0;
-    'bytes: for k in 0..bytes.len() {
-        let index = bytes[k];
-        if m <= index as usize {
-            code = 5;
-            break 'bytes;
+    // A network without a tree, and nothing asked.
+    pub fn bare(
+        due: u8,
+        at: usize,
+        index_count: usize,
+        leaf_count: usize,
+        output_count: usize,
+    ) -> Self
+        ensures { λ r. ⌜ r ≡ bare due at «index_count» «leaf_count» «output_count» ⌝ }
+    {
+        Self {
+            refusal: refusal::NONE,
+            due,
+            at,
+            index_count,
+            leaf_count,
+            output_count,
+            has_tree: false,
+            tree_at: 0,
+            tree_len: 0,
+            ask: ask::PLAIN,
+            ask_at: 0,
+            ask_len: 0,
         }
-        for i in 0..k {
-            if bytes[i] == index {
-                code = 6;
-                break 'bytes;
-            }
+    }
+
+    // The tree's payload is the n bytes from `from` on, which end at `end`.
+    pub fn with_tree(self, from: usize, n: usize, end: usize) -> Self
+        ensures { λ r. ⌜ r ≡ withTree self «from» n end ⌝ }
+    {
+        Self {
+            refusal: refusal::NONE,
+            due: due::ASK,
+            at: end,
+            index_count: self.index_count,
+            leaf_count: self.leaf_count,
+            output_count: self.output_count,
+            has_tree: true,
+            tree_at: from,
+            tree_len: n,
+            ask: ask::PLAIN,
+            ask_at: 0,
+            ask_len: 0,
         }
     }
-    code
-}
 
-pub fn check_weights(bytes: &[u8]) -> u8
-    ensures { λ r. ⌜ r ≡ codeOf (weightsRefusal (now (bytes .entry))) ⌝ }
-{
-    if 256 < bytes.len() {
-        return 3;
-    }
-    if any_above(bytes, 8) { 4 } else { 0 }
-}
-
-// A leaf of a network of m indices that has n leaves already.
-pub fn check_leaf(bytes: &[u8], m: usize, n: usize) -> u8
-    ensures { λ r. ⌜ r ≡ codeOf (leafRefusal m n (now (bytes .entry))) ⌝ }
-{
-    if 32 < bytes.len() {
-        return 3;
-    }
-    if 128 <= n {
-        return 3;
-    }
-    check_indices(bytes, m)
-}
-
-pub fn check_outputs(bytes: &[u8], m: usize) -> u8
-    ensures { λ r. ⌜ r ≡ codeOf (outputsRefusal m (now (bytes .entry))) ⌝ }
-{
-    if 32 < bytes.len() {
-        return 3;
-    }
-    check_indices(bytes, m)
-}
-
-pub fn check_flags(bytes: &[u8], m: usize) -> u8
-    ensures { λ r. ⌜ r ≡ codeOf (flagsRefusal m (now (bytes .entry))) ⌝ }
-{
-    if m < bytes.len() {
-        return 9;
-    }
-    if any_above(bytes, 1) { 9 } else { 0 }
-}
-
-// Copies the bytes to the front of a list of indices, as far as it goes.
-pub fn widen(to: &mut [u16], bytes: &[u8])
-    ensures { λ _. ⌜ now (to .exit) ≡ over (now (to .entry)) (now (bytes .entry)) ⌝ }
-{
-    for k in 0..cells::min(to.len(), bytes.len()) {
-        to[k] = bytes[k] as u16;
+    // What is asked: its payload is the n bytes from `from` on, which end at `end`.
+    pub fn asking(self, ask: u8, from: usize, n: usize, end: usize) -> Self
+        ensures { λ r. ⌜ r ≡ asking self ask «from» n end ⌝ }
+    {
+        Self {
+            refusal: refusal::NONE,
+            due: due::END,
+            at: end,
+            index_count: self.index_count,
+            leaf_count: self.leaf_count,
+            output_count: self.output_count,
+            has_tree: self.has_tree,
+            tree_at: self.tree_at,
+            tree_len: self.tree_len,
+            ask,
+            ask_at: from,
+            ask_len: n,
+        }
     }
 }
 
-// The same from place `at` on: the copier is lent the rest of the list only.
-pub fn place(list: &mut [u16], at: usize, bytes: &[u8])
-    ensures { λ _. ⌜ now (list .exit) ≡ placed (now (list .entry)) at (now (bytes .entry)) ⌝ }
+// Is a tag allowed where `due` is due.
+pub fn tag_allowed(due: u8, tag: u8) -> bool
+    ensures { λ r. ⌜ r ≡ allowed (dueOf due) tag ⌝ }
 {
-    if at < list.len() {
-        widen(&mut list[at..], bytes);
+    match due {
+        due::WEIGHTS => tag == tags::WEIGHTS,
+        due::LEAVES => tag == tags::LEAF || tag == tags::OUTPUTS,
+        due::TREE => tag == tags::TREE || (tag == tags::FLAGS || tag == tags::TARGET),
+        due::ASK => tag == tags::FLAGS || tag == tags::TARGET,
+        _ => false,
     }
+}
+
+// The payloads stand from `at` on, n bytes. Each function reads one field into the lists that are lent, and says what has been read then.
+fn take_weights(file: &[u8], at: usize, n: usize, weights: &mut [u8]) -> Scan
+    requires { ⌜ (at + n ≤ length (now file)) × (256 ≤ length (now weights)) ⌝ }
+    ensures { λ r. ⌜ ((c l o : List ℕ) → Taken (now (file .entry)) (at + n) r (lists (now (weights .exit)) c l o) (takeWeights (part (now (file .entry)) at n))) ⌝ }
+{
+    let end = at + n;
+    let payload = &file[at..end];
+    let code = payloads::check_weights(payload);
+    if code != refusal::NONE {
+        return Scan::stopped(code);
+    }
+    cells::place8(weights, 0, payload);
+    Scan::bare(due::LEAVES, end, n, 0, 0)
+}
+
+fn take_leaf(s: Scan, file: &[u8], at: usize, n: usize, counts: &mut [u8], legs: &mut [u16]) -> Scan
+    requires { ⌜ (at + n ≤ length (now file)) × (128 ≤ length (now counts)) × (4096 ≤ length (now legs)) ⌝ }
+    ensures { λ r. ⌜ ((w o : List ℕ) → Sound (now (file .entry)) s (lists w (now (counts .entry)) (now (legs .entry)) o) → Taken (now (file .entry)) (at + n) r (lists w (now (counts .exit)) (now (legs .exit)) o) (takeLeaf (netIn s (lists w (now (counts .entry)) (now (legs .entry)) o)) (part (now (file .entry)) at n))) ⌝ }
+{
+    let end = at + n;
+    let payload = &file[at..end];
+    let m = s.index_count;
+    let leaf = s.leaf_count;
+    let code = payloads::check_leaf(payload, m, leaf);
+    if code != refusal::NONE {
+        return Scan::stopped(code);
+    }
+    cells::put8(counts, leaf, n as u8);
+    payloads::place(legs, leaf * Network::LEGS, payload);
+    Scan::bare(due::LEAVES, end, m, leaf + 1, 0)
+}
+
+fn take_outputs(s: Scan, file: &[u8], at: usize, n: usize, outputs: &mut [u16]) -> Scan
+    requires { ⌜ (at + n ≤ length (now file)) × (32 ≤ length (now outputs)) ⌝ }
+    ensures { λ r. ⌜ ((w c l : List ℕ) → Sound (now (file .entry)) s (lists w c l (now (outputs .entry))) → Taken (now (file .entry)) (at + n) r (lists w c l (now (outputs .exit))) (takeOutputs (netIn s (lists w c l (now (outputs .entry)))) (part (now (file .entry)) at n))) ⌝ }
+{
+    let end = at + n;
+    let payload = &file[at..end];
+    let m = s.index_count;
+    let code = payloads::check_outputs(payload, m);
+    if code != refusal::NONE {
+        return Scan::stopped(code);
+    }
+    payloads::place(outputs, 0, payload);
+    Scan::bare(due::TREE, end, m, s.leaf_count, n)
+}
+
+fn take_flags(s: Scan, file: &[u8], at: usize, n: usize) -> Scan
+    requires { ⌜ at + n ≤ length (now file) ⌝ }
+    ensures { λ r. ⌜ ((l : Lists) → Sound (now (file .entry)) s l → Taken (now (file .entry)) (at + n) r l (takeFlags (netIn s l) (treeIn (now (file .entry)) (s .«has_tree») (s .«tree_at») (s .«tree_len»)) (part (now (file .entry)) at n))) ⌝ }
+{
+    let end = at + n;
+    let payload = &file[at..end];
+    let code = payloads::check_flags(payload, s.index_count);
+    if code != refusal::NONE {
+        return Scan::stopped(code);
+    }
+    s.asking(ask::FLAGGED, at, n, end)
+}
+
+fn take_target(s: Scan, file: &[u8], at: usize, n: usize) -> Scan
+    requires { ⌜ at + n ≤ length (now file) ⌝ }
+    ensures { λ r. ⌜ ((l : Lists) → Sound (now (file .entry)) s l → Taken (now (file .entry)) (at + n) r l (takeTarget (netIn s l) (treeIn (now (file .entry)) (s .«has_tree») (s .«tree_at») (s .«tree_len»)) (part (now (file .entry)) at n))) ⌝ }
+{
+    if n != 1 {
+        return Scan::stopped(refusal::TOO_LARGE);
+    }
+    let end = at + n;
+    s.asking(ask::TARGET, at, n, end)
 }
