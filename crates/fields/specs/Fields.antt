@@ -14,17 +14,18 @@ use Rattle.spec.specs.Memory.{placed}
 use Rattle.spec.specs.Refusal.{Refusal, tooLarge, codeOf, Result, refused, done, decide}
 use Rattle.spec.specs.Network.{Network, leafCount, indexCount}
 use Rattle.spec.specs.Layout.{networkOf, firsts}
-use Rattle.spec.specs.File.{plain, flagged, target, Due, leavesDue, treeDue, endDue, Reading, indexBytes, takeWeights, takeLeaf, takeOutputs, takeFlags, takeTarget}
+use Rattle.spec.specs.File.{plain, flagged, target, Due, leavesDue, treeDue, askDue, endDue, Reading, indexBytes, takeWeights, takeLeaf, takeOutputs, takeTree, takeFlags, takeTarget}
 use Rattle.laws.specs.Booleans.{by-cases, or-none}
 use Rattle.network.specs.Layouts.{layout-leaf-count, layout-index-count, layout-more-leaves, firsts-whole}
-use Rattle.payloads.specs.Payload.{weightsRefusal, leafRefusal, outputsRefusal, flagsRefusal}
+use Rattle.payloads.specs.Payload.{weightsRefusal, leafRefusal, outputsRefusal, treeRefusal, flagsRefusal}
 use Rattle.fields.specs.Coded.{Coded, number, value, coded, unless, decided-no, decided-yes, decided-none}
 use Rattle.fields.specs.Steps.{part}
-use Rattle.fields.specs.Scans.{stopped, bare, asking, treeIn, Lists, lists, netIn, readingIn}
+use Rattle.fields.specs.Scans.{stopped, bare, withTree, asking, treeIn, Lists, lists, netIn, readingIn}
 use Rattle.fields.specs.declared.Scan.{Scan}
 
--- what is kept from field to field: no leaf has more than 32 indices, and the payloads that a scan points to are parts of the file
+-- what is kept from field to field: at most 128 leaves, of at most 32 indices each, and payloads that are parts of the file
 pub record Sound (file : List ℕ) (s : Scan) (l : Lists) : Type 0 where
+  pub leaves : s .«leaf_count» ≤ 128
   pub few : (i : ℕ) → i < s .«leaf_count» → getD (l .counts) i 0 ≤ 32
   pub tree : s .«tree_at» + s .«tree_len» ≤ length file
   pub ask : s .«ask_at» + s .«ask_len» ≤ length file
@@ -43,7 +44,7 @@ module _ (file : List ℕ) (end : ℕ) (l : Lists) where
   taken-not (suc k) o y R n e q =
       record {
         says = decided-no o k (value (readingIn file (stopped (suc k)) l)) y e ∙ ap coded (sym q);
-        sound = record { few = λ i h. absurd (omega arith); tree = omega arith; ask = omega arith };
+        sound = record { leaves = omega arith; few = λ i h. absurd (omega arith); tree = omega arith; ask = omega arith };
         next = λ z. absurd (omega arith);
       }
 
@@ -123,6 +124,11 @@ module _ (p : List ℕ) where
   unfolding outputsRefusal
   outputs-fit m e = ltb-false 32 (length p) (cond-none (ltb 32 (length p)) tooLarge _ (decided-none (outputsRefusal m p) e))
 
+  pub tree-decide : (N : Network) (k : ℕ) → leafCount N ≡ k
+      → takeTree N p ≡ decide (treeRefusal k p) (done (record { due = askDue; read = record { network = N; tree = some p; ask = plain } }))
+  unfolding treeRefusal
+  tree-decide N k a = ap (λ i. decide (treeRefusal i p) (done (record { due = askDue; read = record { network = N; tree = some p; ask = plain } }))) a
+
   pub flags-decide : (N : Network) (tree : Option (List ℕ)) (m : ℕ) → indexCount N ≡ m
       → takeFlags N tree p ≡ decide (flagsRefusal m p) (done (record { due = endDue; read = record { network = N; tree = tree; ask = flagged p } }))
   unfolding flagsRefusal
@@ -147,7 +153,7 @@ module _ (file : List ℕ) (at n : ℕ) (h : at + n ≤ length file) where
       let q : firsts n (placed weights 0 p) ≡ p = ap (λ k. firsts k (placed weights 0 p)) (sym (part-length file at n h)) ∙ firsts-whole weights p (omega arith) in
       taken-yes file (at + n) (lists (placed weights 0 p) counts cells outputs) (bare 1 (at + n) n 0 0) (weightsRefusal p)
       (after leavesDue (record { leaves = []; outputs = []; weights = p })) (takeWeights p) refl refl
-      (record { few = λ i k. absurd (omega arith); tree = omega arith; ask = omega arith }) e (weights-decide p)
+      (record { leaves = omega arith; few = λ i k. absurd (omega arith); tree = omega arith; ask = omega arith }) e (weights-decide p)
       (ap (λ l. after leavesDue (record { leaves = []; outputs = []; weights = l })) q)
 
   module _ (s : Scan) (weights counts cells outputs : List ℕ) (t : Sound file s (lists weights counts cells outputs)) where
@@ -177,7 +183,7 @@ module _ (file : List ℕ) (at n : ℕ) (h : at + n ≤ length file) where
         = ap (λ i. networkOf m (k + 1) 0 weights (set counts k i) (placed cells (k * 32) p) outputs) (sym z)
         ∙ layout-more-leaves m k 0 weights counts cells outputs p (t .few) (omega arith) (omega arith) f in
         taken-yes file (at + n) l (bare 1 (at + n) m (k + 1) 0) (leafRefusal m k p) (after leavesDue N′) (takeLeaf N p) refl refl
-        (record { few = few-more (omega arith) (omega arith); tree = omega arith; ask = omega arith }) e
+        (record { leaves = omega arith; few = few-more (omega arith) (omega arith); tree = omega arith; ask = omega arith }) e
         (leaf-decide p N m k (index-count s (lists weights counts cells outputs)) (leaf-count s (lists weights counts cells outputs)))
         (ap (after leavesDue) q)
 
@@ -195,18 +201,26 @@ module _ (file : List ℕ) (at n : ℕ) (h : at + n ≤ length file) where
         let q : firsts n (placed outputs 0 p) ≡ p = ap (λ i. firsts i (placed outputs 0 p)) (sym z) ∙ firsts-whole outputs p (omega arith) in
         taken-yes file (at + n) (lists weights counts cells (placed outputs 0 p)) (bare 2 (at + n) m k n) (outputsRefusal m p)
         (after treeDue (record { leaves = N .leaves; outputs = p; weights = N .weights })) (takeOutputs N p) refl refl
-        (record { few = t .few; tree = omega arith; ask = omega arith }) e
+        (record { leaves = t .leaves; few = t .few; tree = omega arith; ask = omega arith }) e
         (outputs-decide p N m (index-count s (lists weights counts cells outputs)))
         (ap (λ l. after treeDue (record { leaves = N .leaves; outputs = l; weights = N .weights })) q)
 
   module _ (s : Scan) (l : Lists) (t : Sound file s l) where
+    pub tree-taken : 0 ≡ codeOf (treeRefusal (s .«leaf_count») (part file at n))
+        → Taken file (at + n) (withTree s at n (at + n)) l (takeTree (netIn s l) (part file at n))
+    unfolding netIn
+    tree-taken e =
+        taken-yes file (at + n) l (withTree s at n (at + n)) (treeRefusal (s .«leaf_count») (part file at n)) (readingIn file (withTree s at n (at + n)) l) _ refl refl
+        (record { leaves = t .leaves; few = t .few; tree = h; ask = omega arith }) e
+        (tree-decide (part file at n) (netIn s l) (s .«leaf_count») (leaf-count s l)) refl
+
     pub flags-taken : 0 ≡ codeOf (flagsRefusal (s .«index_count») (part file at n))
         → Taken file (at + n) (asking s 1 at n (at + n)) l (takeFlags (netIn s l) (treeIn file (s .«has_tree») (s .«tree_at») (s .«tree_len»)) (part file at n))
     unfolding netIn
     flags-taken e =
         taken-yes file (at + n) l (asking s 1 at n (at + n)) (flagsRefusal (s .«index_count») (part file at n))
         (readingIn file (asking s 1 at n (at + n)) l) _ refl refl
-        (record { few = t .few; tree = t .tree; ask = h }) e
+        (record { leaves = t .leaves; few = t .few; tree = t .tree; ask = h }) e
         (flags-decide (part file at n) (netIn s l) (treeIn file (s .«has_tree») (s .«tree_at») (s .«tree_len»)) (s .«index_count») (index-count s l)) refl
 
     pub target-taken : n ≡ 1
@@ -215,5 +229,5 @@ module _ (file : List ℕ) (at n : ℕ) (h : at + n ≤ length file) where
     target-taken e =
         let q : part file at n ≡ getD file at 0 ∷ [] = ap₂ take e (drop-cons file at 0 (omega arith)) in
         taken-yes file (at + n) l (asking s 2 at n (at + n)) none (readingIn file (asking s 2 at n (at + n)) l) _ refl refl
-        (record { few = t .few; tree = t .tree; ask = h }) refl
+        (record { leaves = t .leaves; few = t .few; tree = t .tree; ask = h }) refl
         (ap (takeTarget (netIn s l) (treeIn file (s .«has_tree») (s .«tree_at») (s .«tree_len»))) q) refl

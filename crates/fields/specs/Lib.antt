@@ -3,3 +3,4 @@ pub mod Coded
 pub mod Steps
 pub mod Scans
 pub mod Fields
+pub mod Whole

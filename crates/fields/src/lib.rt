@@ -3,13 +3,15 @@ ghost use mathlib.Core.Path.{_≡_};
 ghost use mathlib.Core.List.{List};
 ghost use Prim.Native.Nat.{ℕ, _+_, _≤_, _<_};
 ghost use lib.ListN.{length};
-ghost use Rattle.spec.specs.File.{allowed, takeWeights, takeLeaf, takeOutputs, takeTree, takeFlags, takeTarget};
+ghost use Rattle.spec.specs.File.{allowed, takeWeights, takeLeaf, takeOutputs, takeTree, takeFlags, takeTarget, takeField};
 ghost use Rattle.fields.specs.Steps.{part};
-ghost use Rattle.fields.specs.Scans.{dueOf, stopped, bare, withTree, asking, Lists, lists, netIn, treeIn};
+ghost use Rattle.fields.specs.Scans.{dueOf, stopped, bare, withTree, asking, Lists, lists, netIn, treeIn, readingIn};
 ghost use Rattle.fields.specs.Fields.{Sound, Taken};
+ghost use Rattle.fields.specs.Whole.{Room, Stepped, Finished};
 
 pub mod ask; // ask.rt: what a file asks, as a number
 pub mod due; // due.rt: what may stand next, as a number
+
 use network::Network;
 use network::refusal;
 use payloads::tags;
@@ -179,6 +181,19 @@ fn take_outputs(s: Scan, file: &[u8], at: usize, n: usize, outputs: &mut [u16]) 
     Scan::bare(due::TREE, end, m, s.leaf_count, n)
 }
 
+fn take_tree(s: Scan, file: &[u8], at: usize, n: usize) -> Scan
+    requires { ⌜ (at + n ≤ length (now file)) × (s .«leaf_count» ≤ 128) ⌝ }
+    ensures { λ r. ⌜ ((l : Lists) → Sound (now (file .entry)) s l → Taken (now (file .entry)) (at + n) r l (takeTree (netIn s l) (part (now (file .entry)) at n))) ⌝ }
+{
+    let end = at + n;
+    let payload = &file[at..end];
+    let code = payloads::check_tree(payload, s.leaf_count);
+    if code != refusal::NONE {
+        return Scan::stopped(code);
+    }
+    s.with_tree(at, n, end)
+}
+
 fn take_flags(s: Scan, file: &[u8], at: usize, n: usize) -> Scan
     requires { ⌜ at + n ≤ length (now file) ⌝ }
     ensures { λ r. ⌜ ((l : Lists) → Sound (now (file .entry)) s l → Taken (now (file .entry)) (at + n) r l (takeFlags (netIn s l) (treeIn (now (file .entry)) (s .«has_tree») (s .«tree_at») (s .«tree_len»)) (part (now (file .entry)) at n))) ⌝ }
@@ -201,4 +216,82 @@ fn take_target(s: Scan, file: &[u8], at: usize, n: usize) -> Scan
     }
     let end = at + n;
     s.asking(ask::TARGET, at, n, end)
+}
+
+// The payload of a field whose tag is allowed.
+fn take_payload(
+    s: Scan,
+    tag: u8,
+    file: &[u8],
+    at: usize,
+    n: usize,
+    weights: &mut [u8],
+    counts: &mut [u8],
+    legs: &mut [u16],
+    outputs: &mut [u16],
+) -> Scan
+    requires { ⌜ (at + n ≤ length (now file)) × Room (now weights) (now counts) (now legs) (now outputs) × Sound (now file) s (lists (now weights) (now counts) (now legs) (now outputs)) ⌝ }
+    ensures { λ r. ⌜ Taken (now (file .entry)) (at + n) r (lists (now (weights .exit)) (now (counts .exit)) (now (legs .exit)) (now (outputs .exit))) (takeField (readingIn (now (file .entry)) s (lists (now (weights .entry)) (now (counts .entry)) (now (legs .entry)) (now (outputs .entry)))) tag (part (now (file .entry)) at n)) ⌝ }
+{
+    match tag {
+        tags::WEIGHTS => take_weights(file, at, n, weights),
+        tags::LEAF => take_leaf(s, file, at, n, counts, legs),
+        tags::OUTPUTS => take_outputs(s, file, at, n, outputs),
+        tags::TREE => take_tree(s, file, at, n),
+        tags::FLAGS => take_flags(s, file, at, n),
+        _ => take_target(s, file, at, n),
+    }
+}
+
+// One field: header, tag, payload all there, and then what its payload says.
+fn take_field(
+    s: Scan,
+    file: &[u8],
+    weights: &mut [u8],
+    counts: &mut [u8],
+    legs: &mut [u16],
+    outputs: &mut [u16],
+) -> Scan
+    requires { ⌜ (s .at < length (now file)) × Room (now weights) (now counts) (now legs) (now outputs) × Sound (now file) s (lists (now weights) (now counts) (now legs) (now outputs)) ⌝ }
+    ensures { λ r. ⌜ Stepped (now (file .entry)) s (lists (now (weights .entry)) (now (counts .entry)) (now (legs .entry)) (now (outputs .entry))) r (lists (now (weights .exit)) (now (counts .exit)) (now (legs .exit)) (now (outputs .exit))) ⌝ }
+{
+    let at = s.at;
+    let left = file.len() - at;
+    if left < 3 {
+        return Scan::stopped(refusal::TRUNCATED);
+    }
+    let tag = file[at];
+    if !tag_allowed(s.due, tag) {
+        return Scan::stopped(refusal::WRONG_TAG);
+    }
+    let n = cells::at8(file, at + 1) * 256 + cells::at8(file, at + 2);
+    if left - 3 < n {
+        return Scan::stopped(refusal::TRUNCATED);
+    }
+    take_payload(s, tag, file, at + 3, n, weights, counts, legs, outputs)
+}
+
+// Reads the file into the lists, field after field, until one is refused or the file ends.
+pub fn read_fields(
+    file: &[u8],
+    weights: &mut [u8],
+    counts: &mut [u8],
+    legs: &mut [u16],
+    outputs: &mut [u16],
+) -> Scan
+    requires { ⌜ Room (now weights) (now counts) (now legs) (now outputs) ⌝ }
+    ensures { λ r. ⌜ Finished (now (file .entry)) r (lists (now (weights .exit)) (now (counts .exit)) (now (legs .exit)) (now (outputs .exit))) ⌝ }
+{
+    let mut s = Scan::stopped(refusal::NONE);
+    while s.at < file.len() {
+        let next = take_field(s, file, weights, counts, legs, outputs);
+        if next.refusal != refusal::NONE {
+            return next;
+        }
+        s = next;
+    }
+    if s.due < due::TREE {
+        return Scan::stopped(refusal::TRUNCATED);
+    }
+    s
 }

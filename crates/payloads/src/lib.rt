@@ -8,6 +8,7 @@ ghost use Rattle.spec.specs.File.{indexBytes};
 ghost use Rattle.payloads.specs.Payload.{weightsRefusal, leafRefusal, outputsRefusal, treeRefusal, flagsRefusal};
 
 pub mod tags; // tags.rt: the tags of the fields
+
 use network::Network;
 use network::refusal;
 use network::scan;
