@@ -1,0 +1,219 @@
+-- What is claimed of the network file. Definitions only; proofs in FileFormat, FileDecisions and FileLists of laws. Assumes nothing.
+use mathlib.Core.Bool.{true, false, cond}
+use mathlib.Core.List.{List, [], _∷_, _++_, map}
+use mathlib.Core.Logic.{_↔_}
+use mathlib.Core.Option.{Option, none, some}
+use mathlib.Core.Path.{_≡_}
+use Prim.Native.Nat.{ℕ, suc, _+_, _*_, _%_, _≤_, _<_}
+use lib.ListN.{length, getD, take, drop}
+use Rattle.spec.specs.Lists.{memb, from}
+use Rattle.spec.specs.Members.{All}
+use Rattle.spec.specs.Refusal.{Refusal, truncated, wrongTag, tooLarge, shortBuffer, numberOf, Result, refused, done}
+use Rattle.spec.specs.Network.{Network, leafCount, indexCount, accepted}
+use Rattle.spec.specs.Tree.{valid, pairsOf}
+use Rattle.spec.specs.Calls.{treePlaces, treeCheck, flagsCheck, flagAt}
+use Rattle.spec.specs.CallClaims.{numbersOf}
+use Rattle.spec.specs.File.{Ask, plain, flagged, target, Contents, field, fileOf, Due, allowed, mayEnd, Reading, headerChecks, weightsChecks, indexChecks, leafChecks, outputsChecks, takeTarget, takeField, readFields, readOf, treeWritten, flagsWritten, writeChecks, writeOf, bufferAfter}
+
+-- ---- the format, stated without a reader ----
+
+abbrev pub Bytes : List ℕ → Type 0
+Bytes l = All (λ b. b < 256) l
+
+abbrev pub LawfulTree : Network → Option (List ℕ) → Type 0
+LawfulTree N none = Unit {0}
+LawfulTree N (some kids) = (length kids % 2 ≡ 0) × (valid (leafCount N) (pairsOf kids) ≡ true)
+
+abbrev pub LawfulAsk : Network → Ask → Type 0
+LawfulAsk N plain = Unit {0}
+LawfulAsk N (flagged l) = (length l ≤ indexCount N) × All (λ b. b ≤ 1) l
+LawfulAsk N (target w) = w < 256
+
+-- an accepted network; its tree, if there is one, valid; flags 0 or 1 and no more than indices; a target of one byte
+pub record Lawful (c : Contents) : Type 0 where
+  pub network : accepted (c .network) ≡ true
+  pub tree : LawfulTree (c .network) (c .tree)
+  pub ask : LawfulAsk (c .network) (c .ask)
+
+-- the files of the format
+abbrev pub InFormat : List ℕ → Type 0
+InFormat file = (c : Contents) × Lawful c × (file ≡ fileOf c)
+
+-- the lists that are lent have room for what the contents fill
+abbrev pub RoomForTree : Network → ℕ → Option (List ℕ) → Type 0
+RoomForTree N places none = Unit {0}
+RoomForTree N places (some kids) = treePlaces N ≤ places
+
+abbrev pub RoomForFlags : Network → ℕ → Ask → Type 0
+RoomForFlags N flagPlaces plain = Unit {0}
+RoomForFlags N flagPlaces (flagged l) = indexCount N ≤ flagPlaces
+RoomForFlags N flagPlaces (target w) = Unit {0}
+
+abbrev pub Room : ℕ → ℕ → Contents → Type 0
+Room places flagPlaces c = RoomForTree (c .network) places (c .tree) × RoomForFlags (c .network) flagPlaces (c .ask)
+
+-- ---- reading and writing ----
+
+-- A file of bytes is read as c exactly if it is the file of c, c is lawful, and the lists have room. So what is written is read back.
+abbrev pub ReadsJust : Type 0
+ReadsJust =
+    (places flagPlaces : ℕ) (file : List ℕ) (c : Contents) → Bytes file
+    → (readOf places flagPlaces file ≡ done c) ↔ (Lawful c × Room places flagPlaces c × (file ≡ fileOf c))
+
+-- with lists that are long enough for every network the reader accepts the files of the format and no others
+abbrev pub AcceptsFormat : Type 0
+AcceptsFormat =
+    (places flagPlaces : ℕ) (file : List ℕ) → 254 ≤ places → 256 ≤ flagPlaces → Bytes file
+    → ((c : Contents) × (readOf places flagPlaces file ≡ done c)) ↔ InFormat file
+
+-- 7 exactly if the file is in the format and a list that it fills is too short
+abbrev pub ShortLists : Type 0
+ShortLists =
+    (places flagPlaces : ℕ) (file : List ℕ) → Bytes file
+    → (readOf places flagPlaces file ≡ refused shortBuffer) ↔ ((c : Contents) × Lawful c × (file ≡ fileOf c) × (Room places flagPlaces c → ⊥))
+
+-- the file of lawful contents is one of bytes, and says what the contents are
+abbrev pub FilesAreBytes : Type 0
+FilesAreBytes = (c : Contents) → Lawful c → Bytes (fileOf c)
+
+abbrev pub OneMeaning : Type 0
+OneMeaning = (c d : Contents) → Lawful c → Lawful d → fileOf c ≡ fileOf d → c ≡ d
+
+-- the writer's answer, for contents whose target, if any, is a byte
+abbrev pub TargetIsByte : Ask → Type 0
+TargetIsByte plain = Unit {0}
+TargetIsByte (flagged l) = Unit {0}
+TargetIsByte (target w) = w < 256
+
+abbrev pub WritesLawful : Type 0
+WritesLawful =
+    (c : Contents) (size cursor next : ℕ) → TargetIsByte (c .ask)
+    → (writeOf c size cursor ≡ done next) ↔ (Lawful c × (next ≡ cursor + length (fileOf c)) × (next ≤ size))
+
+-- "An accepted file read and then written gives the same bytes, index order in each leaf included." The bytes go from the cursor on, and
+-- all others stay.
+pub record Rewritten (file : List ℕ) (c : Contents) : Type 0 where
+  pub same : fileOf c ≡ file
+  pub answer : (size cursor : ℕ) → cursor + length file ≤ size → writeOf c size cursor ≡ done (cursor + length file)
+  pub buffer : (out : List ℕ) (cursor : ℕ) → cursor + length file ≤ length out
+      → bufferAfter c cursor (writeOf c (length out) cursor) out ≡ take cursor out ++ (file ++ drop (cursor + length file) out)
+
+abbrev pub ReadThenWritten : Type 0
+ReadThenWritten =
+    (places flagPlaces : ℕ) (file : List ℕ) (c : Contents) → Bytes file → readOf places flagPlaces file ≡ done c → Rewritten file c
+
+-- ---- the lists that the reader fills ----
+
+-- The tree's list starts with the file's tree. Of the flags' list each index has the byte that the file gives it, or 0; so it says of each
+-- index what the file's flags say. All other places stay, and without a tree, or flags, the list stays.
+pub record TreeFilled (c : Contents) (l : List ℕ) : Type 0 where
+  pub given : (kids : List ℕ) → c .tree ≡ some kids → treeWritten c l ≡ kids ++ drop (treePlaces (c .network)) l
+  pub absent : c .tree ≡ none → treeWritten c l ≡ l
+
+pub record FlagsFilled (c : Contents) (l : List ℕ) : Type 0 where
+  pub byte : (f : List ℕ) → c .ask ≡ flagged f → (j : ℕ) → j < indexCount (c .network) → getD (flagsWritten c l) j 0 ≡ getD f j 0
+  pub test : (f : List ℕ) → c .ask ≡ flagged f → (j : ℕ) → j < indexCount (c .network) → flagAt (flagsWritten c l) j ≡ flagAt f j
+  pub past : drop (indexCount (c .network)) (flagsWritten c l) ≡ drop (indexCount (c .network)) l
+  pub kept : length (flagsWritten c l) ≡ length l
+  pub absent : ((f : List ℕ) → c .ask ≡ flagged f → ⊥) → flagsWritten c l ≡ l
+
+abbrev pub FillsLists : Type 0
+FillsLists =
+    (kids flags file : List ℕ) (c : Contents) → Bytes file → readOf (length kids) (length flags) file ≡ done c
+    → TreeFilled c kids × FlagsFilled c flags
+
+-- ---- "The file is checked field by field": the first condition that holds decides ----
+
+-- what the reader answers from a place of the file on
+abbrev pub readFrom : Reading → List ℕ → Result Contents
+readFrom s bytes = readFields (suc (length bytes)) s bytes
+
+-- the bytes are whole fields, each allowed at its place and taken, which lead from one state to another
+pub data ReadWell : Reading → List ℕ → Reading → Type 0 where
+  none-left : {s : Reading} → ReadWell s [] s
+  one-more : {s s′ s″ : Reading} {bytes : List ℕ} (t : ℕ) (l : List ℕ) → allowed (s .due) t ≡ true → takeField s t l ≡ done s′ → ReadWell s′ bytes s″
+      → ReadWell s (field t l ++ bytes) s″
+
+-- fields that are read well leave the decision to the rest of the file
+abbrev pub RestDecides : Type 0
+RestDecides = (s s′ : Reading) (fields rest : List ℕ) → ReadWell s fields s′ → readFrom s (fields ++ rest) ≡ readFrom s′ rest
+
+-- the next field: three header bytes, else 1; then the tag, else 2; then the payload all there, else 1; then the payload's own conditions
+pub record NextField (s : Reading) : Type 0 where
+  pub ended : readFrom s [] ≡ cond (mayEnd (s .due)) (done (s .read)) (refused truncated)
+  pub oneByte : (t : ℕ) → readFrom s (t ∷ []) ≡ refused truncated
+  pub twoBytes : (t high : ℕ) → readFrom s (t ∷ high ∷ []) ≡ refused truncated
+  pub tag : (t high low : ℕ) (bytes : List ℕ) → allowed (s .due) t ≡ false → readFrom s (t ∷ high ∷ low ∷ bytes) ≡ refused wrongTag
+  pub payload : (t high low : ℕ) (bytes : List ℕ) → allowed (s .due) t ≡ true → length bytes < high * 256 + low
+      → readFrom s (t ∷ high ∷ low ∷ bytes) ≡ refused truncated
+  pub own : (t high low : ℕ) (bytes : List ℕ) (r : Refusal) → allowed (s .due) t ≡ true → high * 256 + low ≤ length bytes
+      → takeField s t (take (high * 256 + low) bytes) ≡ refused r → readFrom s (t ∷ high ∷ low ∷ bytes) ≡ refused r
+
+abbrev pub DecidesInOrder : Type 0
+DecidesInOrder = (s : Reading) → NextField s
+
+-- the same numbers once for each byte
+abbrev pub forEach : List ℕ → List ℕ → List ℕ
+forEach numbers [] = []
+forEach numbers (b ∷ l) = numbers ++ forEach numbers l
+
+-- which refusals a field's conditions bring, in which order, whatever it has
+pub record FieldNumbers (N : Network) : Type 0 where
+  pub header : (due : Due) (t n there : ℕ) → numbersOf (headerChecks due t n there) ≡ 2 ∷ 1 ∷ []
+  pub weights : (l : List ℕ) → numbersOf (weightsChecks l) ≡ 3 ∷ 4 ∷ []
+  pub leaf : (l : List ℕ) → numbersOf (leafChecks N l) ≡ 3 ∷ forEach (5 ∷ 6 ∷ []) l
+  pub outputs : (l : List ℕ) → numbersOf (outputsChecks N l) ≡ 3 ∷ forEach (5 ∷ 6 ∷ []) l
+  pub tree : (kids : List ℕ) → numbersOf (treeCheck N kids ∷ []) ≡ 8 ∷ []
+  pub flags : (l : List ℕ) → numbersOf (flagsCheck N l ∷ []) ≡ 9 ∷ []
+  pub notOneByte : (given : Option (List ℕ)) (l : List ℕ) → (length l ≡ 1 → ⊥) → takeTarget N given l ≡ refused tooLarge
+
+abbrev pub FieldsByNumber : Type 0
+FieldsByNumber = (N : Network) → FieldNumbers N
+
+-- no bytes that follow change a refusal by 2, 3, 4, 5, 6, 8 or 9
+abbrev pub StaysRefused : Type 0
+StaysRefused =
+    (places flagPlaces : ℕ) (file more : List ℕ) (r : Refusal) → memb (numberOf r) (2 ∷ 3 ∷ 4 ∷ 5 ∷ 6 ∷ 8 ∷ 9 ∷ []) ≡ true
+    → readOf places flagPlaces file ≡ refused r → readOf places flagPlaces (file ++ more) ≡ refused r
+
+-- the reader refuses by no other numbers than 1 to 9, and by each of them
+abbrev pub RefusesUpTo9 : Type 0
+RefusesUpTo9 = (places flagPlaces : ℕ) (file : List ℕ) (r : Refusal) → readOf places flagPlaces file ≡ refused r → numberOf r ≤ 9
+
+abbrev pub ofResult : {A : Type 0} → Result A → ℕ
+ofResult (refused r) = numberOf r
+ofResult (done x) = 0
+
+abbrev pub EachReached : Type 0
+EachReached = (files : List (List ℕ)) × All Bytes files × (map (λ l. ofResult (readOf 0 0 l)) files ≡ from 1 9)
+
+-- the writer: "Other calls check by number"
+pub record WriterNumbers (N : Network) (size cursor : ℕ) : Type 0 where
+  pub alone : numbersOf (writeChecks (record { network = N; tree = none; ask = plain }) size cursor) ≡ from 3 5
+  pub withTree : (kids : List ℕ) → numbersOf (writeChecks (record { network = N; tree = some kids; ask = plain }) size cursor) ≡ from 3 6
+  pub withFlags : (l : List ℕ) → numbersOf (writeChecks (record { network = N; tree = none; ask = flagged l }) size cursor) ≡ 3 ∷ 4 ∷ 5 ∷ 6 ∷ 7 ∷ 9 ∷ []
+  pub withBoth : (kids l : List ℕ) → numbersOf (writeChecks (record { network = N; tree = some kids; ask = flagged l }) size cursor) ≡ from 3 7
+  pub withTarget : (given : Option (List ℕ)) (w : ℕ)
+      → numbersOf (writeChecks (record { network = N; tree = given; ask = target w }) size cursor)
+      ≡ numbersOf (writeChecks (record { network = N; tree = given; ask = plain }) size cursor)
+
+abbrev pub WriterByNumber : Type 0
+WriterByNumber = (N : Network) (size cursor : ℕ) → WriterNumbers N size cursor
+
+-- all of it
+pub record FileClaims : Type 0 where
+  pub readsJust : ReadsJust
+  pub acceptsFormat : AcceptsFormat
+  pub shortLists : ShortLists
+  pub filesAreBytes : FilesAreBytes
+  pub oneMeaning : OneMeaning
+  pub writesLawful : WritesLawful
+  pub readThenWritten : ReadThenWritten
+  pub fillsLists : FillsLists
+  pub restDecides : RestDecides
+  pub decidesInOrder : DecidesInOrder
+  pub fieldsByNumber : FieldsByNumber
+  pub staysRefused : StaysRefused
+  pub refusesUpTo9 : RefusesUpTo9
+  pub eachReached : EachReached
+  pub writerByNumber : WriterByNumber
