@@ -1,6 +1,6 @@
 -- The network file is checked field by field, and the first condition that holds decides. Assumes nothing.
 use mathlib.Core.Path.{_≡_, refl, sym, ap, ap₂, _∙_, subst, fun-ext}
-use mathlib.Core.Bool.{Bool, true, false, not, _||_, cond}
+use mathlib.Core.Bool.{Bool, true, false, cond, true≢false}
 use mathlib.Core.List.{List, [], _∷_, _++_, append-assoc}
 use mathlib.Core.Option.{Option, none, some}
 use Prim.Native.Nat.{ℕ, zero, suc, _+_, _*_, _/_, _%_, _≤_, _<_}
@@ -172,8 +172,8 @@ refusal-cases {P = P} places flagPlaces file r e f g = go (readFrom nothingRead 
         (λ b. g c q b (sym (refused-same shortBuffer r (rw b at h))))
         (λ b. not-done r c (sym (rw b at h)))
 
-of-fields-7 : (r : Refusal) → ofFields r ≡ true → r ≡ shortBuffer → ⊥
-of-fields-7 r h e = clash h (ap ofFields e)
+pub fields-no-7 : (file : List ℕ) → readFrom nothingRead file ≡ refused shortBuffer → ⊥
+fields-no-7 file e = true≢false (sym (subst OfFields e (fields-of (suc (length file)) nothingRead file)))
 
 all-le : (r : Refusal) → ofFields r ≡ true → numberOf r ≤ 9
 all-le r h = all-in (λ k. k ≤ 9) (numberOf r) (1 ∷ 2 ∷ 3 ∷ 4 ∷ 5 ∷ 6 ∷ 8 ∷ 9 ∷ []) (omega arith) (memb-in (numberOf r) _ h)
