@@ -104,23 +104,27 @@ ReadThenWritten =
 
 -- ---- the lists that the reader fills ----
 
--- The tree's list starts with the file's tree. Of the flags' list each index has the byte that the file gives it, or 0; so it says of each
--- index what the file's flags say. All other places stay, and without a tree, or flags, the list stays.
-pub record TreeFilled (c : Contents) (l : List ℕ) : Type 0 where
-  pub given : (kids : List ℕ) → c .tree ≡ some kids → treeWritten c l ≡ kids ++ drop (treePlaces (c .network)) l
-  pub absent : c .tree ≡ none → treeWritten c l ≡ l
+-- the tree's list starts with the file's tree, if it has one, and all else stays
+abbrev pub TreeLeft : Option (List ℕ) → List ℕ → List ℕ → Type 0
+TreeLeft none list after = after ≡ list
+TreeLeft (some kids) list after = after ≡ kids ++ drop (length kids) list
 
-pub record FlagsFilled (c : Contents) (l : List ℕ) : Type 0 where
-  pub byte : (f : List ℕ) → c .ask ≡ flagged f → (j : ℕ) → j < indexCount (c .network) → getD (flagsWritten c l) j 0 ≡ getD f j 0
-  pub test : (f : List ℕ) → c .ask ≡ flagged f → (j : ℕ) → j < indexCount (c .network) → flagAt (flagsWritten c l) j ≡ flagAt f j
-  pub past : drop (indexCount (c .network)) (flagsWritten c l) ≡ drop (indexCount (c .network)) l
-  pub kept : length (flagsWritten c l) ≡ length l
-  pub absent : ((f : List ℕ) → c .ask ≡ flagged f → ⊥) → flagsWritten c l ≡ l
+-- of m indices each has the byte that the file's flags f give it, or 0, and so is flagged just if f flags it; all else stays
+pub record Flagged (m : ℕ) (f list after : List ℕ) : Type 0 where
+  pub byte : (j : ℕ) → j < m → getD after j 0 ≡ getD f j 0
+  pub test : (j : ℕ) → j < m → flagAt after j ≡ flagAt f j
+  pub past : drop m after ≡ drop m list
+  pub length : length after ≡ length list
+
+abbrev pub FlagsLeft : ℕ → Ask → List ℕ → List ℕ → Type 0
+FlagsLeft m plain list after = after ≡ list
+FlagsLeft m (flagged f) list after = Flagged m f list after
+FlagsLeft m (target w) list after = after ≡ list
 
 abbrev pub FillsLists : Type 0
 FillsLists =
     (kids flags file : List ℕ) (c : Contents) → Bytes file → readOf (length kids) (length flags) file ≡ done c
-    → TreeFilled c kids × FlagsFilled c flags
+    → TreeLeft (c .tree) kids (treeWritten c kids) × FlagsLeft (indexCount (c .network)) (c .ask) flags (flagsWritten c flags)
 
 -- ---- "The file is checked field by field": the first condition that holds decides ----
 
