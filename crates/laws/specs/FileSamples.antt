@@ -4,9 +4,11 @@ use mathlib.Core.Option.{none, some}
 use mathlib.Core.Path.{_≡_, refl}
 use Prim.Native.Nat.{ℕ}
 use lib.ListN.{replicate}
-use Rattle.spec.specs.Refusal.{numberOf, Result, refused, done}
+use native.Mathlib.Omega.{arith}
+use Rattle.spec.specs.Refusal.{done}
 use Rattle.spec.specs.Tree.{valid, treeAt, pairsOf}
 use Rattle.spec.specs.File.{flagged, target, Contents, field, fileOf, readOf, writeOf}
+use Rattle.spec.specs.FileClaims.{ofResult, EachReached}
 use Rattle.laws.specs.Samples.{sample}
 
 -- 01 0003 010201, 02 0002 0001, 02 0002 0102, 02 0001 02, 03 0001 00, 06 0001 02
@@ -33,10 +35,6 @@ unfolding readOf fileOf valid treeAt pairsOf
 flagged-read = refl
 
 -- ---- refusals ----
-
-abbrev ofResult : {A : Type 0} → Result A → ℕ
-ofResult (refused r) = numberOf r
-ofResult (done x) = 0
 
 -- one index of weight 1, then a leaf, no outputs, and the end
 abbrev after : List ℕ → List ℕ
@@ -67,6 +65,24 @@ refusals : map (λ l. ofResult (readOf 9 9 l)) (
     ≡ 1 ∷ 1 ∷ 1 ∷ 1 ∷ 2 ∷ 2 ∷ 3 ∷ 3 ∷ 4 ∷ 5 ∷ 6 ∷ 8 ∷ 8 ∷ 9 ∷ 9 ∷ 0 ∷ []
 unfolding readOf valid treeAt pairsOf
 refusals = refl
+
+-- one file for each number, with empty lists lent: the seventh has flags
+pub each-reached : EachReached
+unfolding readOf valid treeAt pairsOf
+each-reached = (
+  []
+      ∷ field 2 []
+      ∷ ended (field 6 (0 ∷ 0 ∷ []))
+      ∷ field 1 (9 ∷ [])
+      ∷ after (field 2 (1 ∷ []))
+      ∷ after (field 2 (0 ∷ 0 ∷ []))
+      ∷ ended (field 5 [])
+      ∷ ended (field 4 (0 ∷ []))
+      ∷ ended (field 5 (2 ∷ []))
+      ∷ [],
+  (tt, (omega arith, (omega arith, (omega arith, (omega arith, (omega arith, (omega arith, (omega arith, (omega arith, tt))))))))),
+  refl,
+)
 
 -- 7 at the file's end, for the tree's list and for the flags', one place an index
 too-short : (ofResult (readOf 3 3 (fileOf flaggedContents)) ∷ ofResult (readOf 4 2 (fileOf flaggedContents)) ∷ []) ≡ 7 ∷ 7 ∷ []

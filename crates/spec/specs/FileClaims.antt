@@ -203,21 +203,3 @@ pub record WriterNumbers (N : Network) (size cursor : ℕ) : Type 0 where
 
 abbrev pub WriterByNumber : Type 0
 WriterByNumber = (N : Network) (size cursor : ℕ) → WriterNumbers N size cursor
-
--- all of it
-pub record FileClaims : Type 0 where
-  pub readsJust : ReadsJust
-  pub acceptsFormat : AcceptsFormat
-  pub shortLists : ShortLists
-  pub filesAreBytes : FilesAreBytes
-  pub oneMeaning : OneMeaning
-  pub writesLawful : WritesLawful
-  pub readThenWritten : ReadThenWritten
-  pub fillsLists : FillsLists
-  pub restDecides : RestDecides
-  pub decidesInOrder : DecidesInOrder
-  pub fieldsByNumber : FieldsByNumber
-  pub staysRefused : StaysRefused
-  pub refusesUpTo9 : RefusesUpTo9
-  pub eachReached : EachReached
-  pub writerByNumber : WriterByNumber
