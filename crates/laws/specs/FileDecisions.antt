@@ -1,6 +1,6 @@
 -- The network file is checked field by field, and the first condition that holds decides. Assumes nothing.
 use mathlib.Core.Path.{_≡_, refl, sym, ap, ap₂, _∙_, subst, fun-ext}
-use mathlib.Core.Bool.{Bool, true, false, cond, true≢false}
+use mathlib.Core.Bool.{Bool, true, false, not, _||_, cond, true≢false, or-assoc}
 use mathlib.Core.List.{List, [], _∷_, _++_, append-assoc}
 use mathlib.Core.Option.{Option, none, some}
 use Prim.Native.Nat.{ℕ, zero, suc, _+_, _*_, _/_, _%_, _≤_, _<_}
@@ -8,16 +8,17 @@ use native.Mathlib.Omega.{arith}
 use lib.Dec.{eqb, ltb, leb}
 use lib.ListN.{length, take, drop, length-append, length-drop}
 use lib.Seq.{take-at, drop-at, take-append-le, drop-append-le}
-use borrow.Author.Tests.{ltb-false, lt-ltb, le-ltb}
+use borrow.Author.Tests.{ltb-false, lt-ltb, le-ltb, le-leb, lt-leb, leb-false, ne-eqb}
 use Rattle.spec.specs.Lists.{memb}
 use Rattle.spec.specs.Members.{All}
-use Rattle.spec.specs.Refusal.{Refusal, truncated, wrongTag, tooLarge, outOfRange, repeated, shortBuffer, numberOf, Check, check, first, Result, refused, done, andThen, checked}
+use Rattle.spec.specs.Refusal.{Refusal, truncated, wrongTag, tooLarge, outOfRange, repeated, shortBuffer, numberOf, Check, check, first, Result, refused, done, andThen, decide, checked}
 use Rattle.spec.specs.Network.{Network, leafCount, indexCount}
-use Rattle.spec.specs.File.{Contents, field, allowed, mayEnd, Reading, headerChecks, weightsChecks, indexChecks, leafChecks, outputsChecks, takeTarget, takeField, readFields, nothingRead, treeLent, flagsLent, readOf}
-use Rattle.spec.specs.FileClaims.{readFrom, ReadWell, none-left, one-more, RestDecides, NextField, DecidesInOrder, forEach, FieldNumbers, FieldsByNumber, StaysRefused, RefusesUpTo9}
+use Rattle.spec.specs.File.{Contents, field, allowed, mayEnd, Reading, headerChecks, weightsChecks, indexChecks, indexBytes, leafChecks, outputsChecks, takeTarget, takeField, readFields, nothingRead, treeLent, flagsLent, readOf}
+use Rattle.spec.specs.FileClaims.{readFrom, ReadWell, none-left, one-more, RestDecides, NextField, DecidesInOrder, refusalIn, forEach, PayloadsInOrder, LeftToRight, ListsLast, StaysRefused, RefusesUpTo9}
 use Rattle.spec.specs.Calls.{lengthCheck, treeCheck, flagsCheck}
 use Rattle.spec.specs.CallClaims.{numbersOf}
-use Rattle.laws.specs.Booleans.{by-cases, clash}
+use Rattle.laws.specs.Booleans.{by-cases, clash, or-introl, or-swap}
+use Rattle.laws.specs.FileFields.{Fails, any-none, index-fails, apart-nil}
 use Rattle.laws.specs.MemberLaws.{all-in, memb-in}
 use Rattle.laws.specs.Results.{not-done, refused-same}
 
@@ -81,21 +82,50 @@ index-numbers : (m : ℕ) (before l : List ℕ) → numbersOf (indexChecks m bef
 index-numbers m before [] = refl
 index-numbers m before (j ∷ l) = ap (λ (ns : List ℕ). 5 ∷ 6 ∷ ns) (index-numbers m (j ∷ before) l)
 
-not-one-byte : (N : Network) (given : Option (List ℕ)) (l : List ℕ) → (length l ≡ 1 → ⊥) → takeTarget N given l ≡ refused tooLarge
-not-one-byte N given [] h = refl
-not-one-byte N given (w ∷ []) h = absurd (h refl)
-not-one-byte N given (w ∷ v ∷ l) h = refl
+pub refused-by-first : {A : Type 0} (o : Option Refusal) (x : A) → refusalIn (decide o (done x)) ≡ o
+refused-by-first none x = refl
+refused-by-first (some r) x = refl
 
-pub fields-by-number : FieldsByNumber
-fields-by-number N =
+one-byte : (N : Network) (given : Option (List ℕ)) (l : List ℕ) → refusalIn (takeTarget N given l) ≡ first (check (not (eqb (length l) 1)) tooLarge ∷ [])
+one-byte N given [] = refl
+one-byte N given (w ∷ []) = refl
+one-byte N given (w ∷ v ∷ l) = rw (ne-eqb (suc (suc (length l))) 1 (λ e. omega arith))
+
+pub payloads-in-order : PayloadsInOrder
+payloads-in-order s l =
+    let N : Network = s .read .network in
+    let bytes : 3 ∷ numbersOf (indexChecks (indexCount N) [] l) ≡ 3 ∷ forEach (5 ∷ 6 ∷ []) l = ap (λ (ns : List ℕ). 3 ∷ ns) (index-numbers (indexCount N) [] l) in
     record {
-      header = λ due t n there. refl;
-      weights = λ l. refl;
-      leaf = λ l. ap (λ (ns : List ℕ). 3 ∷ ns) (index-numbers (indexCount N) [] l);
-      outputs = λ l. ap (λ (ns : List ℕ). 3 ∷ ns) (index-numbers (indexCount N) [] l);
-      tree = λ kids. refl;
-      flags = λ l. refl;
-      notOneByte = not-one-byte N;
+      weights = (refused-by-first (first (weightsChecks l)) _, refl);
+      leaf = (refused-by-first (first (leafChecks N l)) _, bytes);
+      outputs = (refused-by-first (first (outputsChecks N l)) _, bytes);
+      tree = (refused-by-first (first (treeCheck N l ∷ [])) _, refl);
+      flags = (refused-by-first (first (flagsCheck N l ∷ [])) _, refl);
+      target = (one-byte N (s .read .tree) l, refl);
+    }
+
+-- ---- indices from left to right ----
+
+module _ (m j : ℕ) (rest : List ℕ) where
+  range-first : (before good : List ℕ) → Fails (indexChecks m before good) → m ≤ j → indexBytes m before (good ++ (j ∷ rest)) ≡ some outOfRange
+  range-first before [] h b = rw (le-leb m j b)
+  range-first before (k ∷ good) h b = rw (h .0, h .1 .0) (range-first (k ∷ before) good (h .1 .1) b)
+
+  again-first : (before good : List ℕ) → Fails (indexChecks m before good) → j < m → (memb j good || memb j before) ≡ true
+      → indexBytes m before (good ++ (j ∷ rest)) ≡ some repeated
+  again-first before [] h b e = rw (lt-leb m j b, e)
+  again-first before (k ∷ good) h b e =
+      rw (h .0, h .1 .0)
+      (again-first (k ∷ before) good (h .1 .1) b (or-swap (memb j good) (eqb j k) (memb j before) ∙ sym (or-assoc (eqb j k) (memb j good) (memb j before)) ∙ e))
+
+pub left-to-right : LeftToRight
+left-to-right m good j rest s r =
+    let h : Fails (indexChecks m [] good) = index-fails m [] good s r (apart-nil good) in
+    record {
+      range = range-first m j rest [] good h;
+      again = λ e.
+          let b : leb m j ≡ false = all-in (λ k. leb m k ≡ false) j good (any-none (λ k. leb m k) good s) (memb-in j good e) in
+          again-first m j rest [] good h (leb-false m j b) (or-introl (memb j good) false e);
     }
 
 -- ---- which numbers a field is refused by ----
@@ -211,6 +241,10 @@ stays (suc f) (suc g) s (t ∷ high ∷ low ∷ bytes) more r h e k =
     (then-refused (takeField s t (take n bytes)) r (λ s′. readFields f s′ (drop n bytes)) (λ s′. readFields g s′ (drop n bytes ++ more)) (rw (a, b) at e)
     (λ s′ i. stays f g s′ (drop n bytes) more r h i (simp (length-append, length-drop) (omega (arith, length-append bytes more)))))))
     (λ a. rw a (rw a at e))
+
+pub lists-last : ListsLast
+unfolding readOf
+lists-last places flagPlaces file r e = rw e
 
 pub stays-refused : StaysRefused
 unfolding readOf

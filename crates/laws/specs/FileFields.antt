@@ -76,7 +76,7 @@ fails-index m before (j ∷ l) h =
     let q : memb j l ≡ false = memb-apart j l (all-map (λ k. memb k (j ∷ before) ≡ false) (λ k. eqb k j ≡ false) l (λ k e. or-none (eqb k j) (memb k before) e .0) a) in
     (rw (h .0) s, rw q r, (h .1 .0, all-map (λ k. memb k (j ∷ before) ≡ false) (λ k. memb k before ≡ false) l (λ k e. or-none (eqb k j) (memb k before) e .1) a))
 
-apart-nil : (l : List ℕ) → Apart [] l
+pub apart-nil : (l : List ℕ) → Apart [] l
 apart-nil [] = tt
 apart-nil (k ∷ l) = (refl, apart-nil l)
 

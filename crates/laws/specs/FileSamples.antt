@@ -5,10 +5,10 @@ use mathlib.Core.Path.{_≡_, refl}
 use Prim.Native.Nat.{ℕ}
 use lib.ListN.{replicate}
 use native.Mathlib.Omega.{arith}
-use Rattle.spec.specs.Refusal.{done}
+use Rattle.spec.specs.Refusal.{codeOf, done}
 use Rattle.spec.specs.Tree.{valid, treeAt, pairsOf}
 use Rattle.spec.specs.File.{flagged, target, Contents, field, fileOf, readOf, writeOf}
-use Rattle.spec.specs.FileClaims.{ofResult, EachReached}
+use Rattle.spec.specs.FileClaims.{refusalIn, EachReached}
 use Rattle.laws.specs.Samples.{sample}
 
 -- 01 0003 010201, 02 0002 0001, 02 0002 0102, 02 0001 02, 03 0001 00, 06 0001 02
@@ -44,7 +44,7 @@ abbrev ended : List ℕ → List ℕ
 ended l = after (field 3 [] ++ l)
 
 -- nothing; no outputs; half a header; a payload that ends early; a tag before its payload; the leaf's bytes from left to right
-refusals : map (λ l. ofResult (readOf 9 9 l)) (
+refusals : map (λ l. codeOf (refusalIn (readOf 9 9 l))) (
     []
     ∷ after []
     ∷ ended (1 ∷ 2 ∷ [])
@@ -85,11 +85,11 @@ each-reached = (
 )
 
 -- 7 at the file's end, for the tree's list and for the flags', one place an index
-too-short : (ofResult (readOf 3 3 (fileOf flaggedContents)) ∷ ofResult (readOf 4 2 (fileOf flaggedContents)) ∷ []) ≡ 7 ∷ 7 ∷ []
+too-short : (codeOf (refusalIn (readOf 3 3 (fileOf flaggedContents))) ∷ codeOf (refusalIn (readOf 4 2 (fileOf flaggedContents))) ∷ []) ≡ 7 ∷ 7 ∷ []
 unfolding readOf fileOf valid treeAt pairsOf
 too-short = refl
 
 -- the writer: one byte too few from the cursor on, and enough
-written : (ofResult (writeOf contents 29 2) ∷ ofResult (writeOf contents 30 2) ∷ []) ≡ 7 ∷ 0 ∷ []
+written : (codeOf (refusalIn (writeOf contents 29 2)) ∷ codeOf (refusalIn (writeOf contents 30 2)) ∷ []) ≡ 7 ∷ 0 ∷ []
 unfolding writeOf fileOf
 written = refl

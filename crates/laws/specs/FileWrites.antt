@@ -10,14 +10,16 @@ use lib.ListN.{length, take, drop}
 use borrow.Author.Tests.{ltb-false, le-ltb}
 use Rattle.spec.specs.Members.{All}
 use Rattle.spec.specs.Memory.{placed}
-use Rattle.spec.specs.Refusal.{Check, Result, done, checked}
+use Rattle.spec.specs.Refusal.{Check, first, Result, done, checked}
 use Rattle.spec.specs.Network.{Network, networkChecks}
 use Rattle.spec.specs.Calls.{lent, lengthCheck}
 use Rattle.spec.specs.File.{Ask, plain, flagged, target, Contents, fileOf, treeChecks, flagsChecks, writeChecks, writeOf, bufferAfter}
-use Rattle.spec.specs.FileClaims.{LawfulTree, LawfulAsk, Lawful, TargetIsByte, WritesLawful, Rewritten, ReadThenWritten, WriterByNumber}
+use Rattle.spec.specs.FileClaims.{LawfulTree, LawfulAsk, Lawful, TargetIsByte, WritesLawful, Rewritten, ReadThenWritten, ifTree, ifFlags, WriterByNumber}
+use Rattle.spec.specs.CallClaims.{numbersOf}
 use Rattle.laws.specs.Booleans.{or-none}
 use Rattle.laws.specs.MemberLaws.{all-append, all-parts}
 use Rattle.laws.specs.Results.{done-same, checked-done, checked-none}
+use Rattle.laws.specs.FileDecisions.{refused-by-first}
 use Rattle.laws.specs.FileFields.{Fails, passes-fails, fails-passes, tree-fails, fails-tree, flags-fails, fails-flags}
 use Rattle.laws.specs.FileReads.{reads-just}
 use Rattle.laws.specs.FileLists.{placed-at}
@@ -99,12 +101,17 @@ read-then-written places flagPlaces file c b e =
 
 -- ---- by number ----
 
+tree-numbers : (N : Network) (t : Option (List ℕ)) (a : Ask) → numbersOf (treeChecks N t ++ flagsChecks N a) ≡ ifTree t ++ ifFlags a
+tree-numbers N none plain = refl
+tree-numbers N none (flagged l) = refl
+tree-numbers N none (target w) = refl
+tree-numbers N (some kids) plain = refl
+tree-numbers N (some kids) (flagged l) = refl
+tree-numbers N (some kids) (target w) = refl
+
 pub writer-by-number : WriterByNumber
-writer-by-number N size cursor =
-    record {
-      alone = refl;
-      withTree = λ kids. refl;
-      withFlags = λ l. refl;
-      withBoth = λ kids l. refl;
-      withTarget = λ given w. refl;
-    }
+unfolding writeOf
+writer-by-number c size cursor = (
+  refused-by-first (first (writeChecks c size cursor)) (cursor + length (fileOf c)),
+  ap (λ (ns : List ℕ). 3 ∷ 4 ∷ 5 ∷ 6 ∷ 7 ∷ ns) (tree-numbers (c .network) (c .tree) (c .ask)),
+)

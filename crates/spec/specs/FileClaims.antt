@@ -1,19 +1,20 @@
 -- What is claimed of the network file. Definitions only; proofs in FileFormat, FileDecisions and FileLists of laws. Assumes nothing.
-use mathlib.Core.Bool.{true, false, cond}
+use mathlib.Core.Bool.{true, false, not, cond}
 use mathlib.Core.List.{List, [], _∷_, _++_, map}
 use mathlib.Core.Logic.{_↔_}
 use mathlib.Core.Option.{Option, none, some}
 use mathlib.Core.Path.{_≡_}
 use Prim.Native.Nat.{ℕ, suc, _+_, _*_, _%_, _≤_, _<_}
+use lib.Dec.{eqb}
 use lib.ListN.{length, getD, take, drop}
 use Rattle.spec.specs.Lists.{memb, from}
 use Rattle.spec.specs.Members.{All}
-use Rattle.spec.specs.Refusal.{Refusal, truncated, wrongTag, tooLarge, shortBuffer, numberOf, Result, refused, done}
-use Rattle.spec.specs.Network.{Network, leafCount, indexCount, accepted}
+use Rattle.spec.specs.Refusal.{Refusal, truncated, wrongTag, tooLarge, outOfRange, repeated, shortBuffer, numberOf, codeOf, Check, check, first, Result, refused, done}
+use Rattle.spec.specs.Network.{Network, leafCount, indexCount, repeats, strays, accepted}
 use Rattle.spec.specs.Tree.{valid, pairsOf}
 use Rattle.spec.specs.Calls.{treePlaces, treeCheck, flagsCheck, flagAt}
 use Rattle.spec.specs.CallClaims.{numbersOf}
-use Rattle.spec.specs.File.{Ask, plain, flagged, target, Contents, field, fileOf, Due, allowed, mayEnd, Reading, headerChecks, weightsChecks, indexChecks, leafChecks, outputsChecks, takeTarget, takeField, readFields, readOf, treeWritten, flagsWritten, writeChecks, writeOf, bufferAfter}
+use Rattle.spec.specs.File.{Ask, plain, flagged, target, Contents, field, fileOf, allowed, mayEnd, Reading, weightsChecks, indexBytes, leafChecks, outputsChecks, takeField, readFields, nothingRead, readOf, treeWritten, flagsWritten, writeChecks, writeOf, bufferAfter}
 
 -- ---- the format, stated without a reader ----
 
@@ -156,23 +157,45 @@ pub record NextField (s : Reading) : Type 0 where
 abbrev pub DecidesInOrder : Type 0
 DecidesInOrder = (s : Reading) → NextField s
 
+-- the refusal, if it is one
+abbrev pub refusalIn : {A : Type 0} → Result A → Option Refusal
+refusalIn (refused r) = some r
+refusalIn (done x) = none
+
+-- it is refused by the first of these conditions that holds, and they have these numbers
+abbrev pub RefusedBy : {A : Type 0} → Result A → List Check → List ℕ → Type 0
+RefusedBy x cs numbers = (refusalIn x ≡ first cs) × (numbersOf cs ≡ numbers)
+
 -- the same numbers once for each byte
 abbrev pub forEach : List ℕ → List ℕ → List ℕ
 forEach numbers [] = []
 forEach numbers (b ∷ l) = numbers ++ forEach numbers l
 
--- which refusals a field's conditions bring, in which order, whatever it has
-pub record FieldNumbers (N : Network) : Type 0 where
-  pub header : (due : Due) (t n there : ℕ) → numbersOf (headerChecks due t n there) ≡ 2 ∷ 1 ∷ []
-  pub weights : (l : List ℕ) → numbersOf (weightsChecks l) ≡ 3 ∷ 4 ∷ []
-  pub leaf : (l : List ℕ) → numbersOf (leafChecks N l) ≡ 3 ∷ forEach (5 ∷ 6 ∷ []) l
-  pub outputs : (l : List ℕ) → numbersOf (outputsChecks N l) ≡ 3 ∷ forEach (5 ∷ 6 ∷ []) l
-  pub tree : (kids : List ℕ) → numbersOf (treeCheck N kids ∷ []) ≡ 8 ∷ []
-  pub flags : (l : List ℕ) → numbersOf (flagsCheck N l ∷ []) ≡ 9 ∷ []
-  pub notOneByte : (given : Option (List ℕ)) (l : List ℕ) → (length l ≡ 1 → ⊥) → takeTarget N given l ≡ refused tooLarge
+-- the conditions on a payload by its tag: "length and leaf count, then bytes left to right; 8 for a tree that is not valid"
+pub record PayloadNumbers (s : Reading) (l : List ℕ) : Type 0 where
+  pub weights : RefusedBy (takeField s 1 l) (weightsChecks l) (3 ∷ 4 ∷ [])
+  pub leaf : RefusedBy (takeField s 2 l) (leafChecks (s .read .network) l) (3 ∷ forEach (5 ∷ 6 ∷ []) l)
+  pub outputs : RefusedBy (takeField s 3 l) (outputsChecks (s .read .network) l) (3 ∷ forEach (5 ∷ 6 ∷ []) l)
+  pub tree : RefusedBy (takeField s 4 l) (treeCheck (s .read .network) l ∷ []) (8 ∷ [])
+  pub flags : RefusedBy (takeField s 5 l) (flagsCheck (s .read .network) l ∷ []) (9 ∷ [])
+  pub target : RefusedBy (takeField s 6 l) (check (not (eqb (length l) 1)) tooLarge ∷ []) (3 ∷ [])
 
-abbrev pub FieldsByNumber : Type 0
-FieldsByNumber = (N : Network) → FieldNumbers N
+abbrev pub PayloadsInOrder : Type 0
+PayloadsInOrder = (s : Reading) (l : List ℕ) → PayloadNumbers s l
+
+-- the first index that is out of range, or repeats one before it, decides, whatever follows
+pub record FirstWrong (m : ℕ) (good : List ℕ) (j : ℕ) (rest : List ℕ) : Type 0 where
+  pub range : m ≤ j → indexBytes m [] (good ++ (j ∷ rest)) ≡ some outOfRange
+  pub again : memb j good ≡ true → indexBytes m [] (good ++ (j ∷ rest)) ≡ some repeated
+
+abbrev pub LeftToRight : Type 0
+LeftToRight =
+    (m : ℕ) (good : List ℕ) (j : ℕ) (rest : List ℕ) → strays m good ≡ false → repeats good ≡ false → FirstWrong m good j rest
+
+-- "7, for lists the reader fills, at the file's end"
+abbrev pub ListsLast : Type 0
+ListsLast =
+    (places flagPlaces : ℕ) (file : List ℕ) (r : Refusal) → readFrom nothingRead file ≡ refused r → readOf places flagPlaces file ≡ refused r
 
 -- no bytes that follow change a refusal by 2, 3, 4, 5, 6, 8 or 9
 abbrev pub StaysRefused : Type 0
@@ -184,22 +207,19 @@ StaysRefused =
 abbrev pub RefusesUpTo9 : Type 0
 RefusesUpTo9 = (places flagPlaces : ℕ) (file : List ℕ) (r : Refusal) → readOf places flagPlaces file ≡ refused r → numberOf r ≤ 9
 
-abbrev pub ofResult : {A : Type 0} → Result A → ℕ
-ofResult (refused r) = numberOf r
-ofResult (done x) = 0
-
 abbrev pub EachReached : Type 0
-EachReached = (files : List (List ℕ)) × All Bytes files × (map (λ l. ofResult (readOf 0 0 l)) files ≡ from 1 9)
+EachReached = (files : List (List ℕ)) × All Bytes files × (map (λ l. codeOf (refusalIn (readOf 0 0 l))) files ≡ from 1 9)
 
--- the writer: "Other calls check by number"
-pub record WriterNumbers (N : Network) (size cursor : ℕ) : Type 0 where
-  pub alone : numbersOf (writeChecks (record { network = N; tree = none; ask = plain }) size cursor) ≡ from 3 5
-  pub withTree : (kids : List ℕ) → numbersOf (writeChecks (record { network = N; tree = some kids; ask = plain }) size cursor) ≡ from 3 6
-  pub withFlags : (l : List ℕ) → numbersOf (writeChecks (record { network = N; tree = none; ask = flagged l }) size cursor) ≡ 3 ∷ 4 ∷ 5 ∷ 6 ∷ 7 ∷ 9 ∷ []
-  pub withBoth : (kids l : List ℕ) → numbersOf (writeChecks (record { network = N; tree = some kids; ask = flagged l }) size cursor) ≡ from 3 7
-  pub withTarget : (given : Option (List ℕ)) (w : ℕ)
-      → numbersOf (writeChecks (record { network = N; tree = given; ask = target w }) size cursor)
-      ≡ numbersOf (writeChecks (record { network = N; tree = given; ask = plain }) size cursor)
+-- the writer: "Other calls check by number"; 8 only with a tree, 9 only with flags
+abbrev pub ifTree : Option (List ℕ) → List ℕ
+ifTree none = []
+ifTree (some kids) = 8 ∷ []
+
+abbrev pub ifFlags : Ask → List ℕ
+ifFlags plain = []
+ifFlags (flagged l) = 9 ∷ []
+ifFlags (target w) = []
 
 abbrev pub WriterByNumber : Type 0
-WriterByNumber = (N : Network) (size cursor : ℕ) → WriterNumbers N size cursor
+WriterByNumber =
+    (c : Contents) (size cursor : ℕ) → RefusedBy (writeOf c size cursor) (writeChecks c size cursor) (from 3 5 ++ (ifTree (c .tree) ++ ifFlags (c .ask)))
