@@ -1,26 +1,26 @@
 -- The file of lawful contents is one of bytes. Assumes nothing.
-use mathlib.Core.Path.{_≡_, refl, sym, ap, _∙_, subst}
-use mathlib.Core.Bool.{Bool, true, false}
+use mathlib.Core.Path.{_≡_, sym, ap, _∙_, subst}
+use mathlib.Core.Bool.{true, false}
 use mathlib.Core.List.{List, [], _∷_, _++_}
 use mathlib.Core.Option.{Option, none, some, Option·some-injective}
-use Prim.Native.Nat.{ℕ, zero, suc, _+_, _-_, _/_, _%_, _≤_, _<_}
+use Prim.Native.Nat.{ℕ, zero, suc, _+_, _-_, _%_, _≤_, _<_}
 use native.Mathlib.Omega.{arith}
 use lib.Dec.{ltb, leb}
 use lib.ListN.{length, getElem?}
 use borrow.Author.Tests.{ltb-true, ltb-false, leb-false}
 use Rattle.spec.specs.Lists.{memb}
 use Rattle.spec.specs.Members.{All}
-use Rattle.spec.specs.Network.{Network, leafCount, indexCount, maxLeaves, maxIndices, maxLegs, maxOutputs, maxWeight, strays}
+use Rattle.spec.specs.Network.{Network, leafCount, indexCount, maxIndices, maxLegs, maxOutputs, maxWeight}
 use Rattle.spec.specs.Tree.{Tree, leaf, node, number, numbers, Pair, valid, pairsOf, Describes, ValidTree}
-use Rattle.spec.specs.File.{Ask, plain, flagged, target, Contents, field, leafFields, treeField, askField, fileOf}
-use Rattle.spec.specs.FileClaims.{Bytes, LawfulTree, LawfulAsk, Lawful, FilesAreBytes}
+use Rattle.spec.specs.File.{Ask, plain, flagged, target, field, leafFields, treeField, askField, fileOf}
+use Rattle.spec.specs.FileClaims.{Bytes, LawfulTree, LawfulAsk, FilesAreBytes}
 use Rattle.laws.specs.Booleans.{by-cases, clash}
 use Rattle.laws.specs.ListLaws.{memb-one, three-cases, three-left, three-right}
 use Rattle.laws.specs.MemberLaws.{all-append, all-map}
 use Rattle.laws.specs.FlatLaws.{pairs-length}
 use Rattle.laws.specs.Walks.{valid-tree}
 use Rattle.laws.specs.Arrays.{number-in, valid-in}
-use Rattle.laws.specs.FileFields.{any-none, Named, Begun, accepted-parts}
+use Rattle.laws.specs.FileFields.{any-none, Named, accepted-parts}
 use Rattle.laws.specs.FileLists.{valid-length}
 
 -- ---- the children in a valid tree's array are nodes ----

@@ -11,10 +11,10 @@ use lib.Seq.{take-at, drop-at, take-append-le, drop-append-le}
 use borrow.Author.Tests.{ltb-false, lt-ltb, le-ltb, le-leb, lt-leb, leb-false, ne-eqb}
 use Rattle.spec.specs.Lists.{memb}
 use Rattle.spec.specs.Members.{All}
-use Rattle.spec.specs.Refusal.{Refusal, truncated, wrongTag, tooLarge, outOfRange, repeated, shortBuffer, numberOf, Check, check, first, Result, refused, done, andThen, decide, checked}
-use Rattle.spec.specs.Network.{Network, leafCount, indexCount}
+use Rattle.spec.specs.Refusal.{Refusal, truncated, tooLarge, outOfRange, repeated, shortBuffer, numberOf, Check, check, first, Result, refused, done, andThen, decide, checked}
+use Rattle.spec.specs.Network.{Network, indexCount}
 use Rattle.spec.specs.File.{Contents, field, allowed, mayEnd, Reading, headerChecks, weightsChecks, indexChecks, indexBytes, leafChecks, outputsChecks, takeTarget, takeField, readFields, nothingRead, treeLent, flagsLent, readOf}
-use Rattle.spec.specs.FileClaims.{readFrom, ReadWell, none-left, one-more, RestDecides, NextField, DecidesInOrder, refusalIn, forEach, PayloadsInOrder, LeftToRight, ListsLast, StaysRefused, RefusesUpTo9}
+use Rattle.spec.specs.FileClaims.{readFrom, none-left, one-more, RestDecides, DecidesInOrder, refusalIn, forEach, PayloadsInOrder, LeftToRight, ListsLast, StaysRefused, RefusesUpTo9}
 use Rattle.spec.specs.Calls.{lengthCheck, treeCheck, flagsCheck}
 use Rattle.spec.specs.CallClaims.{numbersOf}
 use Rattle.laws.specs.Booleans.{by-cases, clash, or-introl, or-swap}
@@ -183,22 +183,22 @@ fields-of (suc f) s (t ∷ high ∷ low ∷ bytes) =
     (then-of (takeField s t (take n bytes)) (λ s′. readFields f s′ (drop n bytes)) (field-of s t (take n bytes)) (λ s′. fields-of f s′ (drop n bytes)))
 
 -- the reader refuses as its fields do, or by 7
-abbrev pub short : ℕ → ℕ → Contents → Check
-short places flagPlaces c =
+abbrev pub roomCheck : ℕ → ℕ → Contents → Check
+roomCheck places flagPlaces c =
     lengthCheck (treeLent (c .network) places (c .tree) ++ flagsLent (c .network) flagPlaces (c .ask))
 
 pub refusal-cases {ℓ} : {P : Type ℓ} (places flagPlaces : ℕ) (file : List ℕ) (r : Refusal) → readOf places flagPlaces file ≡ refused r
     → (readFrom nothingRead file ≡ refused r → P)
-    → ((c : Contents) → readFrom nothingRead file ≡ done c → short places flagPlaces c .holds ≡ true → r ≡ shortBuffer → P)
+    → ((c : Contents) → readFrom nothingRead file ≡ done c → roomCheck places flagPlaces c .holds ≡ true → r ≡ shortBuffer → P)
     → P
 unfolding readOf
 refusal-cases {P = P} places flagPlaces file r e f g = go (readFrom nothingRead file) refl e
   where
     go : (x : Result Contents) → readFrom nothingRead file ≡ x
-        → andThen x (λ c. checked (short places flagPlaces c ∷ []) (done c)) ≡ refused r → P
+        → andThen x (λ c. checked (roomCheck places flagPlaces c ∷ []) (done c)) ≡ refused r → P
     go (refused k) q h = f (q ∙ h)
     go (done c) q h =
-        by-cases (short places flagPlaces c .holds)
+        by-cases (roomCheck places flagPlaces c .holds)
         (λ b. g c q b (sym (refused-same shortBuffer r (rw b at h))))
         (λ b. not-done r c (sym (rw b at h)))
 
@@ -250,7 +250,7 @@ pub stays-refused : StaysRefused
 unfolding readOf
 stays-refused places flagPlaces file more r m e =
     refusal-cases places flagPlaces file r e
-    (λ q. ap (λ (x : Result Contents). andThen x (λ c. checked (short places flagPlaces c ∷ []) (done c)))
+    (λ q. ap (λ (x : Result Contents). andThen x (λ c. checked (roomCheck places flagPlaces c ∷ []) (done c)))
     (stays (suc (length file)) (suc (length (file ++ more))) nothingRead file more r (λ i. clash m (ap (λ x. memb (numberOf x) lasting) i)) q (omega arith)))
     (λ c q b i. clash m (ap (λ x. memb (numberOf x) lasting) i))
   where

@@ -1,8 +1,8 @@
 -- Fields and acceptance: what the conditions on weights, leaves and outputs, each by itself, say of the network. Assumes nothing.
-use mathlib.Core.Path.{_≡_, refl, sym, ap, _∙_}
-use mathlib.Core.Bool.{Bool, true, false, not, _||_}
-use mathlib.Core.List.{List, [], _∷_, _++_}
-use mathlib.Core.Option.{Option, none, some}
+use mathlib.Core.Path.{_≡_, refl, _∙_}
+use mathlib.Core.Bool.{Bool, true, false, not}
+use mathlib.Core.List.{List, [], _∷_}
+use mathlib.Core.Option.{some}
 use Prim.Native.Nat.{ℕ, _%_, _≤_, _<_}
 use native.Mathlib.Omega.{arith}
 use lib.Dec.{eqb, ltb, leb}
@@ -10,7 +10,7 @@ use lib.ListN.{length}
 use borrow.Author.Tests.{ltb-false, le-ltb, leb-false, lt-leb, eqb-false, ne-eqb, not-false}
 use Rattle.spec.specs.Lists.{memb, anyb}
 use Rattle.spec.specs.Members.{All}
-use Rattle.spec.specs.Refusal.{Check, check, first, passes}
+use Rattle.spec.specs.Refusal.{Check, first, passes}
 use Rattle.spec.specs.Network.{Network, leafCount, indexCount, maxLeaves, maxIndices, maxLegs, maxOutputs, repeats, strays, networkChecks, accepted}
 use Rattle.spec.specs.Tree.{valid, pairsOf}
 use Rattle.spec.specs.Calls.{treeCheck, flagsCheck}
@@ -113,12 +113,12 @@ tests-three p q r (x ∷ l) e f g =
 -- a network is accepted exactly if its weights and leaves, and its outputs, are as they must be
 pub accepted-parts : (N : Network) → accepted N ≡ true → Begun (N .weights) (N .leaves) × Named maxOutputs (indexCount N) (N .outputs)
 accepted-parts N e =
-    let (large, (heavy, (stray, (twice, _)))) = passes-fails (networkChecks false N) e in
+    let (large, (heavy, (range, (again, _)))) = passes-fails (networkChecks false N) e in
     let (l, l₁) = or-none (ltb maxLeaves (leafCount N)) _ large in
     let (i, l₂) = or-none (ltb maxIndices (indexCount N)) _ l₁ in
     let (g, o) = or-none (anyb (λ x. ltb maxLegs (length x)) (N .leaves)) (ltb maxOutputs (length (N .outputs))) l₂ in
-    let (s, s₁) = or-none (anyb (strays (indexCount N)) (N .leaves)) (strays (indexCount N) (N .outputs)) stray in
-    let (t, t₁) = or-none (anyb repeats (N .leaves)) (repeats (N .outputs)) twice in (
+    let (s, s₁) = or-none (anyb (strays (indexCount N)) (N .leaves)) (strays (indexCount N) (N .outputs)) range in
+    let (t, t₁) = or-none (anyb repeats (N .leaves)) (repeats (N .outputs)) again in (
       record {
         weights = (i, (heavy, tt));
         few = ltb-false maxLeaves (leafCount N) l;

@@ -1,18 +1,17 @@
 -- The reader accepts the files of the format and no others, each as its contents; what is written is read back. Assumes nothing.
-use mathlib.Core.Path.{_≡_, refl, sym, ap, ap₂, _∙_, subst}
-use mathlib.Core.Bool.{Bool, true, false, _||_, cond}
+use mathlib.Core.Path.{_≡_, refl, sym, ap, _∙_, subst}
+use mathlib.Core.Bool.{true, _||_}
 use mathlib.Core.List.{List, [], _∷_, _++_, append-assoc, append-nil}
 use mathlib.Core.Option.{Option, none, some}
 use Prim.Native.Nat.{ℕ, zero, suc, _+_, _*_, _/_, _%_, _≤_, _<_}
 use native.Mathlib.Omega.{arith}
-use lib.Dec.{eqb, ltb, leb}
+use lib.Dec.{eqb}
 use lib.ListN.{length, take, drop, length-append, length-take, take-append-drop}
 use borrow.Author.Tests.{eqb-true, ltb-false, not-false}
-use Rattle.spec.specs.Members.{All}
-use Rattle.spec.specs.Refusal.{truncated, wrongTag, tooLarge, Check, Result, refused, done, andThen, checked}
-use Rattle.spec.specs.Network.{Network, leafCount, indexCount, maxLeaves, maxLegs, maxOutputs}
+use Rattle.spec.specs.Refusal.{truncated, tooLarge, Check, done, checked}
+use Rattle.spec.specs.Network.{Network, indexCount, maxLeaves, maxLegs}
 use Rattle.spec.specs.Calls.{treeCheck, flagsCheck}
-use Rattle.spec.specs.File.{Ask, plain, flagged, target, Contents, field, leafFields, treeField, askField, fileOf, Due, weightsDue, leavesDue, treeDue, askDue, endDue, allowed, mayEnd, Reading, bare, weightsChecks, leafChecks, outputsChecks, takeWeights, takeLeaf, takeOutputs, takeTree, takeFlags, takeTarget, takeField, headerChecks, readFields, nothingRead, readOf}
+use Rattle.spec.specs.File.{Ask, plain, flagged, target, Contents, field, leafFields, treeField, askField, fileOf, Due, weightsDue, leavesDue, treeDue, askDue, endDue, allowed, mayEnd, Reading, bare, weightsChecks, leafChecks, outputsChecks, takeWeights, takeLeaf, takeOutputs, takeTree, takeFlags, takeTarget, takeField, headerChecks, readFields, nothingRead}
 use Rattle.spec.specs.FileClaims.{Bytes, LawfulTree, LawfulAsk, Lawful, readFrom}
 use Rattle.laws.specs.Booleans.{by-cases, clash, or-cases}
 use Rattle.laws.specs.MemberLaws.{all-append, all-parts}

@@ -1,23 +1,20 @@
 -- What the reader leaves in the lent lists, and the writer in the lent buffer. Assumes nothing.
 use mathlib.Core.Path.{_≡_, refl, sym, ap, _∙_, subst}
-use mathlib.Core.Bool.{true, false, not}
-use mathlib.Core.List.{List, [], _∷_, _++_, append-assoc}
-use mathlib.Core.Option.{Option, none, some, Option·none-ne-some, Option·some-injective}
-use Prim.Native.Nat.{ℕ, zero, suc, _+_, _-_, _/_, _%_, _≤_, _<_}
+use mathlib.Core.Bool.{true, not}
+use mathlib.Core.List.{List, [], _∷_, _++_}
+use mathlib.Core.Option.{Option, none, some}
+use Prim.Native.Nat.{ℕ, zero, suc, _+_, _-_, _%_, _≤_, _<_}
 use native.Mathlib.Omega.{arith}
 use lib.Dec.{eqb, ltb}
 use lib.ListN.{length, getD, take, drop, length-append, length-drop, length-replicate, getD-replicate, List·getD-append, List·getD-eq-default}
 use lib.Seq.{drop-drop, drop-at, getD-append-add}
 use borrow.Author.Tests.{ltb-true, ltb-false, eqb-true}
 use Rattle.spec.specs.Memory.{filled, over, placed}
-use Rattle.spec.specs.Refusal.{done}
 use Rattle.spec.specs.Network.{Network, leafCount, indexCount}
 use Rattle.spec.specs.Tree.{valid, pairsOf}
-use Rattle.spec.specs.Calls.{treePlaces, flagAt}
-use Rattle.spec.specs.File.{Ask, plain, flagged, target, Contents, fileOf, readOf, treeWritten, flagsWritten, writeOf, bufferAfter}
-use Rattle.spec.specs.FileClaims.{Bytes, LawfulTree, LawfulAsk, Lawful, RoomForTree, RoomForFlags, TreeLeft, Flagged, FlagsLeft, FillsLists}
+use Rattle.spec.specs.File.{Ask, plain, flagged, target, treeWritten, flagsWritten}
+use Rattle.spec.specs.FileClaims.{LawfulTree, LawfulAsk, RoomForTree, RoomForFlags, TreeLeft, FlagsSet, FlagsLeft, FillsLists}
 use Rattle.laws.specs.Booleans.{by-cases, and-left}
-use Rattle.laws.specs.Walks.{valid-none}
 use Rattle.laws.specs.FlatLaws.{pairs-length}
 use Rattle.laws.specs.FileReads.{reads-just}
 
@@ -76,13 +73,13 @@ padded-at m f j b =
     ∙ getD-replicate (m - length f) (j - length f) 0 0 (omega arith)
     ∙ sym (List·getD-eq-default f 0 h))
 
-flags-set : (m : ℕ) (f l : List ℕ) → length f ≤ m → m ≤ length l → Flagged m f l (placed l 0 (f ++ filled (m - length f) 0))
+flags-set : (m : ℕ) (f l : List ℕ) → length f ≤ m → m ≤ length l → FlagsSet m f l (placed l 0 (f ++ filled (m - length f) 0))
 unfolding padded
 flags-set m f l h r =
     let p : List ℕ = padded m f in
     let n : length p ≡ m = padded-length m f h in
     let byte : (j : ℕ) → j < m → getD (p ++ drop m l) j 0 ≡ getD f j 0 = λ j b. List·getD-append p (drop m l) 0 j (omega arith) ∙ padded-at m f j b in
-    subst (Flagged m f l) (sym (placed-front l p (omega arith) ∙ ap (λ (k : ℕ). p ++ drop k l) n)) (record {
+    subst (FlagsSet m f l) (sym (placed-front l p (omega arith) ∙ ap (λ (k : ℕ). p ++ drop k l) n)) (record {
       byte = byte;
       test = λ j b. ap (λ (x : ℕ). not (eqb x 0)) (byte j b);
       past = drop-at p (drop m l) m n;

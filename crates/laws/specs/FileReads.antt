@@ -1,25 +1,24 @@
 -- Reading and writing whole files: exactly the format is read, 7 only for short lists, and what is read and written again is the same.
 -- Assumes nothing.
-use mathlib.Core.Path.{_≡_, refl, sym, ap, _∙_, subst}
-use mathlib.Core.Bool.{Bool, true, false}
+use mathlib.Core.Path.{_≡_, sym, ap, _∙_, subst}
+use mathlib.Core.Bool.{Bool, false}
 use mathlib.Core.List.{List, [], _∷_, _++_}
 use mathlib.Core.Option.{Option, none, some}
-use Prim.Native.Nat.{ℕ, _+_, _-_, _≤_, _<_}
+use Prim.Native.Nat.{ℕ, _≤_}
 use native.Mathlib.Omega.{arith}
 use lib.Dec.{ltb}
-use lib.ListN.{length, take, drop}
 use borrow.Author.Tests.{ltb-false, le-ltb}
 use Rattle.spec.specs.Members.{All}
-use Rattle.spec.specs.Refusal.{shortBuffer, Check, Result, refused, done, andThen, checked}
-use Rattle.spec.specs.Network.{Network, leafCount, indexCount, maxLeaves, maxIndices, networkChecks}
-use Rattle.spec.specs.Calls.{Lent, lent, lengthCheck}
-use Rattle.spec.specs.File.{Ask, plain, flagged, target, Contents, fileOf, nothingRead, treeLent, flagsLent, readOf, treeChecks, flagsChecks, writeChecks, writeOf, bufferAfter}
-use Rattle.spec.specs.FileClaims.{Bytes, LawfulTree, LawfulAsk, Lawful, InFormat, RoomForTree, RoomForFlags, Room, ReadsJust, AcceptsFormat, ShortLists, OneMeaning, TargetIsByte, WritesLawful, readFrom}
+use Rattle.spec.specs.Refusal.{shortBuffer, refused, done}
+use Rattle.spec.specs.Network.{Network, indexCount, maxIndices}
+use Rattle.spec.specs.Calls.{Lent}
+use Rattle.spec.specs.File.{Ask, plain, flagged, target, Contents, fileOf, nothingRead, treeLent, flagsLent, readOf}
+use Rattle.spec.specs.FileClaims.{Lawful, RoomForTree, RoomForFlags, Room, WrittenThenRead, ReadsJust, AcceptsFormat, NoRoom, OneMeaning, readFrom}
 use Rattle.laws.specs.Booleans.{by-cases, clash}
 use Rattle.laws.specs.MemberLaws.{all-append, all-parts}
-use Rattle.laws.specs.Results.{not-done, done-same, and-then, checked-done, checked-none}
-use Rattle.laws.specs.FileDecisions.{short, refusal-cases, fields-no-7}
-use Rattle.laws.specs.FileFields.{Fails, any-none, none-any, passes-fails, fails-passes, accepted-parts, tree-fails, fails-tree, flags-fails, fails-flags}
+use Rattle.laws.specs.Results.{done-same, and-then, checked-done}
+use Rattle.laws.specs.FileDecisions.{roomCheck, refusal-cases, fields-no-7}
+use Rattle.laws.specs.FileFields.{any-none, none-any, accepted-parts}
 use Rattle.laws.specs.FileFormat.{read-back, is-file}
 
 -- ---- room in the lists ----
@@ -55,55 +54,58 @@ module _ (places flagPlaces : ℕ) (c : Contents) where
   abbrev forFlags : List Lent
   forFlags = flagsLent (c .network) flagPlaces (c .ask)
 
-  room-not-short : Room places flagPlaces c → short places flagPlaces c .holds ≡ false
-  room-not-short (t, f) =
+  room-passes : Room places flagPlaces c → roomCheck places flagPlaces c .holds ≡ false
+  room-passes (t, f) =
       none-any tooFew (forTree ++ forFlags)
       (all-append (λ x. tooFew x ≡ false) forTree forFlags (tree-fits (c .network) places (c .tree) t) (flags-fit (c .network) flagPlaces (c .ask) f))
 
-  not-short-room : short places flagPlaces c .holds ≡ false → Room places flagPlaces c
-  not-short-room e =
+  passes-room : roomCheck places flagPlaces c .holds ≡ false → Room places flagPlaces c
+  passes-room e =
       let (t, f) = all-parts (λ x. tooFew x ≡ false) forTree forFlags (any-none tooFew (forTree ++ forFlags) e) in
       (fits-tree (c .network) places (c .tree) t, fit-flags (c .network) flagPlaces (c .ask) f)
 
 -- ---- reading ----
 
 module _ (places flagPlaces : ℕ) (file : List ℕ) where
-  accepts : (c : Contents) → readFrom nothingRead file ≡ done c → Room places flagPlaces c → readOf places flagPlaces file ≡ done c
+  read-whole : (c : Contents) → readFrom nothingRead file ≡ done c → Room places flagPlaces c → readOf places flagPlaces file ≡ done c
   unfolding readOf
-  accepts c e h = rw (e, room-not-short places flagPlaces c h)
+  read-whole c e h = rw (e, room-passes places flagPlaces c h)
 
-  accepted : (c : Contents) → readOf places flagPlaces file ≡ done c → (readFrom nothingRead file ≡ done c) × Room places flagPlaces c
+  whole-read : (c : Contents) → readOf places flagPlaces file ≡ done c → (readFrom nothingRead file ≡ done c) × Room places flagPlaces c
   unfolding readOf
-  accepted c e =
+  whole-read c e =
       and-then (readFrom nothingRead file) _ c e λ d x y.
-      let (f, z) = checked-done (short places flagPlaces d ∷ []) (done d) c y in
+      let (f, z) = checked-done (roomCheck places flagPlaces d ∷ []) (done d) c y in
       let q : d ≡ c = done-same d c z in
-      (x ∙ z, subst (Room places flagPlaces) q (not-short-room places flagPlaces d (f .0)))
+      (x ∙ z, subst (Room places flagPlaces) q (passes-room places flagPlaces d (f .0)))
 
-  refuses : (c : Contents) → readFrom nothingRead file ≡ done c → (Room places flagPlaces c → ⊥) → readOf places flagPlaces file ≡ refused shortBuffer
+  read-no-room : (c : Contents) → readFrom nothingRead file ≡ done c → (Room places flagPlaces c → ⊥) → readOf places flagPlaces file ≡ refused shortBuffer
   unfolding readOf
-  refuses c e h =
-      by-cases (short places flagPlaces c .holds)
+  read-no-room c e h =
+      by-cases (roomCheck places flagPlaces c .holds)
       (λ s. rw (e, s))
-      (λ s. absurd (h (not-short-room places flagPlaces c s)))
+      (λ s. absurd (h (passes-room places flagPlaces c s)))
+
+pub written-then-read : WrittenThenRead
+written-then-read places flagPlaces c l h = read-whole places flagPlaces (fileOf c) c (read-back c l) h
 
 pub reads-just : ReadsJust
 reads-just places flagPlaces file c k = (
-  (λ e. let (x, h) = accepted places flagPlaces file c e in
+  (λ e. let (x, h) = whole-read places flagPlaces file c e in
       let (l, q) = is-file file c k x in
       (l, h, sym q)),
-  (λ (l, h, q). accepts places flagPlaces file c (ap (readFrom nothingRead) q ∙ read-back c l) h),
+  (λ (l, h, q). read-whole places flagPlaces file c (ap (readFrom nothingRead) q ∙ read-back c l) h),
 )
 
 pub one-meaning : OneMeaning
 one-meaning c d h k e = done-same c d (sym (read-back c h) ∙ ap (readFrom nothingRead) e ∙ read-back d k)
 
-pub short-lists : ShortLists
-short-lists places flagPlaces file k = (
+pub no-room : NoRoom
+no-room places flagPlaces file k = (
   (λ e. refusal-cases places flagPlaces file shortBuffer e
       (λ q. absurd (fields-no-7 file q))
-      (λ c q s _. let (l, z) = is-file file c k q in (c, l, sym z, λ h. clash s (room-not-short places flagPlaces c h)))),
-  (λ (c, l, q, h). refuses places flagPlaces file c (ap (readFrom nothingRead) q ∙ read-back c l) h),
+      (λ c q s _. let (l, z) = is-file file c k q in (c, l, sym z, λ h. clash s (room-passes places flagPlaces c h)))),
+  (λ (c, l, q, h). read-no-room places flagPlaces file c (ap (readFrom nothingRead) q ∙ read-back c l) h),
 )
 
 -- every network's tree and flags have room

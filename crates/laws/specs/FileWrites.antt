@@ -1,20 +1,18 @@
 -- The writer: what it answers, and that a file read and then written is the same. Assumes nothing.
 use mathlib.Core.Path.{_≡_, refl, sym, ap, _∙_, subst}
-use mathlib.Core.Bool.{true, false, _||_}
+use mathlib.Core.Bool.{false}
 use mathlib.Core.List.{List, [], _∷_, _++_}
 use mathlib.Core.Option.{Option, none, some}
-use Prim.Native.Nat.{ℕ, _+_, _≤_, _<_}
+use Prim.Native.Nat.{ℕ, _+_, _≤_}
 use native.Mathlib.Omega.{arith}
 use lib.Dec.{ltb}
-use lib.ListN.{length, take, drop}
+use lib.ListN.{length}
 use borrow.Author.Tests.{ltb-false, le-ltb}
-use Rattle.spec.specs.Members.{All}
-use Rattle.spec.specs.Memory.{placed}
-use Rattle.spec.specs.Refusal.{Check, first, Result, done, checked}
+use Rattle.spec.specs.Refusal.{Check, first, Result, done}
 use Rattle.spec.specs.Network.{Network, networkChecks}
 use Rattle.spec.specs.Calls.{lent, lengthCheck}
 use Rattle.spec.specs.File.{Ask, plain, flagged, target, Contents, fileOf, treeChecks, flagsChecks, writeChecks, writeOf, bufferAfter}
-use Rattle.spec.specs.FileClaims.{LawfulTree, LawfulAsk, Lawful, TargetIsByte, WritesLawful, Rewritten, ReadThenWritten, ifTree, ifFlags, WriterByNumber}
+use Rattle.spec.specs.FileClaims.{LawfulTree, LawfulAsk, Lawful, TargetIsByte, WritesLawful, Rewritten, ReadThenWritten, BufferStays, ifTree, ifFlags, WriterByNumber}
 use Rattle.spec.specs.CallClaims.{numbersOf}
 use Rattle.laws.specs.Booleans.{or-none}
 use Rattle.laws.specs.MemberLaws.{all-append, all-parts}
@@ -98,6 +96,9 @@ pub read-then-written : ReadThenWritten
 read-then-written places flagPlaces file c b e =
     let (h, r, q) = reads-just places flagPlaces file c b .0 e in
     subst (λ (x : List ℕ). Rewritten x c) (sym q) (rewritten c h)
+
+pub buffer-stays : BufferStays
+buffer-stays c cursor out r e = ap (λ (x : Result ℕ). bufferAfter c cursor x out) e
 
 -- ---- by number ----
 

@@ -1,4 +1,5 @@
--- What is claimed of the network file. Definitions only; proofs in FileFormat, FileDecisions and FileLists of laws. Assumes nothing.
+-- What is claimed of the network file. Definitions only; proofs in FileReads, FileBytes, FileWrites, FileLists and FileDecisions of laws.
+-- Assumes nothing.
 use mathlib.Core.Bool.{true, false, not, cond}
 use mathlib.Core.List.{List, [], _∷_, _++_, map}
 use mathlib.Core.Logic.{_↔_}
@@ -55,7 +56,12 @@ Room places flagPlaces c = RoomForTree (c .network) places (c .tree) × RoomForF
 
 -- ---- reading and writing ----
 
--- A file of bytes is read as c exactly if it is the file of c, c is lawful, and the lists have room. So what is written is read back.
+-- what is written is read back
+abbrev pub WrittenThenRead : Type 0
+WrittenThenRead =
+    (places flagPlaces : ℕ) (c : Contents) → Lawful c → Room places flagPlaces c → readOf places flagPlaces (fileOf c) ≡ done c
+
+-- a file of bytes is read as c exactly if it is the file of c, c is lawful, and the lists have room
 abbrev pub ReadsJust : Type 0
 ReadsJust =
     (places flagPlaces : ℕ) (file : List ℕ) (c : Contents) → Bytes file
@@ -68,8 +74,8 @@ AcceptsFormat =
     → ((c : Contents) × (readOf places flagPlaces file ≡ done c)) ↔ InFormat file
 
 -- 7 exactly if the file is in the format and a list that it fills is too short
-abbrev pub ShortLists : Type 0
-ShortLists =
+abbrev pub NoRoom : Type 0
+NoRoom =
     (places flagPlaces : ℕ) (file : List ℕ) → Bytes file
     → (readOf places flagPlaces file ≡ refused shortBuffer) ↔ ((c : Contents) × Lawful c × (file ≡ fileOf c) × (Room places flagPlaces c → ⊥))
 
@@ -103,6 +109,12 @@ abbrev pub ReadThenWritten : Type 0
 ReadThenWritten =
     (places flagPlaces : ℕ) (file : List ℕ) (c : Contents) → Bytes file → readOf places flagPlaces file ≡ done c → Rewritten file c
 
+-- a refusal leaves the buffer as it is
+abbrev pub BufferStays : Type 0
+BufferStays =
+    (c : Contents) (cursor : ℕ) (out : List ℕ) (r : Refusal) → writeOf c (length out) cursor ≡ refused r
+    → bufferAfter c cursor (writeOf c (length out) cursor) out ≡ out
+
 -- ---- the lists that the reader fills ----
 
 -- the tree's list starts with the file's tree, if it has one, and all else stays
@@ -111,7 +123,7 @@ TreeLeft none list after = after ≡ list
 TreeLeft (some kids) list after = after ≡ kids ++ drop (length kids) list
 
 -- of m indices each has the byte that the file's flags f give it, or 0, and so is flagged just if f flags it; all else stays
-pub record Flagged (m : ℕ) (f list after : List ℕ) : Type 0 where
+pub record FlagsSet (m : ℕ) (f list after : List ℕ) : Type 0 where
   pub byte : (j : ℕ) → j < m → getD after j 0 ≡ getD f j 0
   pub test : (j : ℕ) → j < m → flagAt after j ≡ flagAt f j
   pub past : drop m after ≡ drop m list
@@ -119,7 +131,7 @@ pub record Flagged (m : ℕ) (f list after : List ℕ) : Type 0 where
 
 abbrev pub FlagsLeft : ℕ → Ask → List ℕ → List ℕ → Type 0
 FlagsLeft m plain list after = after ≡ list
-FlagsLeft m (flagged f) list after = Flagged m f list after
+FlagsLeft m (flagged f) list after = FlagsSet m f list after
 FlagsLeft m (target w) list after = after ≡ list
 
 abbrev pub FillsLists : Type 0
