@@ -182,11 +182,12 @@ fields-of (suc f) s (t ∷ high ∷ low ∷ bytes) =
     checked-of (headerChecks (s .due) t n (length bytes)) (andThen (takeField s t (take n bytes)) (λ s′. readFields f s′ (drop n bytes))) (refl, (refl, tt))
     (then-of (takeField s t (take n bytes)) (λ s′. readFields f s′ (drop n bytes)) (field-of s t (take n bytes)) (λ s′. fields-of f s′ (drop n bytes)))
 
--- the reader refuses as its fields do, or by 7
+-- 7, at the file's end
 abbrev pub roomCheck : ℕ → ℕ → Contents → Check
 roomCheck places flagPlaces c =
     lengthCheck (treeLent (c .network) places (c .tree) ++ flagsLent (c .network) flagPlaces (c .ask))
 
+-- the reader refuses as its fields do, or by 7
 pub refusal-cases {ℓ} : {P : Type ℓ} (places flagPlaces : ℕ) (file : List ℕ) (r : Refusal) → readOf places flagPlaces file ≡ refused r
     → (readFrom nothingRead file ≡ refused r → P)
     → ((c : Contents) → readFrom nothingRead file ≡ done c → roomCheck places flagPlaces c .holds ≡ true → r ≡ shortBuffer → P)

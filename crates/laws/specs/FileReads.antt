@@ -1,5 +1,4 @@
--- Reading and writing whole files: exactly the format is read, 7 only for short lists, and what is read and written again is the same.
--- Assumes nothing.
+-- Whole files: exactly the format is read, and 7 comes only of lists that are too short. Assumes nothing.
 use mathlib.Core.Path.{_≡_, sym, ap, _∙_, subst}
 use mathlib.Core.Bool.{Bool, false}
 use mathlib.Core.List.{List, [], _∷_, _++_}
