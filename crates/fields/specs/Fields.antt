@@ -69,11 +69,6 @@ whole file at n = let z : at + n - at ≡ n = omega arith in ap (part file at) z
 abbrev after : Due → Network → Reading
 after d N = record { due = d; read = record { network = N; tree = none; ask = plain } }
 
--- two checks one after the other
-decide-two : {A : Type 0} (b : Bool) (r : Refusal) (o : Option Refusal) (y : Result A) → decide (cond b (some r) none) (decide o y) ≡ decide (cond b (some r) o) y
-decide-two true r o y = refl
-decide-two false r o y = refl
-
 -- a refusal by the first of two checks, or none at all
 cond-none : (b : Bool) (r : Refusal) (o : Option Refusal) → cond b (some r) o ≡ none → b ≡ false
 cond-none true r o e = absurd (let w : _≡_ {A = ℕ} 0 1 = cc in omega arith)
@@ -104,8 +99,7 @@ module _ (p : List ℕ) where
   unfolding leafRefusal
   leaf-decide N m k a b =
       let y = done (after leavesDue (record { leaves = N .leaves ++ (p ∷ []); outputs = []; weights = N .weights })) in
-      decide-two (ltb 32 (length p) || leb 128 (leafCount N)) tooLarge (indexBytes (indexCount N) [] p) y
-      ∙ ap₂ (λ i j. decide (leafRefusal i j p) y) a b
+      ap₂ (λ i j. decide (leafRefusal i j p) y) a b
 
   pub leaf-fits : (m k : ℕ) → 0 ≡ codeOf (leafRefusal m k p) → (length p ≤ 32) × (k < 128)
   unfolding leafRefusal
@@ -118,7 +112,7 @@ module _ (p : List ℕ) where
   unfolding outputsRefusal
   outputs-decide N m a =
       let y = done (after treeDue (record { leaves = N .leaves; outputs = p; weights = N .weights })) in
-      decide-two (ltb 32 (length p)) tooLarge (indexBytes (indexCount N) [] p) y ∙ ap (λ i. decide (outputsRefusal i p) y) a
+      ap (λ i. decide (outputsRefusal i p) y) a
 
   pub outputs-fit : (m : ℕ) → 0 ≡ codeOf (outputsRefusal m p) → length p ≤ 32
   unfolding outputsRefusal

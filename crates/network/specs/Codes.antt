@@ -10,7 +10,7 @@ use lib.ListN.{length, getD, take, drop}
 use borrow.Author.Tests.{lt-ltb, le-ltb, ltb-false}
 use Rattle.spec.specs.Lists.{memb, anyb, range}
 use Rattle.spec.specs.Refusal.{Refusal, truncated, wrongTag, tooLarge, overweight, outOfRange, repeated, shortBuffer, invalidTree, invalidFlags, totalBeyond, danglingIndex, tableTooWide, drawsExhausted, codeOf, numberOf, passes}
-use Rattle.spec.specs.Network.{leafCount, indexCount, legs, maxLeaves, maxIndices, maxLegs, maxOutputs, maxWeight, repeats, strays, refusalOf, accepted}
+use Rattle.spec.specs.Network.{Network, leafCount, indexCount, legs, maxLeaves, maxIndices, maxLegs, maxOutputs, maxWeight, repeats, strays, refusalOf, accepted}
 use Rattle.spec.specs.NetworkClaims.{Accepted}
 use Rattle.spec.specs.Layout.{firsts, rowAt, networkOf}
 use Rattle.laws.specs.Booleans.{or-introl, or-intror, or-none}
@@ -20,6 +20,16 @@ use Rattle.network.specs.Layouts.{firsts-take, firsts-length, firsts-at,
 use Rattle.network.specs.Checks.{leavesOf, Rows, Lent}
 
 -- ---- a count above its limit ----
+
+abbrev pub large : Network → Bool
+large N =
+    ltb maxLeaves (leafCount N)
+    || (ltb maxIndices (indexCount N) || (anyb (λ l. ltb maxLegs (length l)) (N .leaves) || ltb maxOutputs (length (N .outputs))))
+
+pub refused-large : (N : Network) → large N ≡ true → refusalOf N ≡ some tooLarge
+refused-large N e = rw e
+
+-- the same of lists with counts
 
 unfoldable pub largeOf : (m n o : ℕ) (counts : List ℕ) → Bool
 largeOf m n o counts = ltb maxLeaves n || (ltb maxIndices m || (anyb (λ k. ltb maxLegs k) (firsts n counts) || ltb maxOutputs o))
@@ -101,27 +111,32 @@ module _ (m n o : ℕ) (weights counts cells outputs : List ℕ) where
       (λ i h. ap (ltb maxLegs) (firsts-length (getD counts i 0) (drop (i * maxLegs) cells)))
       ∙ sym (any-map (λ k. ltb maxLegs k) (λ i. getD counts i 0) (range n))
 
+  pub large-layout : large (networkOf m n o weights counts cells outputs) ≡ largeOf m n o counts
+  unfolding networkOf largeOf
+  large-layout =
+      let lc : length (map (rowAt counts cells) (range n)) ≡ n = map-range-length (rowAt counts cells) n in
+      let ic : length (firsts m weights) ≡ m = firsts-length m weights in
+      let oc : length (firsts o outputs) ≡ o = firsts-length o outputs in
+      λ j. ltb maxLeaves (lc j) || (ltb maxIndices (ic j) || (many-legs j || ltb maxOutputs (oc j)))
+
   -- the refusal's number
   pub code-means :
       codeOf (refusalOf (networkOf m n o weights counts cells outputs))
       ≡ codeFrom (largeOf m n o counts) (anyb (λ w. ltb maxWeight w) (firsts m weights)) (strayOf m n o counts cells outputs) (repeatOf n o counts cells outputs)
-  unfolding networkOf largeOf strayOf repeatOf leavesOf
+  unfolding networkOf strayOf repeatOf leavesOf
   code-means =
-      let lc : length (map (rowAt counts cells) (range n)) ≡ n = map-range-length (rowAt counts cells) n in
+      let N = networkOf m n o weights counts cells outputs in
       let ic : length (firsts m weights) ≡ m = firsts-length m weights in
-      let oc : length (firsts o outputs) ≡ o = firsts-length o outputs in
       code-first
-      (ltb maxLeaves (length (map (rowAt counts cells) (range n)))
-      || (ltb maxIndices (length (firsts m weights))
-      || (anyb (λ l. ltb maxLegs (length l)) (map (rowAt counts cells) (range n)) || ltb maxOutputs (length (firsts o outputs)))))
+      (large N)
       (anyb (λ w. ltb maxWeight w) (firsts m weights))
-      (anyb (strays (length (firsts m weights))) (map (rowAt counts cells) (range n)) || strays (length (firsts m weights)) (firsts o outputs))
-      (anyb repeats (map (rowAt counts cells) (range n)) || repeats (firsts o outputs))
+      (anyb (strays (length (firsts m weights))) (N .leaves) || strays (length (firsts m weights)) (N .outputs))
+      (anyb repeats (N .leaves) || repeats (N .outputs))
       ∙ (λ j. codeFrom
-      (ltb maxLeaves (lc j) || (ltb maxIndices (ic j) || (many-legs j || ltb maxOutputs (oc j))))
+      (large-layout j)
       (anyb (λ w. ltb maxWeight w) (firsts m weights))
-      (anyb (strays (ic j)) (map (rowAt counts cells) (range n)) || strays (ic j) (firsts o outputs))
-      (anyb repeats (map (rowAt counts cells) (range n)) || repeats (firsts o outputs)))
+      (anyb (strays (ic j)) (N .leaves) || strays (ic j) (N .outputs))
+      (anyb repeats (N .leaves) || repeats (N .outputs)))
 
 -- ---- what follows where none of them holds ----
 
@@ -186,12 +201,37 @@ module _ (m n o : ℕ) (weights counts cells outputs : List ℕ) (l : Lent weigh
   pub weighed : {b : Bool} → b ≡ largeOf m n o counts → b ≡ false → m ≤ length weights
   weighed e f = let (p, q, r, s) = small m n o counts (sym e ∙ f) in omega (arith, l .weightPlaces)
 
-  pub heavy : {b d : Bool} → b ≡ largeOf m n o counts → b ≡ false → d ≡ anyb (λ w. ltb maxWeight w) (take m weights) → d ≡ anyb (λ w. ltb maxWeight w) (firsts m weights)
-  heavy e f h = h ∙ ap (anyb (λ w. ltb maxWeight w)) (sym (firsts-take m weights (weighed e f)))
-
-  pub answer : {a b c d : Bool} → a ≡ largeOf m n o counts → b ≡ anyb (λ w. ltb maxWeight w) (firsts m weights) → c ≡ strayOf m n o counts cells outputs → d ≡ repeatOf n o counts cells outputs
+  -- the answers: the conditions that were tested, each with what its test said
+  answer : {a b c d : Bool} → a ≡ largeOf m n o counts → b ≡ anyb (λ w. ltb maxWeight w) (firsts m weights) → c ≡ strayOf m n o counts cells outputs → d ≡ repeatOf n o counts cells outputs
       → codeFrom a b c d ≡ codeOf (refusalOf (networkOf m n o weights counts cells outputs))
   answer p q r s = (λ j. codeFrom (p j) (q j) (r j) (s j)) ∙ sym (code-means m n o weights counts cells outputs)
+
+  module _ {a : Bool} (large : a ≡ largeOf m n o counts) where
+    pub answer-large : a ≡ true → 3 ≡ codeOf (refusalOf (networkOf m n o weights counts cells outputs))
+    unfolding codeFrom
+    answer-large x = answer (sym x ∙ large) refl refl refl
+
+    module _ {b : Bool} (few : a ≡ false) (heavy : b ≡ anyb (λ w. ltb maxWeight w) (take m weights)) where
+      weights-are : b ≡ anyb (λ w. ltb maxWeight w) (firsts m weights)
+      weights-are = heavy ∙ ap (anyb (λ w. ltb maxWeight w)) (sym (firsts-take m weights (weighed large few)))
+
+      pub answer-heavy : b ≡ true → 4 ≡ codeOf (refusalOf (networkOf m n o weights counts cells outputs))
+      unfolding codeFrom
+      answer-heavy x = answer (sym few ∙ large) (sym x ∙ weights-are) refl refl
+
+      module _ {c : Bool} (light : b ≡ false) (stray : c ≡ strayOf m n o counts cells outputs) where
+        pub answer-stray : c ≡ true → 5 ≡ codeOf (refusalOf (networkOf m n o weights counts cells outputs))
+        unfolding codeFrom
+        answer-stray x = answer (sym few ∙ large) (sym light ∙ weights-are) (sym x ∙ stray) refl
+
+        module _ {d : Bool} (inside : c ≡ false) (twice : d ≡ repeatOf n o counts cells outputs) where
+          pub answer-repeat : d ≡ true → 6 ≡ codeOf (refusalOf (networkOf m n o weights counts cells outputs))
+          unfolding codeFrom
+          answer-repeat x = answer (sym few ∙ large) (sym light ∙ weights-are) (sym inside ∙ stray) (sym x ∙ twice)
+
+          pub answer-none : d ≡ false → 0 ≡ codeOf (refusalOf (networkOf m n o weights counts cells outputs))
+          unfolding codeFrom
+          answer-none x = answer (sym few ∙ large) (sym light ∙ weights-are) (sym inside ∙ stray) (sym x ∙ twice)
 
 -- the check answered 0
 pub accepted-facts : (m n o : ℕ) (weights counts cells outputs : List ℕ)

@@ -5,3 +5,4 @@ pub mod Searches
 pub mod Checks
 pub mod Codes
 pub mod Answers
+pub mod Additions

@@ -16,7 +16,7 @@ use Rattle.laws.specs.Booleans.{by-cases, bool-ext}
 use Rattle.laws.specs.ListLaws.{count-three, count-memb, count-not-memb}
 use Rattle.laws.specs.Walks.{tree-valid, valid-tree}
 use Rattle.laws.specs.FlatLaws.{pairs-length, pair-at}
-use Rattle.walk.specs.Stack.{stackOf, push, pushedBoth, writtenBoth, Inside, inside-push, stack-none, stack-one, stack-top, stack-agree, stack-both, written-front, both-le, At, Trees, node-at}
+use Rattle.walk.specs.Stack.{stackOf, push, pushedBoth, writtenBoth, Inside, inside-push, stack-none, stack-one, stack-top, stack-agree, stack-both, written-front, both-le, At, Trees, node-at, grown, grown-trees}
 use Rattle.walk.specs.Marks.{fresh, marked, freshBoth, markedBoth, seen, seenCount, seen-above, seen-agree, seen-clear, one-self, mark-seen, stale-seen, fresh-inside, first-fresh, second-fresh, both-seen, both-length, both-past, both-count, set-seen, count-none, count-agree, count-more, count-le, count-full, full-count, was-false, was-true}
 
 -- how often k is below the root of a tree, and below the roots of several
@@ -47,16 +47,9 @@ module _ (n : ℕ) (a : List Pair) (x : ℕ) (xs : List ℕ) where
       head [] h = absurd h
       head (t ∷ us) h = (t, us, h .0, h .1, λ k. refl)
 
-  repush : (t : Tree) (us : List Tree) → At n a x t → Trees n a xs us
-      → (ts : List Tree) × Trees n a (push n x xs) ts × ((k : ℕ) → unders ts k ≡ under t k + unders us k)
-  repush t us h g =
-      by-cases (ltb x n)
-      (λ e. (us, rw e g, λ k. omega (arith, none t h (ltb-true x n e) k)))
-      (λ e. (t ∷ us, rw e (h, g), λ k. refl))
-    where
-      none : (t : Tree) → At n a x t → x < n → (k : ℕ) → under t k ≡ 0
-      none (leaf i) h l k = refl
-      none (node v s r) h l k = absurd (omega (arith, h .0 .0, h .1))
+unders-grown : (t : Tree) (ts : List Tree) (k : ℕ) → unders (grown t ts) k ≡ under t k + unders ts k
+unders-grown (leaf i) ts k = omega arith
+unders-grown (node v l r) ts k = refl
 
 -- ---- what is met and what is on the stack make up the root's tree ----
 
@@ -133,10 +126,11 @@ module _ (n : ℕ) (a : List Pair) (root v x y : ℕ) (xs : List ℕ) (met : ℕ
               ),
             );
         take = λ t h.
-            let (l, r, us, al, ar, g, e) = parts t h in
-            let (ts₁, h₁, e₁) = repush n a x xs l us al g in
-            let (ts, h₂, e₂) = repush n a y (push n x xs) r ts₁ ar h₁ in
-            (ts, h₂, λ k. omega (arith, f k, e k, e₁ k, e₂ k));
+            let (l, r, us, al, ar, g, e) = parts t h in (
+              grown r (grown l us),
+              grown-trees n a y (push n x xs) r (grown l us) ar (grown-trees n a x xs l us al g),
+              λ k. omega (arith, f k, e k, unders-grown l us k, unders-grown r (grown l us) k),
+            );
       }
     where
       children : (l r : Tree) → At n a x l → At n a y r

@@ -3,3 +3,4 @@ pub mod Stack
 pub mod Marks
 pub mod Check
 pub mod Wrong
+pub mod Order

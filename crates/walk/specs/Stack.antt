@@ -9,7 +9,7 @@ use native.Mathlib.Numerals.{add-one}
 use lib.Dec.{ltb}
 use lib.ListN.{getD, set, length, getElem?, length-set}
 use lib.Seq.{getD-set-same, getD-set-other}
-use borrow.Author.Tests.{ltb-false}
+use borrow.Author.Tests.{ltb-false, lt-ltb, le-ltb}
 use Rattle.spec.specs.Tree.{Tree, leaf, node, number, Pair, Describes}
 use Rattle.laws.specs.Booleans.{by-cases}
 
@@ -133,3 +133,13 @@ node-at n a x y z (node v l r) h e d =
     let there : Pair = record { left = y; right = z } in
     let p : here ≡ there = Option·some-injective here there (sym (d .0 .1) ∙ ap (λ (k : ℕ). getElem? a (k - n)) (d .1) ∙ e) in
     (l, r, ap (λ (k : ℕ). node k l r) (d .1), (d .0 .2, ap (λ (m : Pair). m .left) p), (d .0 .3, ap (λ (m : Pair). m .right) p))
+
+-- a node's tree goes on the stack, a leaf does not
+abbrev pub grown : Tree → List Tree → List Tree
+grown (leaf i) ts = ts
+grown (node v l r) ts = node v l r ∷ ts
+
+pub grown-trees : (n : ℕ) (a : List Pair) (x : ℕ) (xs : List ℕ) (t : Tree) (ts : List Tree) → At n a x t → Trees n a xs ts
+    → Trees n a (push n x xs) (grown t ts)
+grown-trees n a x xs (leaf i) ts h g = rw (lt-ltb x n (omega (arith, h .0, h .1))) g
+grown-trees n a x xs (node v l r) ts h g = rw (le-ltb x n (omega (arith, h .0 .0, h .1))) (h, g)

@@ -4,6 +4,7 @@ use mathlib.Core.Bool.{Bool, true, false, not}
 use mathlib.Core.List.{List, [], _∷_}
 use Prim.Native.Nat.{ℕ, zero, suc, _-_, _*_, _%_, _≤_, _<_}
 use native.Mathlib.Omega.{arith}
+use native.Mathlib.Decide.{ℕ-discrete}
 use lib.Dec.{eqb}
 use lib.ListN.{length}
 use borrow.Author.Tests.{ne-eqb, eqb-false}
@@ -48,10 +49,13 @@ other-length n kids h g =
 pub right-length : (n : ℕ) (kids : List ℕ) → 2 ≤ n → length kids ≡ n * 2 - 2 → valid n (pairsOf kids) ≡ not (wrongTree n kids)
 right-length n kids h e = rw (ne-eqb (length kids % 2) 1 (λ q. omega arith)) (sym (not-not (valid n (pairsOf kids))))
 
--- and the other way round: what is not wrong is valid, with the right length
+-- and the other way round: what is not wrong is valid, and has the right length
+true-not : {P : Type 0} → _≡_ {A = Bool} false true → P
+true-not q = absurd (let z : _≡_ {A = ℕ} 0 1 = cc in omega arith)
+
 pub not-wrong : (n : ℕ) (kids : List ℕ) → wrongTree n kids ≡ false → valid n (pairsOf kids) ≡ true
-not-wrong n kids e =
-    by-cases (valid n (pairsOf kids)) (λ f. f) (λ f. absurd (bad (not-valid n kids f ∙ ap not e)))
-  where
-    bad : _≡_ {A = Bool} false true → ⊥
-    bad q = let z : _≡_ {A = ℕ} 0 1 = cc in omega arith
+not-wrong n kids e = by-cases (valid n (pairsOf kids)) (λ f. f) (λ f. true-not (not-valid n kids f ∙ ap not e))
+
+pub not-wrong-length : (n : ℕ) (kids : List ℕ) → 2 ≤ n → wrongTree n kids ≡ false → length kids ≡ n * 2 - 2
+not-wrong-length n kids h e =
+    elim (ℕ-discrete (length kids) (n * 2 - 2)) [ yes q ↦ q | no q ↦ true-not (other-length n kids h q ∙ ap not e) ]

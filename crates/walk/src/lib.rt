@@ -1,9 +1,10 @@
 // Trees as flat lists of children, two places a node: the tree check and the step order. The stacks are in the lent workspace.
-ghost use mathlib.Core.Bool.{not};
+ghost use mathlib.Core.Bool.{false, not};
 ghost use mathlib.Core.Path.{_≡_};
 ghost use Prim.Native.Nat.{ℕ, _+_, _-_, _*_, _<_, _≤_};
 ghost use lib.ListN.{length, getD, set};
-ghost use Rattle.spec.specs.Tree.{valid, pairsOf};
+ghost use Rattle.spec.specs.Memory.{over};
+ghost use Rattle.spec.specs.Tree.{valid, pairsOf, stepOrder};
 ghost use Rattle.spec.specs.Calls.{wrongTree};
 ghost use Rattle.walk.specs.Stack.{pushed, pushedBoth, writtenBoth};
 ghost use Rattle.walk.specs.Marks.{fresh, marked, freshBoth, markedBoth};
@@ -98,4 +99,37 @@ pub fn is_tree(kids: &[u16], n: usize, ws: &mut [u64]) -> bool
     }
     cells::clear(ws, n * 2);
     meets_all(kids, n, ws)
+}
+
+// Fills `out` up to place n - 1 from there down: a node, then its right child's nodes, then its left child's.
+fn fill_order(kids: &[u16], n: usize, ws: &mut [u64], out: &mut [u16])
+    requires { ⌜ (2 ≤ n) × (n ≤ 512) × (wrongTree n (now kids) ≡ false) × (2048 ≤ length (now ws)) × (n - 1 ≤ length (now out)) ⌝ }
+    ensures { λ _. ⌜ now (out .exit) ≡ over (now (out .entry)) (stepOrder (now (kids .entry)) n) ⌝ }
+{
+    ws[1024] = (n * 2 - 2) as u64;
+    let mut p: usize = 1;
+    let mut rest = n - 1;
+    while 0 < rest {
+        rest -= 1;
+        p -= 1;
+        let v = ws[1024 + p] as usize;
+        out[rest] = v as u16;
+        let j = (v - n) * 2;
+        let left = wide(kids[j]);
+        let right = wide(kids[j + 1]);
+        p = push_both(ws, n, p, left, right);
+    }
+}
+
+// Writes the step order of a tree of `n` leaves to the front of `out`: the internal nodes, each after its left and then its right child's.
+// Returns how many they are. Only the first 2,048 words of `ws` are used, whatever they hold.
+pub fn post_order(kids: &[u16], n: usize, ws: &mut [u64], out: &mut [u16]) -> usize
+    requires { ⌜ (n ≤ 512) × (wrongTree n (now kids) ≡ false) × (2048 ≤ length (now ws)) × (n - 1 ≤ length (now out)) ⌝ }
+    ensures { λ r. ⌜ (r ≡ n - 1) × (now (out .exit) ≡ over (now (out .entry)) (stepOrder (now (kids .entry)) n)) ⌝ }
+{
+    if n < 2 {
+        return 0;
+    }
+    fill_order(kids, n, ws, out);
+    n - 1
 }

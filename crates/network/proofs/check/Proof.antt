@@ -10,12 +10,10 @@ number-requires : tie.Need-number-requires
 number-requires c κs = search needs
 
 returns : tie.Need-returns
-unfolding netOf
-returns c = verdict-none (refusalOf (netOf (c .before .before .before .before .before .before .before .before .before .before .before .args .t1))) (c .before .number .ensures) (c .if1 .taken)
+returns c = verdict-none (refusalOf (netOf (c .before .before .args .network))) (c .before .number .ensures) (c .if1 .taken)
 
 returns-2 : tie.Need-returns-2
-unfolding netOf
-returns-2 c = verdict-some (refusalOf (netOf (c .before .before .before .before .before .before .before .before .before .before .before .args .t1))) (c .before .number .ensures) (c .if1 .left)
+returns-2 c = verdict-some (refusalOf (netOf (c .before .before .args .network))) (c .before .number .ensures) (c .if1 .left)
 
 pub check-spec : {M : Type 1} → statement M
 check-spec = tie.close (tie.spec number-requires returns returns-2)
