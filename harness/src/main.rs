@@ -6,6 +6,8 @@ mod compare;
 mod edges;
 #[cfg(path_rs)]
 mod engine;
+#[cfg(all(test, path_rs))]
+mod findings;
 mod large;
 mod listing;
 mod networks;
