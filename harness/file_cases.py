@@ -1,8 +1,7 @@
 """The cases of the network file: accepted files of many shapes, and damaged copies of some. Every run makes the same cases."""
 from dataclasses import dataclass
 
-from network_file import (Contents, FLAGS_TAG, LEAF_TAG, OUTPUTS_TAG, TARGET_TAG, TREE_TAG, WEIGHTS_TAG, fields_of, one_field,
-                          two_bytes, write)
+from network_file import (Contents, FLAGS_TAG, LEAF_TAG, OUTPUTS_TAG, TARGET_TAG, TREE_TAG, WEIGHTS_TAG, fields_of, one_field, write)
 
 MOST_PLACES = 300
 
@@ -159,7 +158,7 @@ def damaged_bytes(name, data):
             yield f"{name}, byte {at} doubled", data[:at + 1] + data[at:]
         yield f"{name}, cut to {at}", data[:at]
     for tail in (b"\0", b"\1", b"\xff", b"\4\0", b"\xff\xff", b"\0\0\0", b"\2\0\0", b"\3\0\0", b"\4\0\0", b"\5\0\0", b"\6\0\0", b"\6\0\1",
-                 b"\6\0\1\7", b"\6\0\2\7\7", b"\xff\0\0", b"\4\0\1\0", b"\4\0\2\0\0", b"\5\0\1\2", b"\5\1\0\0"):
+                 b"\6\0\1\7", b"\6\0\2\7\7", b"\xff\0\0", b"\4\0\1\0", b"\4\0\2\0\1", b"\5\0\1\2", b"\5\1\0\0"):
         yield f"{name}, then {tail.hex()}", data + tail
 
 
@@ -203,11 +202,11 @@ def sampled_damage(draws):
 def tree_cases(draws):
     """Trees that are not valid, over a few leaves."""
     def case(label, leaf_count, children, extra=b""):
-        payload = two_bytes(children) + extra
+        payload = bytes(children) + extra
         fields = [(WEIGHTS_TAG, b"")] + [(LEAF_TAG, b"")] * leaf_count + [(OUTPUTS_TAG, b""), (TREE_TAG, payload)]
         return Case(f"{leaf_count} leaves, {label}{children}", len(children), 0, join(fields))
     for leaf_count in range(4):
-        for children in ([], [0, 0], [0, 1], [1, 0], [0, 2], [2, 0], [1, 1], [0, 3], [0, 65535], [256, 1], [0, 1, 3, 2], [4, 1, 3, 2],
+        for children in ([], [0, 0], [0, 1], [1, 0], [0, 2], [2, 0], [1, 1], [0, 3], [0, 255], [1, 128], [0, 1, 3, 2], [4, 1, 3, 2],
                          [3, 1, 0, 2], [0, 1, 2, 3], [0, 1, 0, 2], [0, 1, 3, 5], [2, 4, 0, 1], [0, 1, 3, 2, 4, 0]):
             yield case("", leaf_count, children)
         yield case("odd length ", leaf_count, comb(leaf_count), b"\0")
@@ -258,7 +257,7 @@ def long_cases():
     start = join([(WEIGHTS_TAG, b"\1")])
     ended = join([(WEIGHTS_TAG, b"\1"), (OUTPUTS_TAG, b"")])
     for before, tag, size in ((b"", WEIGHTS_TAG, 65535), (start, LEAF_TAG, 256), (start, OUTPUTS_TAG, 33), (ended, TREE_TAG, 65534),
-                              (ended, TREE_TAG, 513), (ended, FLAGS_TAG, 257), (ended, TARGET_TAG, 256), (ended, 7, 300)):
+                              (ended, TREE_TAG, 255), (ended, FLAGS_TAG, 257), (ended, TARGET_TAG, 256), (ended, 7, 300)):
         data = before + one_field(tag, bytes(size))
         yield Case(f"tag {tag}, {size} bytes", MOST_PLACES, MOST_PLACES, data)
         if size < 1000:

@@ -54,7 +54,7 @@ def index_list(payload, index_count):
 
 
 def is_valid(leaf_count, children):
-    """Whether a list of children, two places an internal node, is a tree over so many leaves."""
+    """Whether a list of children, left and right of each internal node, is a tree over so many leaves."""
     if leaf_count == 0:
         return children == []
     if len(children) != 2 * (leaf_count - 1):
@@ -87,9 +87,8 @@ def take_payload(contents, tag, payload):
         contents.outputs = index_list(payload, index_count)
     elif tag == TREE_TAG:
         refuse_if(size % 2 == 1, TREE)
-        children = [256 * payload[i] + payload[i + 1] for i in range(0, size, 2)]
-        refuse_if(not is_valid(len(contents.leaves), children), TREE)
-        contents.tree = children
+        refuse_if(not is_valid(len(contents.leaves), list(payload)), TREE)
+        contents.tree = list(payload)
     elif tag == FLAGS_TAG:
         refuse_if(size > index_count, FLAG)
         refuse_if(any(flag > 1 for flag in payload), FLAG)
@@ -131,17 +130,13 @@ def one_field(tag, payload):
     return bytes([tag, len(payload) // 256, len(payload) % 256]) + bytes(payload)
 
 
-def two_bytes(numbers):
-    return bytes(byte for number in numbers for byte in (number // 256, number % 256))
-
-
 def fields_of(contents):
     """The fields of a file with these contents: pairs of a tag and a payload."""
     fields = [(WEIGHTS_TAG, bytes(contents.weights))]
     fields += [(LEAF_TAG, bytes(leaf)) for leaf in contents.leaves]
     fields.append((OUTPUTS_TAG, bytes(contents.outputs)))
     if contents.tree is not None:
-        fields.append((TREE_TAG, two_bytes(contents.tree)))
+        fields.append((TREE_TAG, bytes(contents.tree)))
     if contents.flags is not None:
         fields.append((FLAGS_TAG, bytes(contents.flags)))
     if contents.target is not None:

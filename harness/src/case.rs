@@ -16,7 +16,7 @@ pub struct Network {
     pub outputs: Vec<u16>,
 }
 
-/// Children of each internal node; the root is the last.
+/// Children of each internal node, numbers below 256; the root is the last.
 pub type Tree = Vec<[u16; 2]>;
 
 #[derive(Clone, Debug, Default)]
@@ -53,8 +53,9 @@ fn put_field(file: &mut Vec<u8>, tag: u8, payload: &[u8]) {
     file.extend(payload);
 }
 
-fn index_bytes(list: &[u16]) -> Vec<u8> {
-    list.iter().map(|&i| u8::try_from(i).expect("an index is a byte")).collect()
+/// Numbers of indices or nodes, a byte each.
+fn number_bytes(list: &[u16]) -> Vec<u8> {
+    list.iter().map(|&i| u8::try_from(i).expect("a number below 256")).collect()
 }
 
 impl Case {
@@ -64,12 +65,11 @@ impl Case {
         let mut file = Vec::new();
         put_field(&mut file, 1, &self.network.weights);
         for leaf in &self.network.leaves {
-            put_field(&mut file, 2, &index_bytes(leaf));
+            put_field(&mut file, 2, &number_bytes(leaf));
         }
-        put_field(&mut file, 3, &index_bytes(&self.network.outputs));
+        put_field(&mut file, 3, &number_bytes(&self.network.outputs));
         if let Some(tree) = &self.tree {
-            let bytes: Vec<u8> = tree.iter().flatten().flat_map(|v| v.to_be_bytes()).collect();
-            put_field(&mut file, 4, &bytes);
+            put_field(&mut file, 4, &number_bytes(tree.as_flattened()));
         }
         if let Some(flags) = &self.flags {
             put_field(&mut file, 5, &flags.iter().map(|&f| f as u8).collect::<Vec<_>>());
@@ -86,10 +86,8 @@ mod tests {
     fn file_of_a_small_network() {
         let network = Network { weights: vec![1, 2, 1], leaves: vec![vec![0, 1], vec![1, 2], vec![2]], outputs: vec![0] };
         let case = Case { network, tree: Some(vec![[2, 1], [3, 0]]), flags: Some(vec![false, true]) };
-        let expected = [
-            1, 0, 3, 1, 2, 1, 2, 0, 2, 0, 1, 2, 0, 2, 1, 2, 2, 0, 1, 2, 3, 0, 1, 0, 4, 0, 8, 0, 2, 0, 1, 0, 3, 0, 0, 5, 0, 2, 0,
-            1,
-        ];
+        let expected =
+            [1, 0, 3, 1, 2, 1, 2, 0, 2, 0, 1, 2, 0, 2, 1, 2, 2, 0, 1, 2, 3, 0, 1, 0, 4, 0, 4, 2, 1, 3, 0, 5, 0, 2, 0, 1];
         assert_eq!(case.file(), expected);
     }
 }

@@ -71,8 +71,8 @@ pub fn broken(numbers: &mut Numbers, leaf_count: usize) -> Tree {
             tree[other][other_side] = held;
         }
         3 => tree[place][side] = tree[other][other_side],
-        4 => tree[place][side] = (root + 1 + numbers.below(3)) as u16,
-        5 => tree[place][side] = numbers.pick(&[65535, 256, 32768, root as u16]),
+        4 => tree[place][side] = (root + 1 + numbers.below(3)).min(255) as u16,
+        5 => tree[place][side] = numbers.pick(&[255, root as u16]),
         6 => tree[place][side] = (leaf_count + place) as u16,
         _ => tree[place][side] = numbers.below(root + 1) as u16,
     }
