@@ -15,7 +15,7 @@ const BATCHES: usize = 301;
 const CALLS: u32 = 50;
 
 /// One side of a row: a call, or `None` where that side is not at hand.
-type Call<'a> = Option<Box<dyn FnMut() + 'a>>;
+pub type Call<'a> = Option<Box<dyn FnMut() + 'a>>;
 
 struct Row<'a> {
     name: &'a str,

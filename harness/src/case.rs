@@ -59,6 +59,12 @@ fn number_bytes(list: &[u16]) -> Vec<u8> {
 }
 
 impl Case {
+    /// Whether a node of the tree has a child above the root's number.
+    pub fn has_child_above_root(&self) -> bool {
+        let tree = self.tree.as_deref().unwrap_or_default();
+        tree.as_flattened().iter().any(|&child| child as usize >= self.network.leaves.len() + tree.len())
+    }
+
     /// The network file.
     pub fn file(&self) -> Vec<u8> {
         debug_assert!(self.network.is_accepted());

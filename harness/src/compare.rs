@@ -1,7 +1,7 @@
 //! One case on both sides, and what is counted and told of many.
 
 use crate::case::Case;
-use crate::listing::{sum_of_powers, Listing, Total, HEAD, MOST, STEP};
+use crate::listing::{sum_of_powers, Listing, Total, MOST};
 use crate::rust::{Answer, Cost, Validity};
 use crate::{port, rust};
 use std::fmt::Write;
@@ -117,7 +117,9 @@ fn same_cost(listing: &Listing, cost: &Cost) -> Checked {
 }
 
 /// Compares the port's answer with the Rust's. Two or more leaves without a tree are refused.
-fn same_answer(port: &Result<Listing, u32>, answer: &Answer) -> Checked {
+fn same_answer(case: &Case, port: &Result<Listing, u32>, answer: &Answer) -> Checked {
+    let known = answer.validity != Validity::Panics || case.has_child_above_root();
+    ensure(known, || "is_valid panics, and no child is above the root's number".into())?;
     match (port, &answer.cost) {
         (Ok(listing), Some(cost)) => same_cost(listing, cost),
         (Err(INVALID_TREE), None) => Ok(()),
@@ -136,7 +138,7 @@ impl Comparison {
             if let Ok(listing) = port {
                 consistent(case, listing)?;
             }
-            answer.as_ref().map_or(Ok(()), |answer| same_answer(port, answer))
+            answer.as_ref().map_or(Ok(()), |answer| same_answer(case, port, answer))
         });
         if let Err(what) = result {
             self.differences += 1;
@@ -182,5 +184,3 @@ fn hex(bytes: &[u8]) -> String {
         text
     })
 }
-
-const _: () = assert!(MOST == HEAD + STEP * 127);

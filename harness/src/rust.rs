@@ -1,6 +1,7 @@
 //! The Rust's answers: path.rs run on a case.
 #![cfg_attr(not(path_rs), allow(dead_code))]
 
+use crate::bench::Call;
 use crate::case::{Case, Tree};
 
 /// Whether path.rs is compiled in.
@@ -56,9 +57,6 @@ pub fn answer(case: &Case) -> Option<Answer> {
 
 #[cfg(not(path_rs))]
 pub use missing::{answer, greedy, quiet_caught_panics, tree_cost_call, valid_cost_call};
-
-/// A call to be timed.
-type Call<'a> = Option<Box<dyn FnMut() + 'a>>;
 
 #[cfg(not(path_rs))]
 mod missing {
