@@ -84,9 +84,9 @@ module _ (m : ℕ) (l : List ℕ) where
 -- ---- a tree's bytes ----
 
 -- the bytes, as they stand at the front of a longer list
-pub widened : (d s y : List ℕ) → y ≡ over d s → length s ≤ length y → take (length s) y ≡ s
+pub copied-front : (d s y : List ℕ) → y ≡ over d s → length s ≤ length y → take (length s) y ≡ s
 unfolding placed
-widened d s y e h = ap (take (length s)) e ∙ placed-there d s 0 (omega (arith, ap length e, over-length d s))
+copied-front d s y e h = ap (take (length s)) e ∙ placed-there d s 0 (omega (arith, ap length e, over-length d s))
 
 module _ (n : ℕ) (l : List ℕ) where
   tree-code : (b : Bool) → wrongTree n l ≡ b → codeOf (treeRefusal n l) ≡ cond b 8 0
