@@ -59,9 +59,9 @@ module _ (places flagPlaces : ℕ) where
     parts = any-append (λ x. ltb (x .has) (x .needs)) (treeLent (netIn s l) places (treeOf file s)) (flagsLent (netIn s l) flagPlaces (askOf file s))
 
     -- one of the lists is too short
-    pub read-short : {a b : Bool} → s .refusal ≡ 0 → a ≡ lacking (treeLent (netIn s l) places (treeOf file s)) → b ≡ lacking (flagsLent (netIn s l) flagPlaces (askOf file s))
+    pub read-lacking : {a b : Bool} → s .refusal ≡ 0 → a ≡ lacking (treeLent (netIn s l) places (treeOf file s)) → b ≡ lacking (flagsLent (netIn s l) flagPlaces (askOf file s))
         → (a || b) ≡ true → readOf places flagPlaces file ≡ refused shortBuffer
-    read-short e p q h =
+    read-lacking e p q h =
         let z : lacking (roomFor (readIn file s l)) ≡ true = parts ∙ sym (ap₂ (λ x y. x || y) p q) ∙ h in
         read-all e ∙ ap (λ b. decide (cond b (some shortBuffer) none) (done (readIn file s l))) z
 

@@ -76,7 +76,7 @@ fn found_ask(s: Scan, file: &[u8]) -> Ask
 }
 
 // Is the tree's list, of so many places, too short for the file's tree.
-fn tree_short(s: Scan, places: usize) -> bool
+fn tree_lacks_room(s: Scan, places: usize) -> bool
     requires { ⌜ s .«leaf_count» ≤ 128 ⌝ }
     ensures { λ r. ⌜ ((file : List ℕ) (l : Lists) → r ≡ lacking (treeLent (netIn s l) places (treeOf file s))) ⌝ }
 {
@@ -89,7 +89,7 @@ fn tree_short(s: Scan, places: usize) -> bool
 }
 
 // Is the flags' list too short for the file's flags: it takes one place an index.
-fn flags_short(s: Scan, places: usize) -> bool
+fn flags_lack_room(s: Scan, places: usize) -> bool
     ensures { λ r. ⌜ ((file : List ℕ) (l : Lists) → r ≡ lacking (flagsLent (netIn s l) places (askOf file s))) ⌝ }
 {
     if s.ask == ask::FLAGGED {
@@ -146,10 +146,10 @@ pub fn read(file: &[u8], tree: &mut [u16], flags: &mut [u8]) -> Reading
     if s.refusal != refusal::NONE {
         return refused(s.refusal);
     }
-    if tree_short(s, tree.len()) {
+    if tree_lacks_room(s, tree.len()) {
         return refused(refusal::SHORT_BUFFER);
     }
-    if flags_short(s, flags.len()) {
+    if flags_lack_room(s, flags.len()) {
         return refused(refusal::SHORT_BUFFER);
     }
     write_tree(s, file, tree);

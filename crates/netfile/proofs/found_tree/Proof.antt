@@ -1,13 +1,10 @@
 -- Assumes nothing.
-use borrow.Author.Needs.{needs}
 use Rattle.netfile.specs.declared.Tree.the-variants.{Present}
 use Rattle.netfile.specs.Writes.{tree-present, tree-absent}
 use Rattle.netfile.specs.Answers.{treeAnswer}
 use Rattle.fields.specs.Fields.{part-length}
-use native.Mathlib.Omega.{arith}
-use Prim.Native.Nat.{ℕ, _+_, _-_, _*_, _<_, _≤_}
-use mathlib.Core.Path.{_≡_, refl, sym, ap, _∙_, subst}
-use lib.ListN.{length, getD, set, length-set}
+use Prim.Native.Nat.{_-_}
+use mathlib.Core.Path.{sym, ap, _∙_}
 use Rattle.netfile.proofs.found_tree.Statement.{statement}
 use Rattle.netfile.proofs.found_tree.Tie as tie
 

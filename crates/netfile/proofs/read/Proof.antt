@@ -1,7 +1,7 @@
 -- Assumes nothing.
 use borrow.Author.Needs.{needs}
 use Rattle.netfile.specs.declared.Answer.the-variants.{Refused}
-use Rattle.netfile.specs.Results.{read-refused, read-short, read-done, says-refused, says-done}
+use Rattle.netfile.specs.Results.{read-refused, read-lacking, read-done, says-refused, says-done}
 use Rattle.netfile.specs.Writes.{lack-flags}
 use Rattle.fields.specs.Scans.{lists, netIn}
 use Rattle.network.specs.Record.{netOf}
@@ -11,10 +11,9 @@ use Rattle.spec.specs.Refusal.{shortBuffer}
 use borrow.Author.Tests.{ltb-false}
 use mathlib.Core.Bool.{_||_}
 use mathlib.Core.Path.{ap₂}
-use native.Mathlib.Omega.{arith}
-use Prim.Native.Nat.{ℕ, _+_, _-_, _*_, _<_, _≤_}
-use mathlib.Core.Path.{_≡_, refl, sym, ap, _∙_, subst}
-use lib.ListN.{length, getD, set, length-set}
+use Prim.Native.Nat.{_-_}
+use mathlib.Core.Path.{refl, sym, ap, _∙_}
+use lib.ListN.{length}
 use Rattle.netfile.proofs.read.Statement.{statement}
 use Rattle.netfile.proofs.read.Tie as tie
 
@@ -44,8 +43,8 @@ returns c = let a = c .before .before .before .before .before .before .before .b
     let (q, e, z) = read-refused p o (a .file .now) (v .result) _ (v .ensures) (c .before .if1 .taken) in
     says-refused (readOf p o (a .file .now)) _ _ (a .tree .now) (a .flags .now) q e (c .refused .ensures .0 ∙ ap Refused z) (c .refused .ensures .1)
 
-tree-short-requires : tie.Need-tree-short-requires
-tree-short-requires c κs = search needs
+tree-lacks-room-requires : tie.Need-tree-lacks-room-requires
+tree-lacks-room-requires c κs = search needs
 
 refused-requires-2 : tie.Need-refused-requires-2
 refused-requires-2 c κs = search needs
@@ -56,11 +55,11 @@ returns-2 c = let a = c .before .before .before .before .before .before .before 
     let l = lists (v .last .1 .0) (v .last .1 .1 .0) (v .last .1 .1 .1 .0) (v .last .1 .1 .1 .1 .0) in
     let p = length (a .tree .now) in
     let o = length (a .flags .now) in
-    let e = read-short p o (a .file .now) (v .result) l (v .ensures) (c .before .before .before .if1 .left) (c .before .before .tree-short .ensures (a .file .now) l) refl (or-introl _ _ (c .before .if2 .taken)) in
+    let e = read-lacking p o (a .file .now) (v .result) l (v .ensures) (c .before .before .before .if1 .left) (c .before .before .tree-lacks-room .ensures (a .file .now) l) refl (or-introl _ _ (c .before .if2 .taken)) in
     says-refused (readOf p o (a .file .now)) _ _ (a .tree .now) (a .flags .now) shortBuffer e (c .refused2 .ensures .0) (c .refused2 .ensures .1)
 
-flags-short-requires : tie.Need-flags-short-requires
-flags-short-requires c κs = search needs
+flags-lack-room-requires : tie.Need-flags-lack-room-requires
+flags-lack-room-requires c κs = search needs
 
 refused-requires-3 : tie.Need-refused-requires-3
 refused-requires-3 c κs = search needs
@@ -71,7 +70,7 @@ returns-3 c = let a = c .before .before .before .before .before .before .before 
     let l = lists (v .last .1 .0) (v .last .1 .1 .0) (v .last .1 .1 .1 .0) (v .last .1 .1 .1 .1 .0) in
     let p = length (a .tree .now) in
     let o = length (a .flags .now) in
-    let e = read-short p o (a .file .now) (v .result) l (v .ensures) (c .before .before .before .before .before .if1 .left) (c .before .before .before .before .tree-short .ensures (a .file .now) l) (c .before .before .flags-short .ensures (a .file .now) l) (ap₂ (λ x y. x || y) (c .before .before .before .if2 .left) (c .before .if3 .taken)) in
+    let e = read-lacking p o (a .file .now) (v .result) l (v .ensures) (c .before .before .before .before .before .if1 .left) (c .before .before .before .before .tree-lacks-room .ensures (a .file .now) l) (c .before .before .flags-lack-room .ensures (a .file .now) l) (ap₂ (λ x y. x || y) (c .before .before .before .if2 .left) (c .before .if3 .taken)) in
     says-refused (readOf p o (a .file .now)) _ _ (a .tree .now) (a .flags .now) shortBuffer e (c .refused3 .ensures .0) (c .refused3 .ensures .1)
 
 write-tree-requires : tie.Need-write-tree-requires
@@ -81,7 +80,7 @@ write-flags-requires : tie.Need-write-flags-requires
 write-flags-requires c κs = let a = c .before .before .before .before .before .before .before .before .before .before .before .before .before .before .before .before .before .before .before .before .before .before .before .args in
     let v = c .before .before .before .before .before .before .before .before .before .before .before .before .before .before .before .read-fields in
     let l = lists (v .last .1 .0) (v .last .1 .1 .0) (v .last .1 .1 .1 .0) (v .last .1 .1 .1 .1 .0) in
-    (v .ensures .sound .ask, λ e. ltb-false (length (a .flags .now)) (v .result .«index_count») (lack-flags (a .file .now) (v .result) e l (length (a .flags .now)) ∙ sym (c .before .before .before .before .before .before .flags-short .ensures (a .file .now) l) ∙ c .before .before .before .before .before .if3 .left))
+    (v .ensures .sound .ask, λ e. ltb-false (length (a .flags .now)) (v .result .«index_count») (lack-flags (a .file .now) (v .result) e l (length (a .flags .now)) ∙ sym (c .before .before .before .before .before .before .flags-lack-room .ensures (a .file .now) l) ∙ c .before .before .before .before .before .if3 .left))
 
 found-tree-requires : tie.Need-found-tree-requires
 found-tree-requires c κs = search needs
@@ -102,7 +101,7 @@ returns-4 c = let a = c .before .before .before .before .before .before .before 
     let l = lists (v .last .1 .0) (v .last .1 .1 .0) (v .last .1 .1 .1 .0) (v .last .1 .1 .1 .1 .0) in
     let p = length (a .tree .now) in
     let o = length (a .flags .now) in
-    let e = read-done p o (a .file .now) (v .result) l (v .ensures) (c .before .before .before .before .before .before .before .before .before .before .before .before .before .before .if1 .left) (c .before .before .before .before .before .before .before .before .before .before .before .before .before .tree-short .ensures (a .file .now) l) (c .before .before .before .before .before .before .before .before .before .before .before .flags-short .ensures (a .file .now) l) (ap₂ (λ x y. x || y) (c .before .before .before .before .before .before .before .before .before .before .before .before .if2 .left) (c .before .before .before .before .before .before .before .before .before .before .if3 .left)) in
+    let e = read-done p o (a .file .now) (v .result) l (v .ensures) (c .before .before .before .before .before .before .before .before .before .before .before .before .before .before .if1 .left) (c .before .before .before .before .before .before .before .before .before .before .before .before .before .tree-lacks-room .ensures (a .file .now) l) (c .before .before .before .before .before .before .before .before .before .before .before .flags-lack-room .ensures (a .file .now) l) (ap₂ (λ x y. x || y) (c .before .before .before .before .before .before .before .before .before .before .before .before .if2 .left) (c .before .before .before .before .before .before .before .before .before .before .if3 .left)) in
     says-done (readOf p o (a .file .now)) _ _ (a .tree .now) (a .flags .now) (a .file .now) (v .result) l _ _ _ _ e refl (c .before .found-tree .ensures (a .file .now) (v .ensures .sound .tree)) (c .found-ask .ensures) refl (c .before .before .before .before .before .before .before .before .write-tree .ensures) (c .before .before .before .before .write-flags .ensures)
 
 pub read-spec : {M : Type 1} → statement M
@@ -116,10 +115,10 @@ read-spec =
     read-fields-requires
     refused-requires
     returns
-    tree-short-requires
+    tree-lacks-room-requires
     refused-requires-2
     returns-2
-    flags-short-requires
+    flags-lack-room-requires
     refused-requires-3
     returns-3
     write-tree-requires

@@ -3,10 +3,8 @@ use borrow.Author.Needs.{needs}
 use Rattle.netfile.specs.Writes.{kidsOver, tree-present, tree-absent}
 use Rattle.fields.specs.Fields.{whole}
 use Rattle.spec.specs.Memory.{placed}
-use native.Mathlib.Omega.{arith}
-use Prim.Native.Nat.{ℕ, _+_, _-_, _*_, _<_, _≤_}
-use mathlib.Core.Path.{_≡_, refl, sym, ap, _∙_, subst}
-use lib.ListN.{length, getD, set, length-set}
+use Prim.Native.Nat.{_-_}
+use mathlib.Core.Path.{sym, ap, _∙_}
 use Rattle.netfile.proofs.write_tree.Statement.{statement}
 use Rattle.netfile.proofs.write_tree.Tie as tie
 

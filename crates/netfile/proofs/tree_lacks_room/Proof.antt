@@ -3,12 +3,10 @@ use borrow.Author.Needs.{needs}
 use Rattle.netfile.specs.Writes.{lacking, lack-tree, tree-absent}
 use Rattle.fields.specs.Scans.{netIn}
 use Rattle.spec.specs.File.{treeLent}
-use native.Mathlib.Omega.{arith}
-use Prim.Native.Nat.{ℕ, _+_, _-_, _*_, _<_, _≤_}
-use mathlib.Core.Path.{_≡_, refl, sym, ap, _∙_, subst}
-use lib.ListN.{length, getD, set, length-set}
-use Rattle.netfile.proofs.tree_short.Statement.{statement}
-use Rattle.netfile.proofs.tree_short.Tie as tie
+use Prim.Native.Nat.{_-_}
+use mathlib.Core.Path.{sym, ap}
+use Rattle.netfile.proofs.tree_lacks_room.Statement.{statement}
+use Rattle.netfile.proofs.tree_lacks_room.Tie as tie
 
 less-requires : tie.Need-less-requires
 less-requires c κs = search needs
@@ -24,5 +22,5 @@ returns-2 : tie.Need-returns-2
 returns-2 c = let a = c .before .args in
     λ file l. sym (ap (λ t. lacking (treeLent (netIn (a .s) l) (a .places) t)) (tree-absent file (a .s) (c .if1 .left)))
 
-pub tree-short-spec : {M : Type 1} → statement M
-tree-short-spec = tie.close (tie.spec less-requires add-result returns returns-2)
+pub tree-lacks-room-spec : {M : Type 1} → statement M
+tree-lacks-room-spec = tie.close (tie.spec less-requires add-result returns returns-2)
