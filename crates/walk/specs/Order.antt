@@ -39,7 +39,7 @@ inner-length (node v l r) =
     omega (arith, length-append (inner l) (inner r ++ (v ∷ [])), length-append (inner r) (v ∷ []), inner-length l, inner-length r)
 
 -- no number is above the root's
-abbrev Low : ℕ → Tree → Type 0
+abbrev pub Low : ℕ → Tree → Type 0
 Low top t = (k : ℕ) → memb k (numbers t) ≡ true → k ≤ top
 
 abbrev Lows : ℕ → List Tree → Type 0
