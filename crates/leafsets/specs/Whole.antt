@@ -8,10 +8,12 @@ use native.Mathlib.Omega.{arith}
 use native.Mathlib.Nat.{mul-le-mul-right}
 use native.Mathlib.Decide.{decLe}
 use lib.Dec.{eqb, ltb}
-use lib.ListN.{length, getD}
+use lib.ListN.{length, getD, take, drop}
+use lib.Seq.{take-at}
 use borrow.Author.Tests.{eq-eqb, ne-eqb, eqb-true, lt-ltb, le-ltb}
 use Rattle.spec.specs.Lists.{allb, anyb, from, range}
 use Rattle.spec.specs.Tree.{Tree, leaf, node, below, belowOf, Pair, Describes, treeAt, valid, pairsOf, stepOrder, agree, within, samePlan}
+use Rattle.spec.specs.Memory.{over}
 use Rattle.spec.specs.Calls.{wrongTree}
 use Rattle.laws.specs.Booleans.{bool-ext, clash}
 use Rattle.laws.specs.ListLaws.{all-elim, all-intro, from-memb, memb-range}
@@ -19,6 +21,8 @@ use Rattle.laws.specs.Walks.{valid-tree, valid-none}
 use Rattle.laws.specs.Arrays.{valid-inner}
 use Rattle.slots.specs.Slots.{held, Words, held-digit, word-is, word-held}
 use Rattle.bits.specs.Digits.{digit}
+use Rattle.cells.specs.Cells.{over-length, over-fits}
+use Rattle.walk.specs.Order.{order-length}
 use Rattle.walk.specs.Wrong.{not-wrong}
 use Rattle.walk.specs.Marks.{was-false, was-true}
 use Rattle.leafsets.specs.Passes.{singles, ups, singles-length}
@@ -225,3 +229,12 @@ module _ (n : ℕ) (kids others ws v₁ v₂ v₃ v₄ : List ℕ) (c : ℕ) (sm
       let q : within n (pairsOf kids) (pairsOf others) ≡ true
       = sym (found .0) ∙ sym (ap₂ (λ (k m : ℕ). allFound 2 v₄ k (n * 2 + n) m) zero-n count) ∙ sym e ∙ was-true b f in
       rw q (g ∙ ap₂ (λ (k m : ℕ). allFound 2 v₄ (n * 2 + n) k m) zero-n count ∙ found .1)
+
+-- the front of a list that an order is written over
+pub order-front : (d : List ℕ) (kids : List ℕ) (n k : ℕ) (l : List ℕ) → wrongTree n kids ≡ false → l ≡ over d (stepOrder kids n) → n - 1 ≤ length l
+    → k ≡ n - 1 → take k l ≡ stepOrder kids n
+order-front d kids n k l e q h z =
+    let s = stepOrder kids n in
+    let len : length s ≡ n - 1 = order-length kids n e in
+    ap (take k) (q ∙ over-fits d s (omega (arith, ap length q, over-length d s)))
+    ∙ take-at s (drop (length s) d) k (len ∙ sym z)

@@ -97,7 +97,7 @@ fn all_found(ws: &[u64], w: usize, s: usize, t: usize, count: usize) -> bool
 }
 
 // Are two trees of `n` leaves the same plan: `order` and `sequence` are their step orders. The sets take two words each.
-pub fn same_trees(
+fn same_trees(
     kids: &[u16],
     order: &[u16],
     others: &[u16],
@@ -118,4 +118,16 @@ pub fn same_trees(
         return false;
     }
     all_found(ws, 2, base + n, n, count)
+}
+
+// Are two valid trees of `n` leaves the same plan. The first 2,048 words of `ws` are used, whatever they hold.
+pub fn same_valid(kids: &[u16], others: &[u16], n: usize, ws: &mut [u64]) -> bool
+    requires { ⌜ (n ≤ 128) × (2048 ≤ length (now ws)) × (wrongTree n (now kids) ≡ false) × (wrongTree n (now others) ≡ false) ⌝ }
+    ensures { λ r. ⌜ r ≡ samePlan n (pairsOf (now (kids .entry))) (pairsOf (now (others .entry))) ⌝ }
+{
+    let mut order = [0u16; 128];
+    let mut sequence = [0u16; 128];
+    let steps = walk::post_order(kids, n, ws, &mut order);
+    let count = walk::post_order(others, n, ws, &mut sequence);
+    same_trees(kids, &order[..steps], others, &sequence[..count], n, ws)
 }

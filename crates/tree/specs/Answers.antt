@@ -9,8 +9,9 @@ use lib.ListN.{length}
 use borrow.Author.Tests.{lt-ltb, le-ltb}
 use Rattle.spec.specs.Refusal.{invalidTree, numberOf, codeOf, Check, check, Result, refused, done, checked}
 use Rattle.spec.specs.Network.{Network, leafCount, refusalOf}
-use Rattle.spec.specs.Tree.{stepOrder}
-use Rattle.spec.specs.Calls.{Lent, lent, lengthCheck, plainWords, stepPlaces, wrongTree, treeCheck, validCall, orderCall}
+use Rattle.spec.specs.Memory.{cleared}
+use Rattle.spec.specs.Tree.{stepOrder, samePlan, pairsOf}
+use Rattle.spec.specs.Calls.{Lent, lent, lengthCheck, plainWords, stepPlaces, wrongTree, treeCheck, validCall, orderCall, sameCall, workspaceAfter}
 use Rattle.spec.specs.Lists.{anyb}
 use Rattle.laws.specs.Booleans.{clash}
 use Rattle.walk.specs.Marks.{was-false, was-true}
@@ -18,6 +19,7 @@ use Rattle.walk.specs.Entry.{Untouched, by-network, past-network, by-length, pa
 use Rattle.tree.specs.declared.Validity.{Validity}
 use Rattle.tree.specs.declared.Validity.the-variants.{Valid}
 use Rattle.tree.specs.declared.Ordered.{Ordered}
+use Rattle.tree.specs.declared.Same.{Same}
 
 -- ---- answers ----
 
@@ -31,6 +33,11 @@ abbrev pub orderedOf : Result (List ℕ) → Ordered
 orderedOf (refused r) = Ordered.Refused (numberOf r)
 orderedOf (done steps) = Ordered.Done (length steps)
 
+-- refused by number, or whether it is the same plan
+abbrev pub sameOf : Result Bool → Same
+sameOf (refused r) = Same.Refused (numberOf r)
+sameOf (done b) = Same.Done b
+
 -- ---- the calls on n leaves, the network's own checks aside ----
 
 abbrev pub rightTree : ℕ → List ℕ → Check
@@ -42,6 +49,14 @@ validIn n words kids = checked (lengthCheck (lent words plainWords ∷ []) ∷ r
 unfoldable pub orderIn : ℕ → ℕ → ℕ → List ℕ → Result (List ℕ)
 orderIn n words places kids =
     checked (lengthCheck (lent words plainWords ∷ lent places (n - 1) ∷ []) ∷ rightTree n kids ∷ []) (done (stepOrder kids n))
+
+-- two trees, once the workspace is long enough
+unfoldable pub compared : ℕ → List ℕ → List ℕ → Result Bool
+compared n kids others = checked (rightTree n kids ∷ rightTree n others ∷ []) (done (samePlan n (pairsOf kids) (pairsOf others)))
+
+unfoldable pub sameIn : ℕ → ℕ → List ℕ → List ℕ → Result Bool
+sameIn n words kids others =
+    checked (lengthCheck (lent words plainWords ∷ []) ∷ rightTree n kids ∷ rightTree n others ∷ []) (done (samePlan n (pairsOf kids) (pairsOf others)))
 
 was-wrong : (b w : Bool) → b ≡ not w → b ≡ false → w ≡ true
 was-wrong b true e f = refl
@@ -107,6 +122,46 @@ module _ (n words places : ℕ) (kids : List ℕ) where
     pub order-right : not b ≡ false → wrongTree n kids ≡ false
     order-right f = was-right b (wrongTree n kids) e (was-true b f)
 
+module _ (n : ℕ) (kids others : List ℕ) where
+  abbrev verdict : Result Bool
+  verdict = done (samePlan n (pairsOf kids) (pairsOf others))
+
+  pub compared-first : (b : Bool) → b ≡ not (wrongTree n kids) → not b ≡ true → compared n kids others ≡ refused invalidTree
+  unfolding compared
+  compared-first b e f = holds-first (rightTree n kids) (rightTree n others ∷ []) verdict (was-wrong b (wrongTree n kids) e (was-false b f))
+
+  pub tree-right : (kids : List ℕ) (b : Bool) → b ≡ not (wrongTree n kids) → not b ≡ false → wrongTree n kids ≡ false
+  tree-right kids b e f = was-right b (wrongTree n kids) e (was-true b f)
+
+  pub compared-second : wrongTree n kids ≡ false → (b : Bool) → b ≡ not (wrongTree n others) → not b ≡ true → compared n kids others ≡ refused invalidTree
+  unfolding compared
+  compared-second h b e f =
+      passes-first (rightTree n kids) (rightTree n others ∷ []) verdict h
+      ∙ holds-first (rightTree n others) [] verdict (was-wrong b (wrongTree n others) e (was-false b f))
+
+  pub compared-done : wrongTree n kids ≡ false → wrongTree n others ≡ false → compared n kids others ≡ done (samePlan n (pairsOf kids) (pairsOf others))
+  unfolding compared
+  compared-done h q = passes-first (rightTree n kids) (rightTree n others ∷ []) verdict h ∙ passes-first (rightTree n others) [] verdict q
+
+  -- whatever the comparison answers, the workspace is cleared
+  cleared-either : (x y : Bool) (stated : ℕ) (ws : List ℕ)
+      → workspaceAfter stated (checked (check x invalidTree ∷ check y invalidTree ∷ []) verdict) ws ≡ cleared ws stated
+  cleared-either true y stated ws = refl
+  cleared-either false true stated ws = refl
+  cleared-either false false stated ws = refl
+
+  pub same-short : (words : ℕ) → words < plainWords → Untouched 7 (sameIn n words kids others)
+  unfolding sameIn
+  same-short words h = by-length (lent words plainWords ∷ []) (rightTree n kids ∷ rightTree n others ∷ []) verdict (short-words words h)
+
+  pub same-compared : (words : ℕ) → plainWords ≤ words → sameIn n words kids others ≡ compared n kids others
+  unfolding sameIn compared
+  same-compared words h = past-length (lent words plainWords ∷ []) (rightTree n kids ∷ rightTree n others ∷ []) verdict (long-words words h)
+
+  pub compared-words : (ws : List ℕ) → workspaceAfter plainWords (compared n kids others) ws ≡ cleared ws plainWords
+  unfolding compared
+  compared-words ws = cleared-either (wrongTree n kids) (wrongTree n others) plainWords ws
+
 -- ---- the network decides first ----
 
 module _ (N : Network) (words : ℕ) (kids : List ℕ) where
@@ -133,3 +188,17 @@ module _ (N : Network) (words places : ℕ) (kids : List ℕ) where
   order-accepted n e q =
       past-network N orderRest (done (stepOrder kids (leafCount N))) e
       ∙ ap (λ (n : ℕ). checked (lengthCheck (lents n words places kids) ∷ rightTree n kids ∷ []) (done (stepOrder kids n))) q
+
+module _ (N : Network) (words : ℕ) (kids others : List ℕ) where
+  abbrev sameRest : List Check
+  sameRest = lengthCheck (lent words plainWords ∷ []) ∷ treeCheck N kids ∷ treeCheck N others ∷ []
+
+  pub same-refused : (k : ℕ) → k ≡ codeOf (refusalOf N) → (k ≡ 0 → ⊥) → Untouched k (sameCall N words kids others)
+  unfolding sameCall
+  same-refused k e z = by-network N sameRest (verdict (leafCount N) kids others) k e z
+
+  pub same-accepted : (n : ℕ) → refusalOf N ≡ none → leafCount N ≡ n → sameCall N words kids others ≡ sameIn n words kids others
+  unfolding sameCall sameIn
+  same-accepted n e q =
+      past-network N sameRest (verdict (leafCount N) kids others) e
+      ∙ ap (λ (n : ℕ). checked (lengthCheck (lent words plainWords ∷ []) ∷ rightTree n kids ∷ rightTree n others ∷ []) (verdict n kids others)) q
