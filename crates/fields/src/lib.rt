@@ -162,7 +162,7 @@ fn take_leaf(s: Scan, file: &[u8], at: usize, n: usize, counts: &mut [u8], legs:
         return Scan::stopped(code);
     }
     cells::put8(counts, leaf, n as u8);
-    payloads::place(legs, leaf * Network::LEGS, payload);
+    payloads::place(legs, leaf * Network::MAX_LEGS, payload);
     Scan::bare(due::LEAVES, end, m, leaf + 1, 0)
 }
 

@@ -138,10 +138,10 @@ pub fn read(file: &[u8], tree: &mut [u16], flags: &mut [u8]) -> Reading
         × (now (flags .exit) ≡ flagsAfter (readOf (length (now (tree .entry))) (length (now (flags .entry))) (now (file .entry))) (now (flags .entry)))
         ⌝ }
 {
-    let mut weights = [0u8; 256];
-    let mut leg_counts = [0u8; 128];
-    let mut legs = [0u16; 4096];
-    let mut outputs = [0u16; 32];
+    let mut weights = [0u8; Network::MAX_INDICES];
+    let mut leg_counts = [0u8; Network::MAX_LEAVES];
+    let mut legs = [0u16; Network::MAX_LEAVES * Network::MAX_LEGS];
+    let mut outputs = [0u16; Network::MAX_OUTPUTS];
     let s = fields::read_fields(file, &mut weights, &mut leg_counts, &mut legs, &mut outputs);
     if s.refusal != refusal::NONE {
         return refused(s.refusal);

@@ -16,16 +16,16 @@ pub fn too_large(m: usize, n: usize, o: usize, counts: &[u8]) -> bool
     requires { ⌜ maxLeaves ≤ length (now counts) ⌝ }
     ensures { λ r. ⌜ r ≡ largeOf m n o (now (counts .entry)) ⌝ }
 {
-    if n > Network::LEAVES {
+    if n > Network::MAX_LEAVES {
         return true;
     }
-    if m > Network::INDICES {
+    if m > Network::MAX_INDICES {
         return true;
     }
-    if o > Network::OUTPUTS {
+    if o > Network::MAX_OUTPUTS {
         return true;
     }
-    scan::above(&counts[..n], Network::LEGS as u8)
+    scan::above(&counts[..n], Network::MAX_LEGS as u8)
 }
 
 // Does a leaf, or do the outputs, name an index that is not below m.
@@ -79,7 +79,7 @@ pub fn number<'a>(
     if too_large(m, n, o, counts) {
         return refusal::TOO_LARGE;
     }
-    if scan::above(&weights[..m], Network::WEIGHT) {
+    if scan::above(&weights[..m], Network::MAX_WEIGHT) {
         return refusal::OVERWEIGHT;
     }
     if out_of_range(m, n, o, counts, legs, outputs) {

@@ -18,11 +18,11 @@ pub struct Network {
     pub index_count: usize,
     pub leaf_count: usize,
     pub output_count: usize,
-    pub weights: [u8; 256],
-    pub leg_counts: [u8; 128],
+    pub weights: [u8; Network::MAX_INDICES],
+    pub leg_counts: [u8; Network::MAX_LEAVES],
     // the indices of leaf i stand from place 32 i on
-    pub legs: [u16; 4096],
-    pub outputs: [u16; 32],
+    pub legs: [u16; Network::MAX_LEAVES * Network::MAX_LEGS],
+    pub outputs: [u16; Network::MAX_OUTPUTS],
 }
 
 // What a check answers: the number of the refusal, or that there is none.
@@ -38,15 +38,15 @@ pub struct Added {
 }
 
 impl Network {
-    pub const LEAVES: usize = 128;
+    pub const MAX_LEAVES: usize = 128;
 
-    pub const INDICES: usize = 256;
+    pub const MAX_INDICES: usize = 256;
 
-    pub const LEGS: usize = 32;
+    pub const MAX_LEGS: usize = 32;
 
-    pub const OUTPUTS: usize = 32;
+    pub const MAX_OUTPUTS: usize = 32;
 
-    pub const WEIGHT: u8 = 8;
+    pub const MAX_WEIGHT: u8 = 8;
 
     pub fn empty() -> Self
         ensures { λ r. ⌜ netOf r ≡ record { leaves = []; outputs = []; weights = [] } ⌝ }
@@ -55,10 +55,10 @@ impl Network {
             index_count: 0,
             leaf_count: 0,
             output_count: 0,
-            weights: [0; 256],
-            leg_counts: [0; 128],
-            legs: [0; 4096],
-            outputs: [0; 32],
+            weights: [0; Self::MAX_INDICES],
+            leg_counts: [0; Self::MAX_LEAVES],
+            legs: [0; Self::MAX_LEAVES * Self::MAX_LEGS],
+            outputs: [0; Self::MAX_OUTPUTS],
         }
     }
     // One index more, of the given weight.
@@ -66,7 +66,7 @@ impl Network {
         ensures { λ r. ⌜ Adds self (addWeight (netOf self) weight) r ⌝ }
     {
         let m = self.index_count;
-        if m >= Self::INDICES {
+        if m >= Self::MAX_INDICES {
             return refused_large(self);
         }
         let mut next = self;
@@ -85,14 +85,14 @@ impl Network {
         if checks::too_large(m, n, o, &self.leg_counts) {
             return refused_large(self);
         }
-        if n >= Self::LEAVES {
+        if n >= Self::MAX_LEAVES {
             return refused_large(self);
         }
-        if leaf.len() > Self::LEGS {
+        if leaf.len() > Self::MAX_LEGS {
             return refused_large(self);
         }
         let mut legs = self.legs;
-        place16(&mut legs, n * Self::LEGS, leaf);
+        place16(&mut legs, n * Self::MAX_LEGS, leaf);
         let mut next = self;
         next.leg_counts[n] = leaf.len() as u8;
         next.legs = legs;
@@ -105,7 +105,7 @@ impl Network {
         ensures { λ r. ⌜ Adds self (addOutput (netOf self) index) r ⌝ }
     {
         let o = self.output_count;
-        if o >= Self::OUTPUTS {
+        if o >= Self::MAX_OUTPUTS {
             return refused_large(self);
         }
         let mut next = self;

@@ -57,7 +57,7 @@ pub fn leaf<'a>(counts: &'a [u8], legs: &'a [u16], i: usize) -> &'a [u16]
     requires { ⌜ Row (now counts) (now legs) i ⌝ }
     ensures { λ r. ⌜ now r ≡ rowAt (now (counts .entry)) (now (legs .entry)) i ⌝ }
 {
-    let at = i * Network::LEGS;
+    let at = i * Network::MAX_LEGS;
     let end = at + counts[i] as usize;
     &legs[at..end]
 }

@@ -37,10 +37,10 @@ pub fn check_indices(bytes: &[u8], m: usize) -> u8
 pub fn check_weights(bytes: &[u8]) -> u8
     ensures { λ r. ⌜ r ≡ codeOf (weightsRefusal (now (bytes .entry))) ⌝ }
 {
-    if Network::INDICES < bytes.len() {
+    if Network::MAX_INDICES < bytes.len() {
         return refusal::TOO_LARGE;
     }
-    if scan::above(bytes, Network::WEIGHT) {
+    if scan::above(bytes, Network::MAX_WEIGHT) {
         refusal::OVERWEIGHT
     } else {
         refusal::NONE
@@ -51,10 +51,10 @@ pub fn check_weights(bytes: &[u8]) -> u8
 pub fn check_leaf(bytes: &[u8], m: usize, n: usize) -> u8
     ensures { λ r. ⌜ r ≡ codeOf (leafRefusal m n (now (bytes .entry))) ⌝ }
 {
-    if Network::LEGS < bytes.len() {
+    if Network::MAX_LEGS < bytes.len() {
         return refusal::TOO_LARGE;
     }
-    if Network::LEAVES <= n {
+    if Network::MAX_LEAVES <= n {
         return refusal::TOO_LARGE;
     }
     check_indices(bytes, m)
@@ -63,7 +63,7 @@ pub fn check_leaf(bytes: &[u8], m: usize, n: usize) -> u8
 pub fn check_outputs(bytes: &[u8], m: usize) -> u8
     ensures { λ r. ⌜ r ≡ codeOf (outputsRefusal m (now (bytes .entry))) ⌝ }
 {
-    if Network::OUTPUTS < bytes.len() {
+    if Network::MAX_OUTPUTS < bytes.len() {
         return refusal::TOO_LARGE;
     }
     check_indices(bytes, m)
