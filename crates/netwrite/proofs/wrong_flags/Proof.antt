@@ -1,0 +1,24 @@
+-- Assumes nothing.
+use borrow.Author.Needs.{needs}
+use Rattle.netwrite.specs.Numbers.{no-flags, more-flags, other-flags}
+use native.Mathlib.Omega.{arith}
+use Prim.Native.Nat.{ℕ, _+_, _-_, _*_, _<_, _≤_}
+use mathlib.Core.Path.{_≡_, refl, sym, ap, _∙_, subst}
+use lib.ListN.{length, getD, set, length-set}
+use Rattle.netwrite.proofs.wrong_flags.Statement.{statement}
+use Rattle.netwrite.proofs.wrong_flags.Tie as tie
+
+returns : tie.Need-returns
+returns c = no-flags _ _ _ (c .if1 .taken)
+
+returns-2 : tie.Need-returns-2
+returns-2 c = more-flags _ _ _ (c .before .if1 .left) (c .if2 .taken)
+
+above-requires : tie.Need-above-requires
+above-requires c κs = search needs
+
+returns-3 : tie.Need-returns-3
+returns-3 c = other-flags _ _ _ (c .before .before .if1 .left) (c .before .if2 .left) (c .above .ensures)
+
+pub wrong-flags-spec : {M : Type 1} → statement M
+wrong-flags-spec = tie.close (tie.spec returns returns-2 above-requires returns-3)
