@@ -16,7 +16,8 @@ ghost use Rattle.putfields.specs.Leaves.{leafBytes};
 ghost use Rattle.netwrite.specs.Contents.{TreeLent, AskLent, treeOf, askOf, contentsOf, networkFields};
 ghost use Rattle.netwrite.specs.Sizes.{Few, fixedBytes};
 ghost use Rattle.netwrite.specs.Numbers.{treeIsWrong, flagsAreWrong};
-ghost use Rattle.netwrite.specs.Writes.{Narrow, Written};
+ghost use Rattle.spec.specs.Layout.{networkOf};
+ghost use Rattle.spec.specs.FileClaims.{Bytes};
 
 use network::Network;
 use network::checks;
@@ -134,4 +135,46 @@ fn number<'a>(
         return refusal::INVALID_FLAGS;
     }
     refusal::NONE
+}
+
+// The fields of an accepted network.
+fn put_network<'a>(
+    out: &mut [u8],
+    at: usize,
+    m: usize,
+    n: usize,
+    o: usize,
+    weights: &'a [u8],
+    counts: &'a [u8],
+    legs: &'a [u16],
+    outputs: &'a [u16],
+) -> usize
+    requires { ⌜ Lent (now weights) (now counts) (now legs) (now outputs) × Facts m n o (now weights) (now counts) (now legs) (now outputs) × (at + length (networkFields (networkOf m n o (now weights) (now counts) (now legs) (now outputs))) ≤ length (now out)) ⌝ }
+    ensures { λ r. ⌜ Put (now (out .entry)) (now (out .exit)) at r (networkFields (networkOf m n o (now (weights .entry)) (now (counts .entry)) (now (legs .entry)) (now (outputs .entry)))) ⌝ }
+{
+    let leaves = putfields::put_bytes(out, at, tags::WEIGHTS, &weights[..m]);
+    let last = putfields::put_leaves(out, leaves, n, counts, legs);
+    putfields::put_indices(out, last, tags::OUTPUTS, &outputs[..o])
+}
+
+// The field of the tree, if there is one.
+fn put_tree(out: &mut [u8], at: usize, tree: bool, kids: &[u16]) -> usize
+    requires { ⌜ TreeLent tree (now kids) × (length (now kids) < 65536) × Bytes (now kids) × (at + length (treeField (treeOf tree (now kids))) ≤ length (now out)) ⌝ }
+    ensures { λ r. ⌜ Put (now (out .entry)) (now (out .exit)) at r (treeField (treeOf tree (now (kids .entry)))) ⌝ }
+{
+    if !tree {
+        return at;
+    }
+    putfields::put_indices(out, at, tags::TREE, kids)
+}
+
+// The field of what is asked, if anything is.
+fn put_ask(out: &mut [u8], at: usize, ask: u8, payload: &[u8]) -> usize
+    requires { ⌜ AskLent ask (now payload) × (length (now payload) < 65536) × (at + length (askField (askOf ask (now payload))) ≤ length (now out)) ⌝ }
+    ensures { λ r. ⌜ Put (now (out .entry)) (now (out .exit)) at r (askField (askOf ask (now (payload .entry)))) ⌝ }
+{
+    if ask == 0 {
+        return at;
+    }
+    putfields::put_bytes(out, at, ask, payload)
 }
