@@ -1,5 +1,5 @@
 -- The writer's refusals by number. Assumes nothing.
-use mathlib.Core.Path.{_≡_, refl, sym, ap, ap₂, _∙_}
+use mathlib.Core.Path.{_≡_, refl, sym, ap, _∙_}
 use mathlib.Core.Bool.{Bool, true, false, not, _&&_, _||_, cond}
 use mathlib.Core.List.{List, [], _∷_, _++_}
 use mathlib.Core.Option.{Option, none, some}
@@ -9,7 +9,7 @@ use lib.Dec.{eqb, ltb}
 use lib.ListN.{length}
 use borrow.Author.Tests.{ne-eqb, eq-eqb, lt-ltb, le-ltb}
 use Rattle.spec.specs.Lists.{anyb}
-use Rattle.spec.specs.Refusal.{Refusal, shortBuffer, invalidTree, invalidFlags, Check, check, first, codeOf, numberOf}
+use Rattle.spec.specs.Refusal.{Refusal, shortBuffer, invalidTree, invalidFlags, Check, first, codeOf}
 use Rattle.spec.specs.Network.{Network, leafCount, indexCount, networkChecks, refusalOf}
 use Rattle.spec.specs.Calls.{wrongTree, lent, lengthCheck}
 use Rattle.spec.specs.Layout.{networkOf}
@@ -131,7 +131,7 @@ module _ (m n o : ℕ) (weights counts cells outputs : List ℕ) {tree : Bool} {
   number-network e z = by-refusal (refusalOf network) refl e z
 
   -- it is not: the other conditions decide
-  others : 0 ≡ codeOf (refusalOf network)
+  pub others : 0 ≡ codeOf (refusalOf network)
       → codeOf (first (writeChecks contents size cursor))
       ≡ cond (ltb size (cursor + (fixedBytes m n o counts tree tag + (length kids + length payload)))) 7
       (cond (treeIsWrong tree n kids) 8 (cond (flagsAreWrong tag m payload) 9 0))

@@ -1,20 +1,17 @@
 -- The bytes of the file, put one list after another. Assumes nothing.
-use mathlib.Core.Path.{_≡_, refl, sym, ap, _∙_, subst}
+use mathlib.Core.Path.{_≡_, refl, sym, subst}
 use mathlib.Core.Bool.{Bool, true, false, not}
-use mathlib.Core.List.{List, [], _∷_, _++_}
-use Prim.Native.Nat.{ℕ, _+_, _*_, _%_, _≤_, _<_}
+use mathlib.Core.List.{List, _++_}
+use Prim.Native.Nat.{ℕ, _+_, _≤_, _<_}
 use native.Mathlib.Omega.{arith}
-use lib.Dec.{eqb}
-use lib.ListN.{length, getD, take, length-append, length-take}
+use lib.ListN.{length, take, length-take}
 use lib.Seq.{getD-take}
-use borrow.Author.Tests.{eqb-false}
-use Rattle.spec.specs.Network.{maxLegs}
 use Rattle.spec.specs.Layout.{firsts, networkOf}
 use Rattle.spec.specs.File.{field, leafFields, treeField, askField}
 use Rattle.spec.specs.FileClaims.{Bytes}
-use Rattle.laws.specs.Booleans.{clash, or-none}
-use Rattle.network.specs.Layouts.{firsts-take, firsts-length}
-use Rattle.network.specs.Checks.{Lent, Rows, leavesOf}
+use Rattle.laws.specs.Booleans.{clash}
+use Rattle.network.specs.Layouts.{firsts-take}
+use Rattle.network.specs.Checks.{Lent, leavesOf}
 use Rattle.network.specs.Codes.{Facts}
 use Rattle.putfields.specs.Put.{Put, put-both, put-none, put-length, all-bytes}
 use Rattle.putfields.specs.Leaves.{Leaves, leafBytes, leaf-fields-length}
@@ -63,12 +60,11 @@ module _ {m n o : ℕ} {weights counts cells outputs : List ℕ} (l : Lent weigh
 
       module _ {o₂ : List ℕ} {b : ℕ} (q : Put o₁ o₂ a b (leafFields (leavesOf n counts cells))) where
         pub outputs-room : (length (take o outputs) < 65536) × (b + 3 + length (take o outputs) ≤ length o₂) × Bytes (take o outputs)
-        outputs-room =
-            (
-              omega (arith, outputs-length, f .fewOutputs),
-              omega (arith, bytes, leaf-fields-length counts cells n, weights-length, outputs-length, p .past, put-length p, q .past, put-length q),
-              outputs-bytes
-            )
+        outputs-room = (
+          omega (arith, outputs-length, f .fewOutputs),
+          omega (arith, bytes, leaf-fields-length counts cells n, weights-length, outputs-length, p .past, put-length p, q .past, put-length q),
+          outputs-bytes,
+        )
 
         -- all three
         pub network-put : {o₃ : List ℕ} {c : ℕ} → Put o₂ o₃ b c (field 3 (take o outputs)) → Put d o₃ at c (networkFields (networkOf m n o weights counts cells outputs))

@@ -16,9 +16,9 @@ ghost use Rattle.putfields.specs.Leaves.{leafBytes};
 ghost use Rattle.netwrite.specs.Contents.{TreeLent, AskLent, treeOf, askOf, contentsOf, networkFields};
 ghost use Rattle.netwrite.specs.Sizes.{Few, fixedBytes};
 ghost use Rattle.netwrite.specs.Numbers.{treeIsWrong, flagsAreWrong};
+ghost use Rattle.netwrite.specs.Answers.{Writes};
 ghost use Rattle.spec.specs.Layout.{networkOf};
 ghost use Rattle.spec.specs.FileClaims.{Bytes};
-
 use network::Network;
 use network::checks;
 use network::refusal;
@@ -177,4 +177,54 @@ fn put_ask(out: &mut [u8], at: usize, ask: u8, payload: &[u8]) -> usize
         return at;
     }
     putfields::put_bytes(out, at, ask, payload)
+}
+
+// Writes the file of an accepted network, of its tree, if there is one, and of what is asked, from the cursor on; or refuses, and writes
+// nothing.
+pub fn write<'a>(
+    m: usize,
+    n: usize,
+    o: usize,
+    weights: &'a [u8],
+    counts: &'a [u8],
+    legs: &'a [u16],
+    outputs: &'a [u16],
+    tree: bool,
+    kids: &[u16],
+    ask: u8,
+    payload: &[u8],
+    out: &mut [u8],
+    cursor: usize,
+) -> Wrote
+    requires { ⌜ Lent (now weights) (now counts) (now legs) (now outputs) × TreeLent tree (now kids) × AskLent ask (now payload) ⌝ }
+    ensures { λ r. ⌜ Writes (contentsOf m n o (now (weights .entry)) (now (counts .entry)) (now (legs .entry)) (now (outputs .entry)) tree (now (kids .entry)) ask (now (payload .entry))) cursor (now (out .entry)) (now (out .exit)) r ⌝ }
+{
+    let size = out.len();
+    let code = number(
+        m,
+        n,
+        o,
+        weights,
+        counts,
+        legs,
+        outputs,
+        tree,
+        kids,
+        ask,
+        payload,
+        size,
+        cursor,
+    );
+    if code != refusal::NONE {
+        return Wrote {
+            number: code,
+            next: 0,
+        };
+    }
+    let next = put_network(out, cursor, m, n, o, weights, counts, legs, outputs);
+    let last = put_tree(out, next, tree, kids);
+    Wrote {
+        number: refusal::NONE,
+        next: put_ask(out, last, ask, payload),
+    }
 }

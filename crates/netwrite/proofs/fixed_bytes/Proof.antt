@@ -2,9 +2,6 @@
 use borrow.Author.Needs.{needs}
 use Rattle.netwrite.specs.Sizes.{fixedBytes}
 use native.Mathlib.Omega.{arith}
-use Prim.Native.Nat.{ℕ, _+_, _-_, _*_, _<_, _≤_}
-use mathlib.Core.Path.{_≡_, refl, sym, ap, _∙_, subst}
-use lib.ListN.{length, getD, set, length-set}
 use Rattle.netwrite.proofs.fixed_bytes.Statement.{statement}
 use Rattle.netwrite.proofs.fixed_bytes.Tie as tie
 

@@ -2,9 +2,7 @@
 use borrow.Author.Needs.{needs}
 use Rattle.netwrite.specs.Sizes.{Summed, summed-none, summed-next, summed-end}
 use native.Mathlib.Omega.{arith}
-use Prim.Native.Nat.{ℕ, _+_, _-_, _*_, _<_, _≤_}
-use mathlib.Core.Path.{_≡_, refl, sym, ap, _∙_, subst}
-use lib.ListN.{length, getD, set, length-set}
+use Prim.Native.Nat.{_-_}
 use Rattle.netwrite.proofs.leaf_bytes.Statement.{statement}
 use Rattle.netwrite.proofs.leaf_bytes.Tie as tie
 

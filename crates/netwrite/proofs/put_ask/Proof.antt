@@ -1,10 +1,6 @@
 -- Assumes nothing.
 use borrow.Author.Needs.{needs}
 use Rattle.netwrite.specs.Writes.{ask-none, ask-some, ask-room}
-use native.Mathlib.Omega.{arith}
-use Prim.Native.Nat.{ℕ, _+_, _-_, _*_, _<_, _≤_}
-use mathlib.Core.Path.{_≡_, refl, sym, ap, _∙_, subst}
-use lib.ListN.{length, getD, set, length-set}
 use Rattle.netwrite.proofs.put_ask.Statement.{statement}
 use Rattle.netwrite.proofs.put_ask.Tie as tie
 

@@ -1,10 +1,7 @@
 -- Assumes nothing.
 use borrow.Author.Needs.{needs}
 use Rattle.netwrite.specs.Writes.{weights-length, outputs-length, weights-room, leaves-room, outputs-room, network-put}
-use native.Mathlib.Omega.{arith}
-use Prim.Native.Nat.{ℕ, _+_, _-_, _*_, _<_, _≤_}
-use mathlib.Core.Path.{_≡_, refl, sym, ap, _∙_, subst}
-use lib.ListN.{length, getD, set, length-set}
+use mathlib.Core.Path.{sym}
 use Rattle.netwrite.proofs.put_network.Statement.{statement}
 use Rattle.netwrite.proofs.put_network.Tie as tie
 

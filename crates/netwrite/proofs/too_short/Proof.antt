@@ -1,10 +1,5 @@
 -- Assumes nothing.
-use borrow.Author.Needs.{needs}
 use Rattle.netwrite.specs.Sizes.{short-cursor, short-fixed, short-tree, short-ask}
-use native.Mathlib.Omega.{arith}
-use Prim.Native.Nat.{ℕ, _+_, _-_, _*_, _<_, _≤_}
-use mathlib.Core.Path.{_≡_, refl, sym, ap, _∙_, subst}
-use lib.ListN.{length, getD, set, length-set}
 use Rattle.netwrite.proofs.too_short.Statement.{statement}
 use Rattle.netwrite.proofs.too_short.Tie as tie
 

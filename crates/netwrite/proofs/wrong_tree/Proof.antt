@@ -1,10 +1,6 @@
 -- Assumes nothing.
 use borrow.Author.Needs.{needs}
 use Rattle.netwrite.specs.Numbers.{no-tree, some-tree}
-use native.Mathlib.Omega.{arith}
-use Prim.Native.Nat.{ℕ, _+_, _-_, _*_, _<_, _≤_}
-use mathlib.Core.Path.{_≡_, refl, sym, ap, _∙_, subst}
-use lib.ListN.{length, getD, set, length-set}
 use Rattle.netwrite.proofs.wrong_tree.Statement.{statement}
 use Rattle.netwrite.proofs.wrong_tree.Tie as tie
 
