@@ -38,12 +38,12 @@ pub read-end : (s : Reading) → readAll s [] ≡ cond (mayEnd (s .due)) (done (
 unfolding readAll
 read-end s = refl
 
-read-short : (s : Reading) (bytes : List ℕ) → 0 < length bytes → length bytes < 3 → readAll s bytes ≡ refused truncated
+read-header : (s : Reading) (bytes : List ℕ) → 0 < length bytes → length bytes < 3 → readAll s bytes ≡ refused truncated
 unfolding readAll
-read-short s [] h k = absurd (omega arith)
-read-short s (t ∷ []) h k = refl
-read-short s (t ∷ high ∷ []) h k = refl
-read-short s (t ∷ high ∷ low ∷ bytes) h k = absurd (omega arith)
+read-header s [] h k = absurd (omega arith)
+read-header s (t ∷ []) h k = refl
+read-header s (t ∷ high ∷ []) h k = refl
+read-header s (t ∷ high ∷ low ∷ bytes) h k = absurd (omega arith)
 
 read-field : (s : Reading) (t high low n : ℕ) (bytes : List ℕ) → n ≡ high * 256 + low
     → readAll s (t ∷ high ∷ low ∷ bytes)
@@ -66,8 +66,8 @@ module _ (file : List ℕ) (s : Reading) (at : ℕ) where
   abbrev pub onward : Coded Contents
   onward = coded (readAll s (drop at file))
 
-  pub onward-short : at < length file → length file - at < 3 → onward ≡ number 1
-  onward-short h k = ap coded (read-short s (drop at file) (omega (arith, length-drop at file)) (omega (arith, length-drop at file)))
+  pub onward-header : at < length file → length file - at < 3 → onward ≡ number 1
+  onward-header h k = ap coded (read-header s (drop at file) (omega (arith, length-drop at file)) (omega (arith, length-drop at file)))
 
   module _ (n : ℕ) (h : at + 3 ≤ length file) (size : n ≡ getD file (at + 1) 0 * 256 + getD file (at + 2) 0) where
     three : drop at file ≡ getD file at 0 ∷ getD file (at + 1) 0 ∷ getD file (at + 2) 0 ∷ drop (at + 3) file

@@ -10,7 +10,7 @@ use Rattle.spec.specs.Layout.{networkOf}
 use Rattle.spec.specs.File.{Reading, allowed, mayEnd, takeField, nothingRead}
 use Rattle.network.specs.Layouts.{layout-empty}
 use Rattle.fields.specs.Coded.{Coded, number, value, coded, unless}
-use Rattle.fields.specs.Steps.{part, readAll, read-end, onward, onward-short, onward-tag, onward-truncated, onward-taken}
+use Rattle.fields.specs.Steps.{part, readAll, read-end, onward, onward-header, onward-tag, onward-truncated, onward-taken}
 use Rattle.fields.specs.Scans.{stopped, dueOf, Lists, netIn, readIn, readingIn}
 use Rattle.fields.specs.Fields.{Sound, Taken}
 use Rattle.fields.specs.declared.Scan.{Scan}
@@ -35,8 +35,8 @@ module _ (file : List ℕ) (s : Scan) (l : Lists) where
   step-not : (code : ℕ) → onward file (readingIn file s l) (s .at) ≡ number (suc code) → Stepped file s l (stopped (suc code)) l
   step-not code e = record { on = e; sound = stopped-sound file (suc code) l; further = λ z. absurd (omega arith) }
 
-  pub step-short : s .at < length file → length file - s .at < 3 → Stepped file s l (stopped 1) l
-  step-short h k = step-not 0 (onward-short file (readingIn file s l) (s .at) h k)
+  pub step-header : s .at < length file → length file - s .at < 3 → Stepped file s l (stopped 1) l
+  step-header h k = step-not 0 (onward-header file (readingIn file s l) (s .at) h k)
 
   module _ (n : ℕ) (h : s .at + 3 ≤ length file) (size : n ≡ getD file (s .at + 1) 0 * 256 + getD file (s .at + 2) 0) where
     pub step-tag : allowed (dueOf (s .due)) (getD file (s .at) 0) ≡ false → Stepped file s l (stopped 2) l
@@ -120,8 +120,8 @@ module _ (file : List ℕ) where
       may (suc (suc (suc (suc d)))) k = refl
 
       -- the file ends before the outputs
-      pub finished-short : s .due < 2 → Finished file (stopped 1) l
-      finished-short k = record { says = sym (rw (may-not (s .due) k) at at-end); sound = stopped-sound file 1 l }
+      pub finished-truncated : s .due < 2 → Finished file (stopped 1) l
+      finished-truncated k = record { says = sym (rw (may-not (s .due) k) at at-end); sound = stopped-sound file 1 l }
 
       pub finished : 2 ≤ s .due → Finished file s l
       finished k =

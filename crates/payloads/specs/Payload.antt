@@ -12,24 +12,24 @@ use lib.ListN.{length, getD, take, drop}
 use lib.Seq.{drop-cons, drop-length}
 use borrow.Author.Tests.{eqb-false, ne-eqb}
 use Rattle.spec.specs.Lists.{memb, anyb}
-use Rattle.spec.specs.Refusal.{Refusal, tooLarge, overweight, outOfRange, repeated, invalidTree, invalidFlags, Check, check, first, codeOf}
-use Rattle.spec.specs.Network.{maxLeaves, maxIndices, maxLegs, maxOutputs, maxWeight}
+use Rattle.spec.specs.Refusal.{Refusal, tooLarge, outOfRange, repeated, invalidTree, invalidFlags, check, first, codeOf}
+use Rattle.spec.specs.Network.{maxLeaves, maxLegs, maxOutputs}
 use Rattle.spec.specs.Calls.{wrongTree}
-use Rattle.spec.specs.File.{indexBytes}
+use Rattle.spec.specs.File.{weightsChecks, indexChecks, indexBytes}
 use Rattle.spec.specs.Memory.{over, placed}
 use Rattle.cells.specs.Cells.{over-length, placed-there}
 use Rattle.walk.specs.Wrong.{few, other-length}
 use Rattle.laws.specs.Booleans.{by-cases, or-introl, or-intror}
 
 unfoldable pub weightsRefusal : List ℕ → Option Refusal
-weightsRefusal l = first (check (ltb maxIndices (length l)) tooLarge ∷ check (anyb (λ w. ltb maxWeight w) l) overweight ∷ [])
+weightsRefusal l = first (weightsChecks l)
 
 -- a leaf of a network of m indices that has n leaves already
 unfoldable pub leafRefusal : ℕ → ℕ → List ℕ → Option Refusal
-leafRefusal m n l = cond (ltb maxLegs (length l) || leb maxLeaves n) (some tooLarge) (indexBytes m [] l)
+leafRefusal m n l = first (check (ltb maxLegs (length l) || leb maxLeaves n) tooLarge ∷ indexChecks m [] l)
 
 unfoldable pub outputsRefusal : ℕ → List ℕ → Option Refusal
-outputsRefusal m l = cond (ltb maxOutputs (length l)) (some tooLarge) (indexBytes m [] l)
+outputsRefusal m l = first (check (ltb maxOutputs (length l)) tooLarge ∷ indexChecks m [] l)
 
 unfoldable pub flagsRefusal : ℕ → List ℕ → Option Refusal
 flagsRefusal m l = first (check (ltb m (length l) || anyb (λ b. ltb 1 b) l) invalidFlags ∷ [])
@@ -84,9 +84,9 @@ module _ (m : ℕ) (l : List ℕ) where
 -- ---- a tree's bytes ----
 
 -- the bytes, as they stand at the front of a longer list
-pub widened : (d s y : List ℕ) → y ≡ over d s → length s ≤ length y → take (length s) y ≡ s
+pub copied-front : (d s y : List ℕ) → y ≡ over d s → length s ≤ length y → take (length s) y ≡ s
 unfolding placed
-widened d s y e h = ap (take (length s)) e ∙ placed-there d s 0 (omega (arith, ap length e, over-length d s))
+copied-front d s y e h = ap (take (length s)) e ∙ placed-there d s 0 (omega (arith, ap length e, over-length d s))
 
 module _ (n : ℕ) (l : List ℕ) where
   tree-code : (b : Bool) → wrongTree n l ≡ b → codeOf (treeRefusal n l) ≡ cond b 8 0

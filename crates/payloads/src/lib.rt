@@ -92,7 +92,7 @@ pub fn check_tree(bytes: &[u8], n: usize) -> u8
         return refusal::INVALID_TREE;
     }
     let mut kids = [0u16; 256];
-    widen(&mut kids, bytes);
+    copy_bytes(&mut kids, bytes);
     let mut words = [0u64; 2048];
     if walk::is_tree(&kids[..len], n, &mut words) {
         refusal::NONE
@@ -102,7 +102,7 @@ pub fn check_tree(bytes: &[u8], n: usize) -> u8
 }
 
 // Copies the bytes to the front of a list of indices, as far as it goes.
-pub fn widen(to: &mut [u16], bytes: &[u8])
+pub fn copy_bytes(to: &mut [u16], bytes: &[u8])
     ensures { λ _. ⌜ now (to .exit) ≡ over (now (to .entry)) (now (bytes .entry)) ⌝ }
 {
     for k in 0..cells::min(to.len(), bytes.len()) {
@@ -115,6 +115,6 @@ pub fn place(list: &mut [u16], at: usize, bytes: &[u8])
     ensures { λ _. ⌜ now (list .exit) ≡ placed (now (list .entry)) at (now (bytes .entry)) ⌝ }
 {
     if at < list.len() {
-        widen(&mut list[at..], bytes);
+        copy_bytes(&mut list[at..], bytes);
     }
 }

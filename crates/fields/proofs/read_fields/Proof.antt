@@ -1,11 +1,11 @@
 -- Assumes nothing.
 use borrow.Author.Needs.{needs}
-use Rattle.fields.specs.Whole.{Reached, reached-start, reached-next, finished-early, finished-short, finished}
+use Rattle.fields.specs.Whole.{Reached, reached-start, reached-next, finished-early, finished-truncated, finished}
 use Rattle.fields.specs.Scans.{lists}
 use native.Mathlib.Omega.{arith}
-use Prim.Native.Nat.{ℕ, _+_, _-_, _*_, _<_, _≤_}
-use mathlib.Core.Path.{_≡_, refl, sym, ap, _∙_, subst}
-use lib.ListN.{length, getD, set, length-set}
+use Prim.Native.Nat.{_-_}
+use mathlib.Core.Path.{_≡_, refl}
+use lib.ListN.{length}
 use Rattle.fields.proofs.read_fields.Statement.{statement}
 use Rattle.fields.proofs.read_fields.Tie as tie
 
@@ -69,7 +69,7 @@ same-length-8 c = search needs
 
 returns-2 : tie.Need-returns-2 Inv-loop μ-loop
 returns-2 c = let l = c .before .before .before .before .before .loop in
-    rw (c .stopped2 .ensures) (finished-short (c .before .before .before .before .before .before .before .before .before .before .before .before .args .file .now) (l .s) (lists (l .weights) (l .counts) (l .legs) (l .outputs)) (l .inv .4) (c .before .before .before .if1 .left) (c .before .if3 .taken))
+    rw (c .stopped2 .ensures) (finished-truncated (c .before .before .before .before .before .before .before .before .before .before .before .before .args .file .now) (l .s) (lists (l .weights) (l .counts) (l .legs) (l .outputs)) (l .inv .4) (c .before .before .before .if1 .left) (c .before .if3 .taken))
 
 same-length-9 : tie.Need-same-length-9 Inv-loop μ-loop
 same-length-9 c = search needs

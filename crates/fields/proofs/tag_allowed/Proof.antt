@@ -1,12 +1,10 @@
 -- Assumes nothing.
-use borrow.Author.Needs.{needs}
-use Rattle.fields.specs.Scans.{dueOf, nothing-due}
+use Rattle.fields.specs.Scans.{nothing-due}
 use Rattle.spec.specs.File.{allowed}
 use borrow.Author.Tests.{eq-eqb, ne-eqb}
 use native.Mathlib.Omega.{arith}
-use Prim.Native.Nat.{ℕ, _+_, _-_, _*_, _<_, _≤_}
-use mathlib.Core.Path.{_≡_, refl, sym, ap, _∙_, subst}
-use lib.ListN.{length, getD, set, length-set}
+use Prim.Native.Nat.{_-_}
+use mathlib.Core.Path.{sym, ap}
 use Rattle.fields.proofs.tag_allowed.Statement.{statement}
 use Rattle.fields.proofs.tag_allowed.Tie as tie
 

@@ -2,12 +2,11 @@
 use borrow.Author.Needs.{needs}
 use borrow.Author.Tests.{not-true, not-false}
 use mathlib.Core.Path.{ap₂}
-use Rattle.fields.specs.Whole.{step-short, step-tag, step-truncated, step-taken}
+use Rattle.fields.specs.Whole.{step-header, step-tag, step-truncated, step-taken}
 use Rattle.fields.specs.Scans.{lists}
 use native.Mathlib.Omega.{arith}
-use Prim.Native.Nat.{ℕ, _+_, _-_, _*_, _<_, _≤_}
-use mathlib.Core.Path.{_≡_, refl, sym, ap, _∙_, subst}
-use lib.ListN.{length, getD, set, length-set}
+use Prim.Native.Nat.{ℕ, _+_, _-_, _*_}
+use mathlib.Core.Path.{refl, sym, _∙_}
 use Rattle.fields.proofs.take_field.Statement.{statement}
 use Rattle.fields.proofs.take_field.Tie as tie
 
@@ -19,7 +18,7 @@ stopped-requires c κs = search needs
 
 returns : tie.Need-returns
 returns c = let a = c .before .before .before .before .before .before .before .args in
-    rw (c .stopped .ensures) (step-short (a .file .now) (a .s) (lists (a .weights .now) (a .counts .now) (a .legs .now) (a .outputs .now)) (c .before .before .before .before .before .before .before .pre .0) (c .before .if1 .taken))
+    rw (c .stopped .ensures) (step-header (a .file .now) (a .s) (lists (a .weights .now) (a .counts .now) (a .legs .now) (a .outputs .now)) (c .before .before .before .before .before .before .before .pre .0) (c .before .if1 .taken))
 
 shared-slice-read-tag : tie.Need-shared-slice-read-tag
 shared-slice-read-tag c = search needs

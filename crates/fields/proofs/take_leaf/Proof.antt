@@ -7,9 +7,8 @@ use Rattle.payloads.specs.Payload.{leafRefusal}
 use Rattle.spec.specs.Refusal.{codeOf}
 use Rattle.spec.specs.Memory.{placed}
 use native.Mathlib.Omega.{arith}
-use Prim.Native.Nat.{ℕ, _+_, _-_, _*_, _<_, _≤_}
-use mathlib.Core.Path.{_≡_, refl, sym, ap, _∙_, subst}
-use lib.ListN.{length, getD, set, length-set}
+use Prim.Native.Nat.{_+_, _-_, _*_}
+use mathlib.Core.Path.{_≡_, sym, ap, _∙_}
 use Rattle.fields.proofs.take_leaf.Statement.{statement}
 use Rattle.fields.proofs.take_leaf.Tie as tie
 

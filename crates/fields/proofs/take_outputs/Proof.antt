@@ -4,13 +4,11 @@ use Rattle.fields.specs.Fields.{whole, index-count, taken-not, outputs-d
 use Rattle.fields.specs.Scans.{lists, netIn}
 use Rattle.fields.specs.Steps.{part}
 use Rattle.payloads.specs.Payload.{outputsRefusal}
-use Rattle.network.specs.Layouts.{layout-index-count}
 use Rattle.spec.specs.Refusal.{codeOf}
 use Rattle.spec.specs.Memory.{placed}
 use native.Mathlib.Omega.{arith}
-use Prim.Native.Nat.{ℕ, _+_, _-_, _*_, _<_, _≤_}
-use mathlib.Core.Path.{_≡_, refl, sym, ap, _∙_, subst}
-use lib.ListN.{length, getD, set, length-set}
+use Prim.Native.Nat.{_+_, _-_}
+use mathlib.Core.Path.{_≡_, sym, ap, _∙_}
 use Rattle.fields.proofs.take_outputs.Statement.{statement}
 use Rattle.fields.proofs.take_outputs.Tie as tie
 

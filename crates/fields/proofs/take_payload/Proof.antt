@@ -2,10 +2,7 @@
 use borrow.Author.Needs.{needs}
 use Rattle.fields.specs.Scans.{lists}
 use borrow.Author.Tests.{ne-eqb}
-use native.Mathlib.Omega.{arith}
-use Prim.Native.Nat.{ℕ, _+_, _-_, _*_, _<_, _≤_}
-use mathlib.Core.Path.{_≡_, refl, sym, ap, _∙_, subst}
-use lib.ListN.{length, getD, set, length-set}
+use Prim.Native.Nat.{_-_}
 use Rattle.fields.proofs.take_payload.Statement.{statement}
 use Rattle.fields.proofs.take_payload.Tie as tie
 

@@ -6,9 +6,8 @@ use Rattle.fields.specs.Steps.{part}
 use Rattle.payloads.specs.Payload.{treeRefusal}
 use Rattle.spec.specs.Refusal.{codeOf}
 use native.Mathlib.Omega.{arith}
-use Prim.Native.Nat.{ℕ, _+_, _-_, _*_, _<_, _≤_}
-use mathlib.Core.Path.{_≡_, refl, sym, ap, _∙_, subst}
-use lib.ListN.{length, getD, set, length-set}
+use Prim.Native.Nat.{_+_, _-_}
+use mathlib.Core.Path.{_≡_, sym, ap, _∙_}
 use Rattle.fields.proofs.take_tree.Statement.{statement}
 use Rattle.fields.proofs.take_tree.Tie as tie
 

@@ -7,11 +7,9 @@ use Rattle.fields.specs.Scans.{lists}
 use Rattle.fields.specs.Steps.{part}
 use Rattle.payloads.specs.Payload.{weightsRefusal}
 use Rattle.spec.specs.Refusal.{codeOf}
-use lib.ListN.{take, drop}
 use native.Mathlib.Omega.{arith}
-use Prim.Native.Nat.{ℕ, _+_, _-_, _*_, _<_, _≤_}
-use mathlib.Core.Path.{_≡_, refl, sym, ap, _∙_, subst}
-use lib.ListN.{length, getD, set, length-set}
+use Prim.Native.Nat.{_+_, _-_}
+use mathlib.Core.Path.{_≡_, sym, ap, _∙_}
 use Rattle.fields.proofs.take_weights.Statement.{statement}
 use Rattle.fields.proofs.take_weights.Tie as tie
 

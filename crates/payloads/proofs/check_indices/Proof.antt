@@ -5,11 +5,10 @@ use Rattle.spec.specs.Refusal.{codeOf}
 use Rattle.spec.specs.Lists.{memb}
 use borrow.Author.Tests.{le-leb, lt-leb}
 use mathlib.Core.Bool.{false}
-use lib.Dec.{leb}
 use native.Mathlib.Omega.{arith}
-use Prim.Native.Nat.{ℕ, _+_, _-_, _*_, _<_, _≤_}
-use mathlib.Core.Path.{_≡_, refl, sym, ap, _∙_, subst}
-use lib.ListN.{length, getD, set, length-set}
+use Prim.Native.Nat.{_-_, _≤_}
+use mathlib.Core.Path.{_≡_, refl, sym, ap, _∙_}
+use lib.ListN.{length, getD}
 use Rattle.payloads.proofs.check_indices.Statement.{statement}
 use Rattle.payloads.proofs.check_indices.Tie as tie
 

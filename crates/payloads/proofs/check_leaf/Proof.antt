@@ -2,10 +2,7 @@
 use borrow.Author.Needs.{needs}
 use Rattle.payloads.specs.Payload.{leafRefusal}
 use borrow.Author.Tests.{lt-ltb, le-ltb, le-leb, lt-leb}
-use native.Mathlib.Omega.{arith}
-use Prim.Native.Nat.{ℕ, _+_, _-_, _*_, _<_, _≤_}
-use mathlib.Core.Path.{_≡_, refl, sym, ap, _∙_, subst}
-use lib.ListN.{length, getD, set, length-set}
+use Prim.Native.Nat.{_-_}
 use Rattle.payloads.proofs.check_leaf.Statement.{statement}
 use Rattle.payloads.proofs.check_leaf.Tie as tie
 

@@ -3,11 +3,11 @@ use borrow.Author.Needs.{needs}
 use Rattle.cells.specs.Cells.{copied-none, copied-next, copied-end, copied-all}
 use Rattle.spec.specs.Memory.{copied}
 use native.Mathlib.Omega.{arith}
-use Prim.Native.Nat.{ℕ, _+_, _-_, _*_, _<_, _≤_, min}
-use mathlib.Core.Path.{_≡_, refl, sym, ap, _∙_, subst}
-use lib.ListN.{length, getD, set, length-set}
-use Rattle.payloads.proofs.widen.Statement.{statement}
-use Rattle.payloads.proofs.widen.Tie as tie
+use Prim.Native.Nat.{_-_, _≤_, min}
+use mathlib.Core.Path.{_≡_, refl, _∙_}
+use lib.ListN.{length, length-set}
+use Rattle.payloads.proofs.copy_bytes.Statement.{statement}
+use Rattle.payloads.proofs.copy_bytes.Tie as tie
 
 abbrev Inv-loop : tie.InvT-loop
 Inv-loop to₀ bytes k₀ k-end to k = (k ≤ k-end) × (k-end ≡ min (length to₀) (length bytes)) × (length to ≡ length to₀) × (to ≡ copied to₀ bytes k)
@@ -50,8 +50,8 @@ returns : tie.Need-returns Inv-loop μ-loop
 returns c = let v = c .before .loop .inv in
     v .3 ∙ copied-end _ _ _ (length (c .before .before .before .before .before .args .bytes .now)) (omega arith) ∙ copied-all _ _
 
-pub widen-spec : {M : Type 1} → statement M
-widen-spec =
+pub copy-bytes-spec : {M : Type 1} → statement M
+copy-bytes-spec =
     tie.close
     (tie.spec
     Inv-loop
