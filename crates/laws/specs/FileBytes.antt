@@ -73,7 +73,7 @@ none-in : (kids : List ℕ) → length kids ≡ 0 → Bytes kids
 none-in [] e = tt
 none-in (x ∷ kids) e = absurd (omega arith)
 
-tree-bytes : (n : ℕ) (kids : List ℕ) → n ≤ 128 → length kids % 2 ≡ 0 → valid n (pairsOf kids) ≡ true → Bytes kids
+pub tree-bytes : (n : ℕ) (kids : List ℕ) → n ≤ 128 → length kids % 2 ≡ 0 → valid n (pairsOf kids) ≡ true → Bytes kids
 tree-bytes zero kids h e v = none-in kids (valid-length 0 kids e v)
 tree-bytes (suc m) kids h e v =
     all-map (λ k. k < suc m + length (pairsOf kids)) (λ k. k < 256) kids

@@ -1,4 +1,5 @@
--- The network file's reader: its answers, and how they follow from what has been read. Assumes nothing.
+-- The network file's reader and writer: their answers, and how they follow from what is read and written. Assumes nothing.
 pub mod Answers
 pub mod Writes
 pub mod Results
+pub mod Writer

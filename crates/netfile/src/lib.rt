@@ -1,4 +1,4 @@
-// The network file: its reader.
+// The network file: its reader and its writer.
 ghost use mathlib.Core.Path.{_≡_};
 ghost use mathlib.Core.List.{List};
 ghost use Prim.Native.Nat.{ℕ, _+_, _≤_};
@@ -8,10 +8,16 @@ ghost use Rattle.network.specs.Record.{netOf};
 ghost use Rattle.fields.specs.Scans.{Lists, netIn};
 ghost use Rattle.netfile.specs.Answers.{treeAnswer, askAnswer, answerOf, emptyNetwork, networkIn, treeAfter, flagsAfter};
 ghost use Rattle.netfile.specs.Writes.{lacking, kidsOver, flagsOver, treeOf, askOf};
+ghost use Rattle.spec.specs.File.{writeOf, bufferAfter};
+ghost use Rattle.netfile.specs.Writer.{handed, writtenOf};
+
+pub mod writer; // writer.rt: the writer's inner functions
+
 use fields::Scan;
 use fields::ask;
 use network::Network;
 use network::refusal;
+use payloads::tags;
 
 // The file's tree: how many places of the list it fills.
 pub enum Tree {
@@ -168,5 +174,40 @@ pub fn read(file: &[u8], tree: &mut [u16], flags: &mut [u8]) -> Reading
             legs,
             outputs,
         },
+    }
+}
+
+// What the writer answers: the number of the refusal, or the cursor past the file.
+pub enum Written {
+    Refused(u8),
+    Done(usize),
+}
+
+// Writes the file of a network, of a tree, if there is one, and of what is asked, from the cursor on. A tree is so many places of `kids`,
+// flags are so many of `flags`, or all where there are fewer. After a refusal the buffer stays as it is.
+pub fn write(
+    network: Network,
+    tree: Tree,
+    kids: &[u16],
+    ask: Ask,
+    flags: &[u8],
+    out: &mut [u8],
+    cursor: usize,
+) -> Written
+    ensures { λ r. ⌜
+        (r ≡ writtenOf (writeOf (handed (netOf network) tree (now (kids .entry)) ask (now (flags .entry))) (length (now (out .entry))) cursor))
+        × (now (out .exit) ≡ bufferAfter (handed (netOf network) tree (now (kids .entry)) ask (now (flags .entry))) cursor (writeOf (handed (netOf network) tree (now (kids .entry)) ask (now (flags .entry))) (length (now (out .entry))) cursor) (now (out .entry)))
+        ⌝ }
+{
+    match ask {
+        Ask::Plain => writer::write_asked(network, tree, kids, 0, &flags[..0], out, cursor),
+        Ask::Flagged(places) => {
+            let k = cells::min(places, flags.len());
+            writer::write_asked(network, tree, kids, tags::FLAGS, &flags[..k], out, cursor)
+        }
+        Ask::Target(bits) => {
+            let byte = [bits];
+            writer::write_asked(network, tree, kids, tags::TARGET, &byte, out, cursor)
+        }
     }
 }
