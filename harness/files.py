@@ -13,9 +13,10 @@ Before a case, place i of the tree list holds 50000 + i mod 1000, and place i of
 The output, one line a case:
 
   refused K sum S
-  read L I O tree P flags F target T sum S
+  read L I O tree P flags F target T sum S room R written same
 
-L leaves, I indices, O outputs; P places of the tree list, F flags, T the target, each `-` if the file has none.
+L leaves, I indices, O outputs; P places of the tree list, F flags, T the target, each `-` if the file has none. R is the writer's refusal where
+the buffer ends one byte early. `same` says that the writer gives back the file's bytes and touches no other byte of the buffer.
 
 S is a sum over everything read and both lists afterwards. It starts with 0, and each number x takes it to (S * 65599 + x + 1) modulo 2^32. The
 numbers: leaf count, index count, output count; the weights; for each leaf the count of its indices and the indices; the outputs; every place of
@@ -69,7 +70,7 @@ def line(case):
     assert write(contents) == case.data, case.label
     target = "-" if contents.target is None else contents.target
     return (f"read {len(contents.leaves)} {len(contents.weights)} {len(contents.outputs)} tree {size_or_dash(contents.tree)}"
-            f" flags {size_or_dash(contents.flags)} target {target} sum {sum_of(contents, tree_after, flags_after)}")
+            f" flags {size_or_dash(contents.flags)} target {target} sum {sum_of(contents, tree_after, flags_after)} room 7 written same")
 
 
 def show(cases, k):

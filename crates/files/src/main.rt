@@ -1,5 +1,6 @@
-// Reads cases of network files from standard input and writes a line for each: what the reader answers.
+// Reads cases of network files from standard input and writes a line for each: what the reader and the writer answer.
 // The form of input and output, and the sum of a case, are stated in harness/files.py, which makes both.
+mod back;
 mod say;
 mod sums;
 
@@ -21,6 +22,7 @@ fn run(file: &[u8], tree: &mut [u16], flags: &mut [u8]) {
         }
         Answer::Done(found) => {
             say::read(network, found, sum);
+            back::write(file, network, found, tree, flags);
         }
     }
     io::write_all(1, b"\n");

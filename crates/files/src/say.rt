@@ -5,7 +5,7 @@ use netfile::Tree;
 use network::Network;
 
 // A word, then a number.
-fn number(word: &[u8], n: u64) {
+pub fn number(word: &[u8], n: u64) {
     io::write_all(1, word);
     io::print_decimal(1, n);
 }

@@ -25,7 +25,7 @@ pub fn mark8(bytes: &mut [u8]) {
     }
 }
 
-fn mark(i: usize) -> u8 {
+pub fn mark(i: usize) -> u8 {
     (100 + i % 100) as u8
 }
 
