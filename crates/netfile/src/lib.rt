@@ -11,7 +11,7 @@ ghost use Rattle.netfile.specs.Writes.{lacking, kidsOver, flagsOver, tre
 ghost use Rattle.spec.specs.File.{writeOf, bufferAfter};
 ghost use Rattle.netfile.specs.Writer.{handed, writtenOf};
 
-pub mod writer; // writer.rt: the writer's inner functions
+mod writer; // writer.rt: the writer's inner functions
 
 use fields::Scan;
 use fields::ask;
