@@ -55,7 +55,7 @@ module _ {A : Type 0} where
 
   -- ---- one list over the front of another
 
-  over-nil : (d : List A) → over d [] ≡ d
+  pub over-nil : (d : List A) → over d [] ≡ d
   unfolding over
   over-nil [] = refl
   over-nil (x ∷ d) = refl

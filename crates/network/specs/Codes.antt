@@ -201,12 +201,37 @@ module _ (m n o : ℕ) (weights counts cells outputs : List ℕ) (l : Lent weigh
   pub weighed : {b : Bool} → b ≡ largeOf m n o counts → b ≡ false → m ≤ length weights
   weighed e f = let (p, q, r, s) = small m n o counts (sym e ∙ f) in omega (arith, l .weightPlaces)
 
-  pub heavy : {b d : Bool} → b ≡ largeOf m n o counts → b ≡ false → d ≡ anyb (λ w. ltb maxWeight w) (take m weights) → d ≡ anyb (λ w. ltb maxWeight w) (firsts m weights)
-  heavy e f h = h ∙ ap (anyb (λ w. ltb maxWeight w)) (sym (firsts-take m weights (weighed e f)))
-
-  pub answer : {a b c d : Bool} → a ≡ largeOf m n o counts → b ≡ anyb (λ w. ltb maxWeight w) (firsts m weights) → c ≡ strayOf m n o counts cells outputs → d ≡ repeatOf n o counts cells outputs
+  -- the answers: the conditions that were tested, each with what its test said
+  answer : {a b c d : Bool} → a ≡ largeOf m n o counts → b ≡ anyb (λ w. ltb maxWeight w) (firsts m weights) → c ≡ strayOf m n o counts cells outputs → d ≡ repeatOf n o counts cells outputs
       → codeFrom a b c d ≡ codeOf (refusalOf (networkOf m n o weights counts cells outputs))
   answer p q r s = (λ j. codeFrom (p j) (q j) (r j) (s j)) ∙ sym (code-means m n o weights counts cells outputs)
+
+  module _ {a : Bool} (large : a ≡ largeOf m n o counts) where
+    pub answer-large : a ≡ true → 3 ≡ codeOf (refusalOf (networkOf m n o weights counts cells outputs))
+    unfolding codeFrom
+    answer-large x = answer (sym x ∙ large) refl refl refl
+
+    module _ {b : Bool} (few : a ≡ false) (heavy : b ≡ anyb (λ w. ltb maxWeight w) (take m weights)) where
+      weights-are : b ≡ anyb (λ w. ltb maxWeight w) (firsts m weights)
+      weights-are = heavy ∙ ap (anyb (λ w. ltb maxWeight w)) (sym (firsts-take m weights (weighed large few)))
+
+      pub answer-heavy : b ≡ true → 4 ≡ codeOf (refusalOf (networkOf m n o weights counts cells outputs))
+      unfolding codeFrom
+      answer-heavy x = answer (sym few ∙ large) (sym x ∙ weights-are) refl refl
+
+      module _ {c : Bool} (light : b ≡ false) (stray : c ≡ strayOf m n o counts cells outputs) where
+        pub answer-stray : c ≡ true → 5 ≡ codeOf (refusalOf (networkOf m n o weights counts cells outputs))
+        unfolding codeFrom
+        answer-stray x = answer (sym few ∙ large) (sym light ∙ weights-are) (sym x ∙ stray) refl
+
+        module _ {d : Bool} (inside : c ≡ false) (twice : d ≡ repeatOf n o counts cells outputs) where
+          pub answer-repeat : d ≡ true → 6 ≡ codeOf (refusalOf (networkOf m n o weights counts cells outputs))
+          unfolding codeFrom
+          answer-repeat x = answer (sym few ∙ large) (sym light ∙ weights-are) (sym inside ∙ stray) (sym x ∙ twice)
+
+          pub answer-none : d ≡ false → 0 ≡ codeOf (refusalOf (networkOf m n o weights counts cells outputs))
+          unfolding codeFrom
+          answer-none x = answer (sym few ∙ large) (sym light ∙ weights-are) (sym inside ∙ stray) (sym x ∙ twice)
 
 -- the check answered 0
 pub accepted-facts : (m n o : ℕ) (weights counts cells outputs : List ℕ)
