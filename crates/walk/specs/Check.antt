@@ -7,8 +7,8 @@ use Prim.Native.Nat.{ℕ, suc, _+_, _-_, _*_, _≤_, _<_}
 use native.Mathlib.Omega.{arith}
 use native.Mathlib.Decide.{decLe}
 use lib.Dec.{eqb, leb, ltb}
-use lib.ListN.{getD, set, length, getElem?, length-set}
-use lib.Seq.{getD-set-same, getD-set-other}
+use lib.ListN.{getD, set, length, getElem?}
+use lib.Seq.{getD-set-other}
 use borrow.Author.Tests.{le-leb, lt-leb, eq-eqb, ltb-true, eqb-true}
 use Rattle.spec.specs.Lists.{count, memb}
 use Rattle.spec.specs.Tree.{Tree, leaf, node, number, numbers, Pair, valid, pairsOf}
@@ -16,7 +16,7 @@ use Rattle.laws.specs.Booleans.{by-cases, bool-ext}
 use Rattle.laws.specs.ListLaws.{count-three, count-memb, count-not-memb}
 use Rattle.laws.specs.Walks.{tree-valid, valid-tree}
 use Rattle.laws.specs.FlatLaws.{pairs-length, pair-at}
-use Rattle.walk.specs.Stack.{stackOf, push, pushedBoth, writtenBoth, Inside, inside-push, stack-none, stack-one, stack-top, stack-agree, stack-both, written-front, both-le, At, Trees, node-at, grown, grown-trees}
+use Rattle.walk.specs.Stack.{stackOf, push, pushedBoth, picked, topped, Inside, inside-push, topped-none, topped-one, topped-top, topped-both, stack-agree, both-le, At, Trees, node-at, grown, grown-trees}
 use Rattle.walk.specs.Marks.{fresh, marked, freshBoth, markedBoth, seen, seenCount, seen-above, seen-agree, seen-clear, one-self, mark-seen, stale-seen, fresh-inside, first-fresh, second-fresh, both-seen, both-length, both-past, both-count, set-seen, count-none, count-agree, count-more, count-le, count-full, full-count, was-false, was-true}
 
 -- how often k is below the root of a tree, and below the roots of several
@@ -210,9 +210,9 @@ module _ (n : ℕ) (a : List Pair) (root : ℕ) (long : suc (length a) ≡ n) (l
 
 -- ---- the loop's state: the numbers met, and the stack's places ----
 
-pub record Going (kids : List ℕ) (n : ℕ) (ws : List ℕ) (p met : ℕ) : Type 0 where
-  pub walked : Walked n (pairsOf kids) (n * 2 - 2) (stackOf 1024 ws p) (seen ws (n * 2 - 2))
-  pub inside : Inside n (n * 2 - 2) (stackOf 1024 ws p)
+pub record Going (kids : List ℕ) (n : ℕ) (ws : List ℕ) (v p met : ℕ) : Type 0 where
+  pub walked : Walked n (pairsOf kids) (n * 2 - 2) (topped 1024 v ws p) (seen ws (n * 2 - 2))
+  pub inside : Inside n (n * 2 - 2) (topped 1024 v ws p)
   pub counted : seenCount ws (n * 2 - 2) ≡ met
   pub shallow : p ≤ met
 
@@ -230,23 +230,21 @@ module _ (kids : List ℕ) (n : ℕ) (two : 2 ≤ n) (small : n ≤ 512) (whole 
   children : (v : ℕ) → n ≤ v → v ≤ n * 2 - 2 → getElem? (pairsOf kids) (v - n) ≡ some (record { left = leftOf kids n v; right = rightOf kids n v })
   children v a b = pair-at kids (v - n) (omega (arith, pairs))
 
-  pub begins : (ws : List ℕ) → 2048 ≤ length ws → ((k : ℕ) → k < n * 2 → getD ws k 0 ≡ 0) → Going kids n (set (set ws (n * 2 - 2) 1) 1024 (n * 2 - 2)) 1 1
+  pub begins : (ws : List ℕ) → 2048 ≤ length ws → ((k : ℕ) → k < n * 2 → getD ws k 0 ≡ 0) → Going kids n (set ws (n * 2 - 2) 1) (n * 2 - 2) 1 1
   begins ws long clear =
       let root = n * 2 - 2 in
       let none : (k : ℕ) → seen ws root k ≡ 0 = seen-clear ws root (λ k h. clear k (omega arith)) in
-      let one : (k : ℕ) → seen (set (set ws root 1) 1024 root) root k ≡ seen ws root k + count k (root ∷ [])
-      = λ k. seen-agree (set ws root 1) (set (set ws root 1) 1024 root) root (λ j h. getD-set-other (set ws root 1) 1024 j root 0 (λ e. omega arith)) k
-      ∙ set-seen ws root root (omega arith) (clear root (omega arith)) (omega arith) k in
-      let st : stackOf 1024 (set (set ws root 1) 1024 root) 1 ≡ root ∷ []
-      = stack-one 1024 (set (set ws root 1) 1024 root) ∙ ap (λ (z : ℕ). z ∷ []) (getD-set-same (set ws root 1) 1024 root 0 (simp length-set (omega arith))) in
+      let one : (k : ℕ) → seen (set ws root 1) root k ≡ seen ws root k + count k (root ∷ [])
+      = λ k. set-seen ws root root (omega arith) (clear root (omega arith)) (omega arith) k in
+      let st : topped 1024 root (set ws root 1) 1 ≡ root ∷ [] = topped-one 1024 root (set ws root 1) in
       record {
-        walked = rw st (starts n (pairsOf kids) root (seen (set (set ws root 1) 1024 root) root) (λ k. omega (arith, one k, none k)));
+        walked = rw st (starts n (pairsOf kids) root (seen (set ws root 1) root) (λ k. omega (arith, one k, none k)));
         inside = rw st (omega arith, omega arith, tt);
-        counted = count-more ws (set (set ws root 1) 1024 root) root root (omega arith) one ∙ ap (λ (z : ℕ). z + 1) (count-none ws root none);
+        counted = count-more ws (set ws root 1) root root (omega arith) one ∙ ap (λ (z : ℕ). z + 1) (count-none ws root none);
         shallow = omega arith;
       }
 
-  module _ (ws : List ℕ) (p met : ℕ) (g : Going kids n ws p met) where
+  module _ (ws : List ℕ) (v p met : ℕ) (g : Going kids n ws v p met) where
     pub bounded : met ≤ n * 2 - 1
     bounded = omega (arith, g .counted, count-le ws (n * 2 - 2))
 
@@ -254,15 +252,12 @@ module _ (kids : List ℕ) (n : ℕ) (two : 2 ≤ n) (small : n ≤ 512) (whole 
     ends e =
         ap (λ (z : ℕ). eqb z (n * 2 - 2 + 1)) (sym (g .counted))
         ∙ ended n (pairsOf kids) (n * 2 - 2) (omega (arith, pairs)) (omega (arith, pairs)) ws
-        (subst (λ (xs : List ℕ). Walked n (pairsOf kids) (n * 2 - 2) xs (seen ws (n * 2 - 2))) (ap (stackOf 1024 ws) e ∙ stack-none 1024 ws) (g .walked))
-
-    -- the number on top of the stack, p not 0
-    abbrev v : ℕ
-    v = getD ws (1024 + (p - 1)) 0
+        (subst (λ (xs : List ℕ). Walked n (pairsOf kids) (n * 2 - 2) xs (seen ws (n * 2 - 2))) (ap (topped 1024 v ws) e ∙ topped-none 1024 v ws) (g .walked))
 
     above : 0 < p → Inside n (n * 2 - 2) (v ∷ stackOf 1024 ws (p - 1))
-    above pos = subst (Inside n (n * 2 - 2)) (stack-top 1024 ws p pos) (g .inside)
+    above pos = subst (Inside n (n * 2 - 2)) (topped-top 1024 v ws p pos) (g .inside)
 
+    -- the node on top
     pub internal : 0 < p → (n ≤ v) × (v ≤ n * 2 - 2)
     internal pos = let a = above pos in (a .0, a .1)
 
@@ -274,38 +269,38 @@ module _ (kids : List ℕ) (n : ℕ) (two : 2 ≤ n) (small : n ≤ 512) (whole 
           children v (a .0) (a .1) ∙ ap₂ (λ (i j : ℕ). some (record { left = i; right = j })) (sym ex) (sym ey)
 
       on-top : Walked n (pairsOf kids) (n * 2 - 2) (v ∷ stackOf 1024 ws (p - 1)) (seen ws (n * 2 - 2))
-      on-top = subst (λ (xs : List ℕ). Walked n (pairsOf kids) (n * 2 - 2) xs (seen ws (n * 2 - 2))) (stack-top 1024 ws p pos) (g .walked)
+      on-top = subst (λ (xs : List ℕ). Walked n (pairsOf kids) (n * 2 - 2) xs (seen ws (n * 2 - 2))) (topped-top 1024 v ws p pos) (g .walked)
 
       pub refuses : not b ≡ true → false ≡ valid n (pairsOf kids)
       refuses z =
           sym (stale-child n (pairsOf kids) (n * 2 - 2) (omega (arith, pairs)) (omega (arith, pairs)) ws v x y (stackOf 1024 ws (p - 1)) (omega arith)
           (above pos .0) here on-top (sym q ∙ was-false b z))
 
-      goes : not b ≡ false
-          → Going kids n (writtenBoth 1024 n (markedBoth ws (n * 2 - 2) x y) (p - 1) x y) (pushedBoth n (p - 1) x y) (met + 2)
-      goes z =
+      -- one turn, for the words, the top and the places that the code comes to
+      pub goes-on : not b ≡ false → (ws₁ ws₂ : List ℕ) (v₂ p₂ : ℕ) → ws₁ ≡ markedBoth ws (n * 2 - 2) x y
+          → (v₂ ≡ picked n y (picked n x (getD ws₁ (1023 + (p - 1)) 0))) × (p₂ ≡ pushedBoth n (p - 1) x y) × (ws₂ ≡ set ws₁ (1024 + (p - 1)) x)
+          → Going kids n ws₂ v₂ p₂ (met + 2)
+      goes-on z ws₁ ws₂ v₂ p₂ e₁ (e₂, e₃, e₄) =
           let f : freshBoth ws (n * 2 - 2) x y ≡ true = sym q ∙ was-true b z in
           let root = n * 2 - 2 in
-          let ws₁ = markedBoth ws root x y in
-          let ws₂ = writtenBoth 1024 n ws₁ (p - 1) x y in
           let bound = bounded in
           let deep = g .shallow in
-          let same : (k : ℕ) → seen ws₂ root k ≡ seen ws₁ root k = seen-agree ws₁ ws₂ root (λ k h. written-front 1024 n ws₁ (p - 1) x y k (omega arith)) in
-          let st : stackOf 1024 ws₂ (pushedBoth n (p - 1) x y) ≡ push n y (push n x (stackOf 1024 ws (p - 1)))
-          = stack-both 1024 n ws₁ (p - 1) x y (omega (arith, both-length ws root x y))
-          ∙ ap (λ (xs : List ℕ). push n y (push n x xs)) (stack-agree 1024 ws ws₁ (p - 1) (λ k a b. both-past ws root x y k (omega arith))) in
+          let len : length ws₁ ≡ length ws = ap length e₁ ∙ both-length ws root x y in
+          let past : (k : ℕ) → root < k → getD ws₁ k 0 ≡ getD ws k 0 = λ k h. ap (λ (l : List ℕ). getD l k 0) e₁ ∙ both-past ws root x y k h in
+          let same : (k : ℕ) → seen ws₂ root k ≡ seen (markedBoth ws root x y) root k
+          = λ k. ap (λ (l : List ℕ). seen l root k) e₄
+          ∙ seen-agree ws₁ (set ws₁ (1024 + (p - 1)) x) root (λ j h. getD-set-other ws₁ (1024 + (p - 1)) j x 0 (λ r. omega arith)) k
+          ∙ ap (λ (l : List ℕ). seen l root k) e₁ in
+          let st : topped 1024 v₂ ws₂ p₂ ≡ push n y (push n x (stackOf 1024 ws (p - 1)))
+          = (λ i. topped 1024 (e₂ i) (e₄ i) (e₃ i))
+          ∙ topped-both 1024 n ws₁ (p - 1) x y (getD ws₁ (1023 + (p - 1)) 0) (omega (arith, len))
+          (λ h. ap (λ (k : ℕ). getD ws₁ k 0) (let r : 1023 + (p - 1) ≡ 1024 + (p - 1 - 1) = omega arith in r))
+          ∙ ap (λ (xs : List ℕ). push n y (push n x xs)) (stack-agree 1024 ws ws₁ (p - 1) (λ k a b. past k (omega arith))) in
           record {
             walked = rw st (turn n (pairsOf kids) root v x y (stackOf 1024 ws (p - 1)) (seen ws root) (above pos .0) here on-top
                 (seen ws₂ root) (λ k. same k ∙ both-seen ws root x y f (omega arith) k));
             inside = rw st (inside-push n root y _ (fresh-inside (marked ws root x) root y (second-fresh ws root x y f))
                 (inside-push n root x _ (fresh-inside ws root x (first-fresh ws root x y f)) (above pos .2)));
-            counted = count-agree ws₁ ws₂ root same ∙ both-count ws root x y (omega arith) f ∙ ap (λ (z : ℕ). z + 2) (g .counted);
-            shallow = omega (arith, both-le n (p - 1) x y);
+            counted = count-agree (markedBoth ws root x y) ws₂ root same ∙ both-count ws root x y (omega arith) f ∙ ap (λ (z : ℕ). z + 2) (g .counted);
+            shallow = omega (arith, e₃, both-le n (p - 1) x y);
           }
-
-      -- one turn, for the words and places that the code comes to
-      pub goes-on : not b ≡ false → (ws₁ ws₂ : List ℕ) (p₂ : ℕ) → ws₁ ≡ markedBoth ws (n * 2 - 2) x y → ws₂ ≡ writtenBoth 1024 n ws₁ (p - 1) x y
-          → p₂ ≡ pushedBoth n (p - 1) x y → Going kids n ws₂ p₂ (met + 2)
-      goes-on z ws₁ ws₂ p₂ e₁ e₂ e₃ =
-          subst (λ (w : List ℕ). Going kids n w p₂ (met + 2)) (sym (e₂ ∙ ap (λ (w : List ℕ). writtenBoth 1024 n w (p - 1) x y) e₁))
-          (subst (λ (m : ℕ). Going kids n (writtenBoth 1024 n (markedBoth ws (n * 2 - 2) x y) (p - 1) x y) m (met + 2)) (sym e₃) (goes z))

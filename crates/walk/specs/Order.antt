@@ -7,7 +7,6 @@ use Prim.Native.Nat.{ℕ, zero, suc, _+_, _-_, _*_, _≤_, _<_}
 use native.Mathlib.Omega.{arith}
 use native.Mathlib.Decide.{decLe}
 use lib.ListN.{getD, set, length, getElem?, length-append}
-use lib.Seq.{getD-set-same}
 use lib.Dec.{eqb}
 use borrow.Author.Tests.{eqb-true}
 use Rattle.spec.specs.Lists.{memb}
@@ -19,7 +18,7 @@ use Rattle.laws.specs.ListLaws.{three-left, three-right}
 use Rattle.laws.specs.Walks.{valid-tree, inners, valid-inners}
 use Rattle.laws.specs.Arrays.{number-in}
 use Rattle.laws.specs.FlatLaws.{pairs-length, pair-at}
-use Rattle.walk.specs.Stack.{stackOf, push, pushedBoth, writtenBoth, Inside, inside-push, stack-none, stack-one, stack-top, stack-both, both-le, At, Trees, node-at, grown, grown-trees}
+use Rattle.walk.specs.Stack.{stackOf, push, pushedBoth, picked, topped, Inside, inside-push, topped-none, topped-one, topped-top, topped-both, both-le, At, Trees, node-at, grown, grown-trees}
 use Rattle.walk.specs.Check.{leftOf, rightOf}
 use Rattle.walk.specs.Wrong.{few, not-wrong, not-wrong-length}
 
@@ -91,11 +90,11 @@ order-one = refl
 
 -- ---- the loop's state ----
 
-pub record Going (kids : List ℕ) (n : ℕ) (out₀ ws : List ℕ) (p : ℕ) (out : List ℕ) (rest : ℕ) : Type 0 where
+pub record Going (kids : List ℕ) (n : ℕ) (out₀ ws : List ℕ) (v p : ℕ) (out : List ℕ) (rest : ℕ) : Type 0 where
   pub trees : List Tree
-  pub stand : Trees n (pairsOf kids) (stackOf 1024 ws p) trees
+  pub stand : Trees n (pairsOf kids) (topped 1024 v ws p) trees
   pub low : Lows (n * 2 - 2) trees
-  pub inside : Inside n (n * 2 - 2) (stackOf 1024 ws p)
+  pub inside : Inside n (n * 2 - 2) (topped 1024 v ws p)
   pub written : List ℕ
   pub whole : pending trees ++ written ≡ stepOrder kids n
   pub left : length (pending trees) ≡ rest
@@ -106,15 +105,14 @@ module _ (kids : List ℕ) (n : ℕ) (two : 2 ≤ n) (right : wrongTree n kids �
   pairs : length (pairsOf kids) ≡ n - 1
   pairs = pairs-length kids ∙ omega (arith, not-wrong-length n kids two right)
 
-  pub begins : (out₀ ws : List ℕ) → 1024 < length ws → Going kids n out₀ (set ws 1024 (n * 2 - 2)) 1 out₀ (n - 1)
+  pub begins : (out₀ ws : List ℕ) → Going kids n out₀ ws (n * 2 - 2) 1 out₀ (n - 1)
   unfolding stepOrder
-  begins out₀ ws long =
+  begins out₀ ws =
       let a = pairsOf kids in
       let top = n * 2 - 2 in
       let (t, w, ok) = valid-tree n a (omega arith) (not-wrong n kids right) in
       let e : number t ≡ top = ok .rooted ∙ omega (arith, pairs) in
-      let st : stackOf 1024 (set ws 1024 top) 1 ≡ top ∷ []
-      = stack-one 1024 (set ws 1024 top) ∙ ap (λ (z : ℕ). z ∷ []) (getD-set-same ws 1024 top 0 long) in
+      let st : topped 1024 top ws 1 ≡ top ∷ [] = topped-one 1024 top ws in
       record {
         trees = t ∷ [];
         stand = rw st ((ok .described, e), tt);
@@ -127,7 +125,7 @@ module _ (kids : List ℕ) (n : ℕ) (two : 2 ≤ n) (right : wrongTree n kids �
         shallow = omega arith;
       }
 
-  module _ (out₀ ws : List ℕ) (p : ℕ) (out : List ℕ) (rest : ℕ) (g : Going kids n out₀ ws p out rest) where
+  module _ (out₀ ws : List ℕ) (v p : ℕ) (out : List ℕ) (rest : ℕ) (g : Going kids n out₀ ws v p out rest) where
     pub ends : rest ≡ 0 → out ≡ over out₀ (stepOrder kids n)
     ends e =
         let w : g .written ≡ stepOrder kids n = ap (λ (l : List ℕ). l ++ g .written) (sym (no-length (pending (g .trees)) (g .left ∙ e))) ∙ g .whole in
@@ -136,7 +134,8 @@ module _ (kids : List ℕ) (n : ℕ) (two : 2 ≤ n) (right : wrongTree n kids �
     pub deep : 0 < rest → 0 < p
     deep more =
         elim (decLe p 0) [
-          | yes i ↦ let e : p ≡ 0 = omega arith in absurd (empty (g .trees) (subst (λ (xs : List ℕ). Trees n (pairsOf kids) xs (g .trees)) (ap (stackOf 1024 ws) e ∙ stack-none 1024 ws) (g .stand)) (omega (arith, g .left)))
+          | yes i ↦ let e : p ≡ 0 = omega arith in
+              absurd (empty (g .trees) (subst (λ (xs : List ℕ). Trees n (pairsOf kids) xs (g .trees)) (ap (topped 1024 v ws) e ∙ topped-none 1024 v ws) (g .stand)) (omega (arith, g .left)))
           | no i ↦ omega arith
         ]
       where
@@ -144,42 +143,46 @@ module _ (kids : List ℕ) (n : ℕ) (two : 2 ≤ n) (right : wrongTree n kids �
         empty [] h l = omega arith
         empty (t ∷ ts) h l = h
 
-    -- the number on top of the stack
-    abbrev v : ℕ
-    v = getD ws (1024 + (p - 1)) 0
-
     above : 0 < rest → Inside n (n * 2 - 2) (v ∷ stackOf 1024 ws (p - 1))
-    above more = subst (Inside n (n * 2 - 2)) (stack-top 1024 ws p (deep more)) (g .inside)
+    above more = subst (Inside n (n * 2 - 2)) (topped-top 1024 v ws p (deep more)) (g .inside)
 
+    -- the node on top
     pub internal : 0 < rest → (n ≤ v) × (v ≤ n * 2 - 2)
     internal more = let a = above more in (a .0, a .1)
 
     module _ (more : 0 < rest) (long : 2048 ≤ length ws) (small : n ≤ 512) (room : n - 1 ≤ length out₀) (x y : ℕ)
-        (ex : x ≡ leftOf kids n v) (ey : y ≡ rightOf kids n v) (ws₂ : List ℕ) (p₂ : ℕ) (out₂ : List ℕ)
-        (e₁ : ws₂ ≡ writtenBoth 1024 n ws (p - 1) x y) (e₂ : p₂ ≡ pushedBoth n (p - 1) x y) (e₃ : out₂ ≡ set out (rest - 1) v) where
+        (ex : x ≡ leftOf kids n v) (ey : y ≡ rightOf kids n v) (ws₂ : List ℕ) (v₂ p₂ : ℕ) (out₂ : List ℕ)
+        (e₁ : (v₂ ≡ picked n y (picked n x (getD ws (1023 + (p - 1)) 0))) × (p₂ ≡ pushedBoth n (p - 1) x y) × (ws₂ ≡ set ws (1024 + (p - 1)) x))
+        (e₃ : out₂ ≡ set out (rest - 1) v) where
       here : getElem? (pairsOf kids) (v - n) ≡ some (record { left = x; right = y })
       here =
           let i = internal more in
           pair-at kids (v - n) (omega (arith, pairs, i .0, i .1)) ∙ ap₂ (λ (i j : ℕ). some (record { left = i; right = j })) (sym ex) (sym ey)
 
+      stack : topped 1024 v₂ ws₂ p₂ ≡ push n y (push n x (stackOf 1024 ws (p - 1)))
+      stack =
+          let pos : 0 < p = deep more in
+          let deepest : p + rest ≤ n = g .shallow in
+          (λ i. topped 1024 (e₁ .0 i) (e₁ .2 i) (e₁ .1 i))
+          ∙ topped-both 1024 n ws (p - 1) x y (getD ws (1023 + (p - 1)) 0) (omega arith)
+          (λ h. ap (λ (k : ℕ). getD ws k 0) (let r : 1023 + (p - 1) ≡ 1024 + (p - 1 - 1) = omega arith in r))
+
       made : (l r : Tree) (ts : List Tree) → At n (pairsOf kids) x l → At n (pairsOf kids) y r → Trees n (pairsOf kids) (stackOf 1024 ws (p - 1)) ts
           → Low (n * 2 - 2) (node v l r) → Lows (n * 2 - 2) ts → pending (node v l r ∷ ts) ++ g .written ≡ stepOrder kids n
-          → length (pending (node v l r ∷ ts)) ≡ rest → Going kids n out₀ ws₂ p₂ out₂ (rest - 1)
+          → length (pending (node v l r ∷ ts)) ≡ rest → Going kids n out₀ ws₂ v₂ p₂ out₂ (rest - 1)
       made l r ts al ar h low lows w q =
           let pos : 0 < p = deep more in
           let deepest : p + rest ≤ n = g .shallow in
           let low-l : Low (n * 2 - 2) l = λ k m. low k (three-left k v (numbers l) (numbers r) m) in
           let low-r : Low (n * 2 - 2) r = λ k m. low k (three-right k v (numbers l) (numbers r) m) in
-          let st : stackOf 1024 ws₂ p₂ ≡ push n y (push n x (stackOf 1024 ws (p - 1)))
-          = ap₂ (λ (z : List ℕ) (k : ℕ). stackOf 1024 z k) e₁ e₂ ∙ stack-both 1024 n ws (p - 1) x y (omega arith) in
           let both : pending (grown r (grown l ts)) ≡ (pending ts ++ inner l) ++ inner r
           = pending-grown r (grown l ts) ∙ ap (λ (z : List ℕ). z ++ inner r) (pending-grown l ts) in
           let last : rest ≡ suc (rest - 1) = omega arith in
           record {
             trees = grown r (grown l ts);
-            stand = rw st (grown-trees n (pairsOf kids) y _ r (grown l ts) ar (grown-trees n (pairsOf kids) x _ l ts al h));
+            stand = rw stack (grown-trees n (pairsOf kids) y _ r (grown l ts) ar (grown-trees n (pairsOf kids) x _ l ts al h));
             low = lows-grown (n * 2 - 2) r (grown l ts) low-r (lows-grown (n * 2 - 2) l ts low-l lows);
-            inside = rw st (inside-push n (n * 2 - 2) y _ (low-number (n * 2 - 2) n (pairsOf kids) y r low-r ar)
+            inside = rw stack (inside-push n (n * 2 - 2) y _ (low-number (n * 2 - 2) n (pairsOf kids) y r low-r ar)
                 (inside-push n (n * 2 - 2) x _ (low-number (n * 2 - 2) n (pairsOf kids) x l low-l al) (above more .2)));
             written = v ∷ g .written;
             whole = ap (λ (z : List ℕ). z ++ (v ∷ g .written)) both ∙ simp append-assoc (simp append-assoc at w);
@@ -194,17 +197,17 @@ module _ (kids : List ℕ) (n : ℕ) (two : 2 ≤ n) (right : wrongTree n kids �
             );
             filled = e₃ ∙ ap (λ (z : List ℕ). set z (rest - 1) v) (g .filled) ∙ ap (λ (k : ℕ). set (placed out₀ k (g .written)) (rest - 1) v) last
                 ∙ placed-before out₀ (g .written) (rest - 1) v (omega arith);
-            shallow = omega (arith, e₂, both-le n (p - 1) x y);
+            shallow = omega (arith, e₁ .1, both-le n (p - 1) x y);
           }
 
-      -- one turn, for the words and places that the code comes to
-      pub goes-on : Going kids n out₀ ws₂ p₂ out₂ (rest - 1)
+      -- one turn, for the words, the top and the places that the code comes to
+      pub goes-on : Going kids n out₀ ws₂ v₂ p₂ out₂ (rest - 1)
       goes-on =
-          go (g .trees) (subst (λ (xs : List ℕ). Trees n (pairsOf kids) xs (g .trees)) (stack-top 1024 ws p (deep more)) (g .stand)) (g .low)
+          go (g .trees) (subst (λ (xs : List ℕ). Trees n (pairsOf kids) xs (g .trees)) (topped-top 1024 v ws p (deep more)) (g .stand)) (g .low)
           (g .whole) (g .left)
         where
           go : (ts : List Tree) → Trees n (pairsOf kids) (v ∷ stackOf 1024 ws (p - 1)) ts → Lows (n * 2 - 2) ts
-              → pending ts ++ g .written ≡ stepOrder kids n → length (pending ts) ≡ rest → Going kids n out₀ ws₂ p₂ out₂ (rest - 1)
+              → pending ts ++ g .written ≡ stepOrder kids n → length (pending ts) ≡ rest → Going kids n out₀ ws₂ v₂ p₂ out₂ (rest - 1)
           go [] h l w q = absurd h
           go (t ∷ ts) h l w q =
               let (s, r, e, al, ar) = node-at n (pairsOf kids) v x y t (above more .0) here (h .0) in

@@ -7,7 +7,7 @@ use Prim.Native.Nat.{ℕ, zero, suc, _+_, _-_, _≤_, _<_}
 use native.Mathlib.Omega.{arith}
 use native.Mathlib.Numerals.{add-one}
 use lib.Dec.{ltb}
-use lib.ListN.{getD, set, length, getElem?, length-set}
+use lib.ListN.{getD, set, length, getElem?}
 use lib.Seq.{getD-set-same, getD-set-other}
 use borrow.Author.Tests.{ltb-false, lt-ltb, le-ltb}
 use Rattle.spec.specs.Tree.{Tree, leaf, node, number, Pair, Describes}
@@ -28,12 +28,18 @@ push n x xs = cond (ltb x n) xs (x ∷ xs)
 abbrev pub pushed : ℕ → ℕ → ℕ → ℕ
 pushed n p x = cond (ltb x n) p (p + 1)
 
--- the places after both children of a node, and the words
+-- the places after both children of a node
 unfoldable pub pushedBoth : ℕ → ℕ → ℕ → ℕ → ℕ
 pushedBoth n p x y = pushed n (pushed n p x) y
 
-unfoldable pub writtenBoth : ℕ → ℕ → List ℕ → ℕ → ℕ → ℕ → List ℕ
-writtenBoth s n ws p x y = set (set ws (s + p) x) (s + pushed n p x) y
+-- an internal node's number, or the other one
+abbrev pub picked : ℕ → ℕ → ℕ → ℕ
+picked n x other = cond (ltb x n) other x
+
+-- the stack of p places whose top is v: the words hold what is under it
+unfoldable pub topped : ℕ → ℕ → List ℕ → ℕ → List ℕ
+topped s v ws zero = []
+topped s v ws (suc p) = v ∷ stackOf s ws p
 
 -- each number is an internal node's, and none is above the root's
 abbrev pub Inside : ℕ → ℕ → List ℕ → Type 0
@@ -48,19 +54,19 @@ pub pushed-le : (n p x : ℕ) → pushed n p x ≤ p + 1
 pushed-le n p x = by-cases (ltb x n) (λ e. rw e (omega arith)) (λ e. rw e (omega arith))
 
 module _ (s : ℕ) where
-  pub stack-none : (ws : List ℕ) → stackOf s ws 0 ≡ []
-  unfolding stackOf
-  stack-none ws = refl
+  pub topped-none : (v : ℕ) (ws : List ℕ) → topped s v ws 0 ≡ []
+  unfolding topped
+  topped-none v ws = refl
 
-  pub stack-one : (ws : List ℕ) → stackOf s ws 1 ≡ getD ws s 0 ∷ []
-  unfolding stackOf
-  stack-one ws = ap (λ (k : ℕ). getD ws k 0 ∷ []) (let e : s + 0 ≡ s = omega arith in e)
+  pub topped-one : (v : ℕ) (ws : List ℕ) → topped s v ws 1 ≡ v ∷ []
+  unfolding topped stackOf
+  topped-one v ws = refl
 
   -- the top, and what is under it
-  pub stack-top : (ws : List ℕ) (p : ℕ) → 0 < p → stackOf s ws p ≡ getD ws (s + (p - 1)) 0 ∷ stackOf s ws (p - 1)
-  unfolding stackOf
-  stack-top ws zero h = absurd (omega arith)
-  stack-top ws (suc p) h = rw (let e : suc p - 1 ≡ p = omega arith in e)
+  pub topped-top : (v : ℕ) (ws : List ℕ) (p : ℕ) → 0 < p → topped s v ws p ≡ v ∷ stackOf s ws (p - 1)
+  unfolding topped
+  topped-top v ws zero h = absurd (omega arith)
+  topped-top v ws (suc p) h = rw (let e : suc p - 1 ≡ p = omega arith in e)
 
   -- words that agree hold the same stack
   pub stack-agree : (ws ws′ : List ℕ) (p : ℕ) → ((k : ℕ) → s ≤ k → k < s + p → getD ws′ k 0 ≡ getD ws k 0) → stackOf s ws′ p ≡ stackOf s ws p
@@ -68,13 +74,6 @@ module _ (s : ℕ) where
   stack-agree ws ws′ zero f = refl
   stack-agree ws ws′ (suc p) f =
       ap₂ (λ (x : ℕ) (xs : List ℕ). x ∷ xs) (f (s + p) (omega arith) (omega arith)) (stack-agree ws ws′ p (λ k a b. f k a (omega arith)))
-
-  -- a write below the stack or past it
-  pub stack-off : (ws : List ℕ) (p k x : ℕ) → (k < s → ⊥) → s + p ≤ k → stackOf s (set ws k x) p ≡ stackOf s ws p
-  stack-off ws p k x a b = stack-agree ws (set ws k x) p (λ j c d. getD-set-other ws k j x 0 (λ e. omega arith))
-
-  pub stack-under : (ws : List ℕ) (p k x : ℕ) → k < s → stackOf s (set ws k x) p ≡ stackOf s ws p
-  stack-under ws p k x h = stack-agree ws (set ws k x) p (λ j c d. getD-set-other ws k j x 0 (λ e. omega arith))
 
   stack-more : (ws : List ℕ) (p x : ℕ) → s + p < length ws → stackOf s (set ws (s + p) x) (p + 1) ≡ x ∷ stackOf s ws p
   unfolding stackOf
@@ -89,23 +88,28 @@ module _ (s : ℕ) where
       (λ e. rw e (stack-agree ws (set ws (s + p) x) p (λ j c d. getD-set-other ws (s + p) j x 0 (λ q. omega arith))))
       (λ e. rw e (stack-more ws p x h))
 
-  -- both children of the node that was on top
-  pub stack-both : (n : ℕ) (ws : List ℕ) (p x y : ℕ) → s + p + 1 < length ws
-      → stackOf s (writtenBoth s n ws p x y) (pushedBoth n p x y) ≡ push n y (push n x (stackOf s ws p))
-  unfolding pushedBoth writtenBoth
-  stack-both n ws p x y h =
-      stack-push n (set ws (s + p) x) (pushed n p x) y (simp length-set (omega (arith, pushed-le n p x)))
-      ∙ ap (push n y) (stack-push n ws p x (omega arith))
+  topped-more : (v : ℕ) (ws : List ℕ) (p : ℕ) → topped s v ws (p + 1) ≡ v ∷ stackOf s ws p
+  unfolding topped
+  topped-more v ws p = ap (topped s v ws) (add-one p)
 
-  pub written-length : (n : ℕ) (ws : List ℕ) (p x y : ℕ) → length (writtenBoth s n ws p x y) ≡ length ws
-  unfolding writtenBoth
-  written-length n ws p x y = simp length-set
+  -- the number under the top comes to the top
+  topped-under : (u : ℕ) (ws : List ℕ) (p : ℕ) → (0 < p → u ≡ getD ws (s + (p - 1)) 0) → topped s u ws p ≡ stackOf s ws p
+  unfolding topped stackOf
+  topped-under u ws zero h = refl
+  topped-under u ws (suc p) h = ap (λ (x : ℕ). x ∷ stackOf s ws p) (h (omega arith) ∙ ap (λ (k : ℕ). getD ws (s + k) 0) (let e : suc p - 1 ≡ p = omega arith in e))
 
-  -- the words before the stack stay
-  pub written-front : (n : ℕ) (ws : List ℕ) (p x y k : ℕ) → k < s → getD (writtenBoth s n ws p x y) k 0 ≡ getD ws k 0
-  unfolding writtenBoth
-  written-front n ws p x y k h =
-      getD-set-other (set ws (s + p) x) (s + pushed n p x) k y 0 (λ e. omega arith) ∙ getD-set-other ws (s + p) k x 0 (λ e. omega arith)
+  -- both children x and y of the node that was on top of p places, of which u was the next
+  pub topped-both : (n : ℕ) (ws : List ℕ) (p x y u : ℕ) → s + p < length ws → (0 < p → u ≡ getD ws (s + (p - 1)) 0)
+      → topped s (picked n y (picked n x u)) (set ws (s + p) x) (pushedBoth n p x y) ≡ push n y (push n x (stackOf s ws p))
+  unfolding pushedBoth
+  topped-both n ws p x y u h e =
+      let ws′ = set ws (s + p) x in
+      let same : stackOf s ws′ p ≡ stackOf s ws p = stack-agree ws ws′ p (λ j c d. getD-set-other ws (s + p) j x 0 (λ q. omega arith)) in
+      by-cases (ltb y n)
+      (λ b. by-cases (ltb x n)
+      (λ a. rw (b, a) (topped-under u ws′ p (λ q. e q ∙ sym (getD-set-other ws (s + p) (s + (p - 1)) x 0 (λ z. omega arith))) ∙ same))
+      (λ a. rw (b, a) (topped-more x ws′ p ∙ ap (λ (l : List ℕ). x ∷ l) same)))
+      (λ b. rw b (topped-more y ws′ (pushed n p x) ∙ ap (λ (l : List ℕ). y ∷ l) (stack-push n ws p x h)))
 
 pub both-le : (n p x y : ℕ) → pushedBoth n p x y ≤ p + 2
 unfolding pushedBoth

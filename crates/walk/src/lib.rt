@@ -6,7 +6,7 @@ ghost use lib.ListN.{length, getD, set};
 ghost use Rattle.spec.specs.Memory.{over};
 ghost use Rattle.spec.specs.Tree.{valid, pairsOf, stepOrder};
 ghost use Rattle.spec.specs.Calls.{wrongTree};
-ghost use Rattle.walk.specs.Stack.{pushed, pushedBoth, writtenBoth};
+ghost use Rattle.walk.specs.Stack.{pushed, pushedBoth, picked};
 ghost use Rattle.walk.specs.Marks.{fresh, marked, freshBoth, markedBoth};
 
 // A child's number, as wide as an index.
@@ -16,22 +16,38 @@ fn wide(x: u16) -> usize
     x as usize
 }
 
-// Puts an internal node on the stack of `p` places, which stands from place 1,024 of `ws` on; a leaf stays out. Returns the places after it.
-fn push(ws: &mut [u64], n: usize, p: usize, x: usize) -> usize
-    requires { ⌜ 1024 + p < length (now ws) ⌝ }
-    ensures { λ r. ⌜ (r ≡ pushed n p x) × (now (ws .exit) ≡ set (now (ws .entry)) (1024 + p) x) ⌝ }
+// The number of an internal node, or else the other one.
+fn pick(n: usize, x: usize, other: usize) -> usize
+    ensures { λ r. ⌜ r ≡ picked n x other ⌝ }
 {
-    ws[1024 + p] = x as u64;
+    if x < n { other } else { x }
+}
+
+// The places of the stack once an internal node is on it; a leaf stays out.
+fn push(n: usize, p: usize, x: usize) -> usize
+    requires { ⌜ p < 4096 ⌝ }
+    ensures { λ r. ⌜ r ≡ pushed n p x ⌝ }
+{
     if x < n { p } else { p + 1 }
 }
 
-// Both children of a node, the left one below.
-fn push_both(ws: &mut [u64], n: usize, p: usize, l: usize, r: usize) -> usize
-    requires { ⌜ (p < 4096) × (1024 + p + 1 < length (now ws)) ⌝ }
-    ensures { λ q. ⌜ (q ≡ pushedBoth n p l r) × (now (ws .exit) ≡ writtenBoth 1024 n (now (ws .entry)) p l r) ⌝ }
+// The top of the stack, which is the node to be visited, and the stack's places, the top's included.
+struct Top {
+    node: usize,
+    places: usize,
+}
+
+// The stack with the two children of its top in place of it, the right one above. What is under the top stands from word 1,024 on, `p` places.
+fn next(ws: &mut [u64], n: usize, p: usize, l: usize, r: usize) -> Top
+    requires { ⌜ (p < 1024) × (2048 ≤ length (now ws)) ⌝ }
+    ensures { λ t. ⌜ (t .node ≡ picked n r (picked n l (getD (now (ws .entry)) (1023 + p) 0))) × (t .places ≡ pushedBoth n p l r) × (now (ws .exit) ≡ set (now (ws .entry)) (1024 + p) l) ⌝ }
 {
-    let q = push(ws, n, p, l);
-    push(ws, n, q, r)
+    let under = ws[1023 + p] as usize;
+    ws[1024 + p] = l as u64;
+    Top {
+        node: pick(n, r, pick(n, l, under)),
+        places: push(n, push(n, p, l), r),
+    }
 }
 
 // Marks the number `x` in `ws`, unless it is above the root's or is marked already.
@@ -68,19 +84,19 @@ fn meets_all(kids: &[u16], n: usize, ws: &mut [u64]) -> bool
 {
     let root = n * 2 - 2;
     ws[root] = 1;
-    ws[1024] = root as u64;
+    let mut v = root;
     let mut p: usize = 1;
     let mut met: usize = 1;
     while 0 < p {
-        p -= 1;
-        let v = ws[1024 + p] as usize;
         let j = (v - n) * 2;
         let l = wide(kids[j]);
         let r = wide(kids[j + 1]);
         if !mark_both(ws, root, l, r) {
             return false;
         }
-        p = push_both(ws, n, p, l, r);
+        let top = next(ws, n, p - 1, l, r);
+        v = top.node;
+        p = top.places;
         met += 2;
     }
     met == root + 1
@@ -106,18 +122,18 @@ fn fill_order(kids: &[u16], n: usize, ws: &mut [u64], out: &mut [u16])
     requires { ⌜ (2 ≤ n) × (n ≤ 512) × (wrongTree n (now kids) ≡ false) × (2048 ≤ length (now ws)) × (n - 1 ≤ length (now out)) ⌝ }
     ensures { λ _. ⌜ now (out .exit) ≡ over (now (out .entry)) (stepOrder (now (kids .entry)) n) ⌝ }
 {
-    ws[1024] = (n * 2 - 2) as u64;
+    let mut v = n * 2 - 2;
     let mut p: usize = 1;
     let mut rest = n - 1;
     while 0 < rest {
         rest -= 1;
-        p -= 1;
-        let v = ws[1024 + p] as usize;
         out[rest] = v as u16;
         let j = (v - n) * 2;
         let left = wide(kids[j]);
         let right = wide(kids[j + 1]);
-        p = push_both(ws, n, p, left, right);
+        let top = next(ws, n, p - 1, left, right);
+        v = top.node;
+        p = top.places;
     }
 }
 
