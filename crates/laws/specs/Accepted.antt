@@ -69,7 +69,7 @@ module _ {A : Type 0} (p : A → Bool) (d : A) where
   at-none [] h = refl
   at-none (x ∷ l) h = rw (h 0 (omega arith)) (at-none l (λ i b. h (suc i) (omega arith)))
 
-in-range : (m : ℕ) (l : List ℕ) → strays m l ≡ false → (j : ℕ) → memb j l ≡ true → j < m
+pub in-range : (m : ℕ) (l : List ℕ) → strays m l ≡ false → (j : ℕ) → memb j l ≡ true → j < m
 in-range m l e j h =
     by-cases (leb m j) (λ f. clash (any-intro (λ j. leb m j) j l f h) e) (λ f. leb-false m j f)
 
@@ -79,7 +79,7 @@ no-strays m (j ∷ l) h =
     rw (lt-leb m j (h j (or-introl (eqb j j) (memb j l) (eqb-self j)))) (no-strays m l (λ k b. h k (or-intror (eqb k j) (memb k l) b)))
 
 -- each number at most once, and no number twice
-once : (l : List ℕ) → repeats l ≡ false → (j : ℕ) → count j l ≤ 1
+pub once : (l : List ℕ) → repeats l ≡ false → (j : ℕ) → count j l ≤ 1
 once [] e j = omega arith
 once (k ∷ l) e j =
     by-cases (eqb j k)
@@ -105,7 +105,7 @@ four-fail false false true d p q r s e = clash e refl
 four-fail false false false true p q r s e = clash e refl
 four-fail false false false false p q r s e = (refl, refl, refl, refl)
 
-or-four : (a b c d : Bool) → (a || (b || (c || d))) ≡ false → (a ≡ false) × (b ≡ false) × (c ≡ false) × (d ≡ false)
+pub or-four : (a b c d : Bool) → (a || (b || (c || d))) ≡ false → (a ≡ false) × (b ≡ false) × (c ≡ false) × (d ≡ false)
 or-four a b c d e =
     let (p, e₁) = or-none a (b || (c || d)) e in
     let (q, e₂) = or-none b (c || d) e₁ in

@@ -105,6 +105,19 @@ limits : map numberFor (
 unfolding filled
 limits = refl
 
+-- with one index: it repeats in a leaf or the outputs, 6; an index not below 1 in either, 5, and 5 too where the same leaf repeats one before it
+indices : map numberFor (
+    network ((0 ∷ []) ∷ (0 ∷ []) ∷ []) (0 ∷ []) (1 ∷ [])
+    ∷ network ((0 ∷ 0 ∷ []) ∷ []) [] (1 ∷ [])
+    ∷ network [] (0 ∷ 0 ∷ []) (1 ∷ [])
+    ∷ network ((1 ∷ []) ∷ []) [] (1 ∷ [])
+    ∷ network [] (1 ∷ []) (1 ∷ [])
+    ∷ network ((0 ∷ 0 ∷ 5 ∷ []) ∷ []) [] (1 ∷ [])
+    ∷ network ((0 ∷ 0 ∷ []) ∷ []) (1 ∷ []) (1 ∷ [])
+    ∷ [])
+    ≡ 0 ∷ 6 ∷ 6 ∷ 5 ∷ 5 ∷ 5 ∷ 5 ∷ []
+indices = refl
+
 -- ---- stated lengths: one word or place short of each, and enough ----
 
 abbrev ofResult : {A : Type 0} → Result A → ℕ
