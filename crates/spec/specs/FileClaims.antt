@@ -5,7 +5,7 @@ use mathlib.Core.List.{List, [], _∷_, _++_, map}
 use mathlib.Core.Logic.{_↔_}
 use mathlib.Core.Option.{Option, none, some}
 use mathlib.Core.Path.{_≡_}
-use Prim.Native.Nat.{ℕ, suc, _+_, _*_, _%_, _≤_, _<_}
+use Prim.Native.Nat.{ℕ, suc, _+_, _-_, _*_, _%_, _≤_, _<_}
 use lib.Dec.{eqb}
 use lib.ListN.{length, getD, take, drop}
 use Rattle.spec.specs.Lists.{memb, from}
@@ -108,6 +108,13 @@ pub record Rewritten (file : List ℕ) (c : Contents) : Type 0 where
 abbrev pub ReadThenWritten : Type 0
 ReadThenWritten =
     (places flagPlaces : ℕ) (file : List ℕ) (c : Contents) → Bytes file → readOf places flagPlaces file ≡ done c → Rewritten file c
+
+-- what the writer writes is read back: the bytes from its cursor to where it ends, with lists that are long enough for every network
+abbrev pub WriterThenReader : Type 0
+WriterThenReader =
+    (places flagPlaces : ℕ) (c : Contents) (out : List ℕ) (cursor next : ℕ) → 254 ≤ places → 256 ≤ flagPlaces → TargetIsByte (c .ask)
+    → writeOf c (length out) cursor ≡ done next
+    → readOf places flagPlaces (take (next - cursor) (drop cursor (bufferAfter c cursor (writeOf c (length out) cursor) out))) ≡ done c
 
 -- a refusal leaves the buffer as it is
 abbrev pub BufferStays : Type 0
