@@ -11,7 +11,7 @@ use lib.ListN.{length, length-append}
 use borrow.Author.Tests.{ltb-false, le-ltb}
 use Rattle.spec.specs.Lists.{memb, anyb}
 use Rattle.spec.specs.Refusal.{Refusal, Result, refused, done, decide, passes}
-use Rattle.spec.specs.Network.{Network, indexCount, maxIndices, maxLeaves, maxLegs, maxOutputs, maxWeight, repeats, strays, refusalOf, accepted}
+use Rattle.spec.specs.Network.{Network, indexCount, maxIndices, maxLeaves, maxLegs, maxOutputs, maxWeight, repeats, anyOutOfRange, refusalOf, accepted}
 use Rattle.spec.specs.Building.{ifAccepted, addWeight, addLeaf, addOutput}
 use Rattle.spec.specs.BuildingClaims.{addAll, built, BuiltJust, AdditionsRefused}
 use Rattle.spec.specs.File.{weightsChecks}

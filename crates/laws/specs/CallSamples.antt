@@ -36,8 +36,8 @@ units = refl
 
 -- ---- 7: one word short; the checks come in the order of their numbers ----
 
-short : first (lengthCheck (lent 4096 4096 ∷ lent 3 4 ∷ []) ∷ []) ≡ some shortBuffer
-short = refl
+one-too-few : first (lengthCheck (lent 4096 4096 ∷ lent 3 4 ∷ []) ∷ []) ≡ some shortBuffer
+one-too-few = refl
 
 long-enough : first (lengthCheck (lent 4096 4096 ∷ lent 4 4 ∷ []) ∷ []) ≡ none
 long-enough = refl

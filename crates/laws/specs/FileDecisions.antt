@@ -12,7 +12,7 @@ use borrow.Author.Tests.{ltb-false, lt-ltb, le-ltb, le-leb, lt-leb, leb-false, n
 use Rattle.spec.specs.Lists.{memb}
 use Rattle.spec.specs.Members.{All}
 use Rattle.spec.specs.Refusal.{Refusal, truncated, tooLarge, outOfRange, repeated, shortBuffer, numberOf, Check, check, first, Result, refused, done, andThen, decide, checked}
-use Rattle.spec.specs.Network.{Network, leafCount, indexCount, maxLeaves, maxLegs, maxOutputs, repeats, strays}
+use Rattle.spec.specs.Network.{Network, leafCount, indexCount, maxLeaves, maxLegs, maxOutputs, repeats, anyOutOfRange}
 use Rattle.spec.specs.File.{Contents, field, allowed, mayEnd, Reading, headerChecks, weightsChecks, indexChecks, indexBytes, leafChecks, outputsChecks, takeTarget, takeField, readFields, nothingRead, treeLent, flagsLent, readOf}
 use Rattle.spec.specs.FileClaims.{readFrom, none-left, one-more, RestDecides, DecidesInOrder, refusalIn, forEach, PayloadsInOrder, FirstWrong, LeftToRight, ListsLast, StaysRefused, RefusesUpTo9}
 use Rattle.spec.specs.Calls.{lengthCheck, treeCheck, flagsCheck}
@@ -118,7 +118,7 @@ module _ (m j : ℕ) (rest : List ℕ) where
       rw (h .0, h .1 .0)
       (again-first (k ∷ before) good (h .1 .1) b (or-swap (memb j good) (eqb j k) (memb j before) ∙ sym (or-assoc (eqb j k) (memb j good) (memb j before)) ∙ e))
 
-module _ (s : Reading) (good : List ℕ) (j : ℕ) (rest : List ℕ) (in-range : strays (indexCount (s .read .network)) good ≡ false) (apart : repeats good ≡ false) where
+module _ (s : Reading) (good : List ℕ) (j : ℕ) (rest : List ℕ) (in-range : anyOutOfRange (indexCount (s .read .network)) good ≡ false) (apart : repeats good ≡ false) where
   abbrev m : ℕ
   m = indexCount (s .read .network)
 

@@ -10,7 +10,7 @@ use lib.ListN.{length, getD, List·getD-eq-default}
 use borrow.Author.Tests.{ltb-true, ltb-false, lt-ltb, leb-true}
 use Rattle.spec.specs.Lists.{memb, anyb, count}
 use Rattle.spec.specs.Refusal.{Refusal, tooLarge, overweight, outOfRange, repeated, numberOf, codeOf}
-use Rattle.spec.specs.Network.{Network, leafCount, indexCount, weight, legs, maxLeaves, maxIndices, maxLegs, maxOutputs, maxWeight, repeats, strays}
+use Rattle.spec.specs.Network.{Network, leafCount, indexCount, weight, legs, maxLeaves, maxIndices, maxLegs, maxOutputs, maxWeight, repeats, anyOutOfRange}
 use Rattle.spec.specs.NetworkClaims.{CountAbove, manyLeaves, manyIndices, manyLegs, manyOutputs, WeightAbove, IndexBeyond, beyondInLeaf, beyondInOutputs, IndexRepeated, repeatedInLeaf, repeatedInOutputs, RefusedJust}
 use Rattle.laws.specs.ListLaws.{any-member, count-memb}
 use Rattle.laws.specs.Booleans.{by-cases, or-cases, or-none, clash, eqb-self}
@@ -37,7 +37,7 @@ some-at p d (x ∷ l) e =
     (λ h. (0, omega arith, h))
     (λ h. let (i, b, k) = some-at p d l h in (suc i, omega arith, k))
 
-beyond-in : (m : ℕ) (l : List ℕ) → strays m l ≡ true → (j : ℕ) × (memb j l ≡ true) × (m ≤ j)
+beyond-in : (m : ℕ) (l : List ℕ) → anyOutOfRange m l ≡ true → (j : ℕ) × (memb j l ≡ true) × (m ≤ j)
 beyond-in m l e = any-member (λ j. leb m j) l e (λ j h k. (j, h, leb-true m j k))
 
 repeated-in : (l : List ℕ) → repeats l ≡ true → (j : ℕ) × (1 < count j l)
@@ -82,19 +82,19 @@ module _ (N : Network) where
             (λ b. absurd (omega (arith, h, List·getD-eq-default (N .weights) 0 (ltb-false j (indexCount N) b))));
       }
 
-  tells-range : Tells (anyb (strays (indexCount N)) (N .leaves) || strays (indexCount N) (N .outputs)) (IndexBeyond N)
+  tells-range : Tells (anyb (anyOutOfRange (indexCount N)) (N .leaves) || anyOutOfRange (indexCount N) (N .outputs)) (IndexBeyond N)
   tells-range =
       record {
-        holds = λ e. or-cases (anyb (strays (indexCount N)) (N .leaves)) (strays (indexCount N) (N .outputs)) e
-            (λ h. let (i, b, k) = some-at (strays (indexCount N)) [] (N .leaves) h in
+        holds = λ e. or-cases (anyb (anyOutOfRange (indexCount N)) (N .leaves)) (anyOutOfRange (indexCount N) (N .outputs)) e
+            (λ h. let (i, b, k) = some-at (anyOutOfRange (indexCount N)) [] (N .leaves) h in
             let (j, q, z) = beyond-in (indexCount N) (legs N i) k in beyondInLeaf i j b q z)
             (λ h. let (j, q, z) = beyond-in (indexCount N) (N .outputs) h in beyondInOutputs j q z);
-        fails = λ e. none-beyond (or-none (anyb (strays (indexCount N)) (N .leaves)) (strays (indexCount N) (N .outputs)) e);
+        fails = λ e. none-beyond (or-none (anyb (anyOutOfRange (indexCount N)) (N .leaves)) (anyOutOfRange (indexCount N) (N .outputs)) e);
       }
     where
-      none-beyond : (anyb (strays (indexCount N)) (N .leaves) ≡ false) × (strays (indexCount N) (N .outputs) ≡ false) → IndexBeyond N → ⊥
+      none-beyond : (anyb (anyOutOfRange (indexCount N)) (N .leaves) ≡ false) × (anyOutOfRange (indexCount N) (N .outputs) ≡ false) → IndexBeyond N → ⊥
       none-beyond (l, o) (beyondInLeaf i j b q z) =
-          omega (arith, z, in-range (indexCount N) (legs N i) (none-at (strays (indexCount N)) [] (N .leaves) l i b) j q)
+          omega (arith, z, in-range (indexCount N) (legs N i) (none-at (anyOutOfRange (indexCount N)) [] (N .leaves) l i b) j q)
       none-beyond (l, o) (beyondInOutputs j q z) = omega (arith, z, in-range (indexCount N) (N .outputs) o j q)
 
   tells-again : Tells (anyb repeats (N .leaves) || repeats (N .outputs)) (IndexRepeated N)
@@ -149,7 +149,7 @@ refused-just N =
     let c : Tells _ (IndexBeyond N) = tells-range N in
     let d : Tells _ (IndexRepeated N) = tells-again N in
     let heavy : Bool = anyb (λ w. ltb maxWeight w) (N .weights) in
-    let range : Bool = anyb (strays (indexCount N)) (N .leaves) || strays (indexCount N) (N .outputs) in
+    let range : Bool = anyb (anyOutOfRange (indexCount N)) (N .leaves) || anyOutOfRange (indexCount N) (N .outputs) in
     let again : Bool = anyb repeats (N .leaves) || repeats (N .outputs) in
     let (is-3, is-4, is-5, is-6) = by-number (large N) heavy range again in
     record {

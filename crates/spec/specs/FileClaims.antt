@@ -11,7 +11,7 @@ use lib.ListN.{length, getD, take, drop}
 use Rattle.spec.specs.Lists.{memb, from}
 use Rattle.spec.specs.Members.{All}
 use Rattle.spec.specs.Refusal.{Refusal, truncated, wrongTag, tooLarge, outOfRange, repeated, shortBuffer, numberOf, codeOf, Check, check, first, Result, refused, done}
-use Rattle.spec.specs.Network.{Network, leafCount, indexCount, maxLeaves, maxLegs, maxOutputs, repeats, strays, accepted}
+use Rattle.spec.specs.Network.{Network, leafCount, indexCount, maxLeaves, maxLegs, maxOutputs, repeats, anyOutOfRange, accepted}
 use Rattle.spec.specs.Tree.{valid, pairsOf}
 use Rattle.spec.specs.Calls.{treePlaces, treeCheck, flagsCheck, flagAt}
 use Rattle.spec.specs.CallClaims.{numbersOf}
@@ -215,7 +215,7 @@ pub record WrongIndices (s : Reading) (good : List ℕ) (j : ℕ) (rest : List �
 
 abbrev pub LeftToRight : Type 0
 LeftToRight =
-    (s : Reading) (good : List ℕ) (j : ℕ) (rest : List ℕ) → strays (indexCount (s .read .network)) good ≡ false → repeats good ≡ false
+    (s : Reading) (good : List ℕ) (j : ℕ) (rest : List ℕ) → anyOutOfRange (indexCount (s .read .network)) good ≡ false → repeats good ≡ false
     → WrongIndices s good j rest
 
 -- "7, for lists the reader fills, at the file's end"
