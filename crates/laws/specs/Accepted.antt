@@ -10,7 +10,7 @@ use lib.ListN.{length, getD, List·getD-eq-default}
 use borrow.Author.Tests.{eqb-true, ltb-true, ltb-false, le-ltb, leb-false, lt-leb}
 use Rattle.spec.specs.Lists.{memb, anyb, count}
 use Rattle.spec.specs.Refusal.{Refusal, truncated, wrongTag, tooLarge, overweight, outOfRange, repeated, shortBuffer, invalidTree, invalidFlags, totalBeyond, danglingIndex, tableTooWide, drawsExhausted, numberOf, passes}
-use Rattle.spec.specs.Network.{Network, leafCount, indexCount, weight, legs, InRange, maxLeaves, maxIndices, maxLegs, maxOutputs, maxWeight, repeats, strays, accepted}
+use Rattle.spec.specs.Network.{Network, leafCount, indexCount, weight, legs, InRange, maxLeaves, maxIndices, maxLegs, maxOutputs, maxWeight, repeats, anyOutOfRange, accepted}
 use Rattle.spec.specs.NetworkClaims.{DistinctNumbers, Accepted, AcceptedMeans}
 use Rattle.laws.specs.ListLaws.{any-intro, count-memb, count-not-memb}
 use Rattle.laws.specs.Booleans.{by-cases, or-introl, or-intror, or-none, clash, eqb-self}
@@ -69,17 +69,17 @@ module _ {A : Type 0} (p : A → Bool) (d : A) where
   at-none [] h = refl
   at-none (x ∷ l) h = rw (h 0 (omega arith)) (at-none l (λ i b. h (suc i) (omega arith)))
 
-in-range : (m : ℕ) (l : List ℕ) → strays m l ≡ false → (j : ℕ) → memb j l ≡ true → j < m
+pub in-range : (m : ℕ) (l : List ℕ) → anyOutOfRange m l ≡ false → (j : ℕ) → memb j l ≡ true → j < m
 in-range m l e j h =
     by-cases (leb m j) (λ f. clash (any-intro (λ j. leb m j) j l f h) e) (λ f. leb-false m j f)
 
-no-strays : (m : ℕ) (l : List ℕ) → ((j : ℕ) → memb j l ≡ true → j < m) → strays m l ≡ false
-no-strays m [] h = refl
-no-strays m (j ∷ l) h =
-    rw (lt-leb m j (h j (or-introl (eqb j j) (memb j l) (eqb-self j)))) (no-strays m l (λ k b. h k (or-intror (eqb k j) (memb k l) b)))
+none-out-of-range : (m : ℕ) (l : List ℕ) → ((j : ℕ) → memb j l ≡ true → j < m) → anyOutOfRange m l ≡ false
+none-out-of-range m [] h = refl
+none-out-of-range m (j ∷ l) h =
+    rw (lt-leb m j (h j (or-introl (eqb j j) (memb j l) (eqb-self j)))) (none-out-of-range m l (λ k b. h k (or-intror (eqb k j) (memb k l) b)))
 
 -- each number at most once, and no number twice
-once : (l : List ℕ) → repeats l ≡ false → (j : ℕ) → count j l ≤ 1
+pub once : (l : List ℕ) → repeats l ≡ false → (j : ℕ) → count j l ≤ 1
 once [] e j = omega arith
 once (k ∷ l) e j =
     by-cases (eqb j k)
@@ -105,7 +105,7 @@ four-fail false false true d p q r s e = clash e refl
 four-fail false false false true p q r s e = clash e refl
 four-fail false false false false p q r s e = (refl, refl, refl, refl)
 
-or-four : (a b c d : Bool) → (a || (b || (c || d))) ≡ false → (a ≡ false) × (b ≡ false) × (c ≡ false) × (d ≡ false)
+pub or-four : (a b c d : Bool) → (a || (b || (c || d))) ≡ false → (a ≡ false) × (b ≡ false) × (c ≡ false) × (d ≡ false)
 or-four a b c d e =
     let (p, e₁) = or-none a (b || (c || d)) e in
     let (q, e₂) = or-none b (c || d) e₁ in
@@ -114,10 +114,10 @@ or-four a b c d e =
 
 means : (N : Network) → accepted N ≡ true → Accepted N
 means N e =
-    let (large, heavy, stray, twice) = four-fail _ _ _ _ tooLarge overweight outOfRange repeated e in
+    let (large, heavy, beyond, again) = four-fail _ _ _ _ tooLarge overweight outOfRange repeated e in
     let (l, i, g, o) = or-four (ltb maxLeaves (leafCount N)) (ltb maxIndices (indexCount N)) _ (ltb maxOutputs (length (N .outputs))) large in
-    let (sl, so) = or-none (anyb (strays (indexCount N)) (N .leaves)) (strays (indexCount N) (N .outputs)) stray in
-    let (rl, ro) = or-none (anyb repeats (N .leaves)) (repeats (N .outputs)) twice in
+    let (sl, so) = or-none (anyb (anyOutOfRange (indexCount N)) (N .leaves)) (anyOutOfRange (indexCount N) (N .outputs)) beyond in
+    let (rl, ro) = or-none (anyb repeats (N .leaves)) (repeats (N .outputs)) again in
     record {
       fewLeaves = ltb-false maxLeaves (leafCount N) l;
       fewIndices = ltb-false maxIndices (indexCount N) i;
@@ -126,7 +126,7 @@ means N e =
       weightsFit = λ j. by-cases (ltb j (indexCount N))
           (λ b. ltb-false maxWeight (weight N j) (none-at (λ w. ltb maxWeight w) 0 (N .weights) heavy j (ltb-true j (indexCount N) b)))
           (λ b. rw (List·getD-eq-default (N .weights) 0 (ltb-false j (indexCount N) b)) (omega arith));
-      inRange = λ k j b m. in-range (indexCount N) (legs N k) (none-at (strays (indexCount N)) [] (N .leaves) sl k b) j m;
+      inRange = λ k j b m. in-range (indexCount N) (legs N k) (none-at (anyOutOfRange (indexCount N)) [] (N .leaves) sl k b) j m;
       outputsInRange = in-range (indexCount N) (N .outputs) so;
       once = λ k j b. once (legs N k) (none-at repeats [] (N .leaves) rl k b) j;
       outputsOnce = once (N .outputs) ro;
@@ -140,8 +140,8 @@ test N a =
       at-none (λ x. ltb maxLegs (length x)) [] (N .leaves) (λ k b. le-ltb maxLegs (length (legs N k)) (a .fewLegs k b)),
       le-ltb maxOutputs (length (N .outputs)) (a .fewOutputs),
       at-none (λ w. ltb maxWeight w) 0 (N .weights) (λ j b. le-ltb maxWeight (weight N j) (a .weightsFit j)),
-      at-none (strays (indexCount N)) [] (N .leaves) (λ k b. no-strays (indexCount N) (legs N k) (λ j m. a .inRange k j b m)),
-      no-strays (indexCount N) (N .outputs) (a .outputsInRange),
+      at-none (anyOutOfRange (indexCount N)) [] (N .leaves) (λ k b. none-out-of-range (indexCount N) (legs N k) (λ j m. a .inRange k j b m)),
+      none-out-of-range (indexCount N) (N .outputs) (a .outputsInRange),
       at-none repeats [] (N .leaves) (λ k b. no-repeats (legs N k) (λ j. a .once k j b)),
       no-repeats (N .outputs) (a .outputsOnce),
     )

@@ -36,8 +36,8 @@ units = refl
 
 -- ---- 7: one word short; the checks come in the order of their numbers ----
 
-short : first (lengthCheck (lent 4096 4096 ∷ lent 3 4 ∷ []) ∷ []) ≡ some shortBuffer
-short = refl
+one-too-few : first (lengthCheck (lent 4096 4096 ∷ lent 3 4 ∷ []) ∷ []) ≡ some shortBuffer
+one-too-few = refl
 
 long-enough : first (lengthCheck (lent 4096 4096 ∷ lent 4 4 ∷ []) ∷ []) ≡ none
 long-enough = refl
@@ -104,6 +104,19 @@ limits : map numberFor (
     ≡ 0 ∷ 3 ∷ 0 ∷ 3 ∷ 0 ∷ 3 ∷ []
 unfolding filled
 limits = refl
+
+-- with one index: it repeats in a leaf or the outputs, 6; an index not below 1 in either, 5, and 5 too where the same leaf repeats one before it
+indices : map numberFor (
+    network ((0 ∷ []) ∷ (0 ∷ []) ∷ []) (0 ∷ []) (1 ∷ [])
+    ∷ network ((0 ∷ 0 ∷ []) ∷ []) [] (1 ∷ [])
+    ∷ network [] (0 ∷ 0 ∷ []) (1 ∷ [])
+    ∷ network ((1 ∷ []) ∷ []) [] (1 ∷ [])
+    ∷ network [] (1 ∷ []) (1 ∷ [])
+    ∷ network ((0 ∷ 0 ∷ 5 ∷ []) ∷ []) [] (1 ∷ [])
+    ∷ network ((0 ∷ 0 ∷ []) ∷ []) (1 ∷ []) (1 ∷ [])
+    ∷ [])
+    ≡ 0 ∷ 6 ∷ 6 ∷ 5 ∷ 5 ∷ 5 ∷ 5 ∷ []
+indices = refl
 
 -- ---- stated lengths: one word or place short of each, and enough ----
 

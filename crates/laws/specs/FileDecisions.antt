@@ -12,9 +12,9 @@ use borrow.Author.Tests.{ltb-false, lt-ltb, le-ltb, le-leb, lt-leb, leb-false, n
 use Rattle.spec.specs.Lists.{memb}
 use Rattle.spec.specs.Members.{All}
 use Rattle.spec.specs.Refusal.{Refusal, truncated, tooLarge, outOfRange, repeated, shortBuffer, numberOf, Check, check, first, Result, refused, done, andThen, decide, checked}
-use Rattle.spec.specs.Network.{Network, indexCount}
+use Rattle.spec.specs.Network.{Network, leafCount, indexCount, maxLeaves, maxLegs, maxOutputs, repeats, anyOutOfRange}
 use Rattle.spec.specs.File.{Contents, field, allowed, mayEnd, Reading, headerChecks, weightsChecks, indexChecks, indexBytes, leafChecks, outputsChecks, takeTarget, takeField, readFields, nothingRead, treeLent, flagsLent, readOf}
-use Rattle.spec.specs.FileClaims.{readFrom, none-left, one-more, RestDecides, DecidesInOrder, refusalIn, forEach, PayloadsInOrder, LeftToRight, ListsLast, StaysRefused, RefusesUpTo9}
+use Rattle.spec.specs.FileClaims.{readFrom, none-left, one-more, RestDecides, DecidesInOrder, refusalIn, forEach, PayloadsInOrder, FirstWrong, LeftToRight, ListsLast, StaysRefused, RefusesUpTo9}
 use Rattle.spec.specs.Calls.{lengthCheck, treeCheck, flagsCheck}
 use Rattle.spec.specs.CallClaims.{numbersOf}
 use Rattle.laws.specs.Booleans.{by-cases, clash, or-introl, or-swap}
@@ -118,15 +118,40 @@ module _ (m j : ℕ) (rest : List ℕ) where
       rw (h .0, h .1 .0)
       (again-first (k ∷ before) good (h .1 .1) b (or-swap (memb j good) (eqb j k) (memb j before) ∙ sym (or-assoc (eqb j k) (memb j good) (memb j before)) ∙ e))
 
+module _ (s : Reading) (good : List ℕ) (j : ℕ) (rest : List ℕ) (in-range : anyOutOfRange (indexCount (s .read .network)) good ≡ false) (apart : repeats good ≡ false) where
+  abbrev m : ℕ
+  m = indexCount (s .read .network)
+
+  good-fails : Fails (indexChecks m [] good)
+  good-fails = index-fails m [] good in-range apart (apart-nil good)
+
+  range-decides : m ≤ j → indexBytes m [] (good ++ (j ∷ rest)) ≡ some outOfRange
+  range-decides = range-first m j rest [] good good-fails
+
+  again-decides : memb j good ≡ true → indexBytes m [] (good ++ (j ∷ rest)) ≡ some repeated
+  again-decides e =
+      let b : leb m j ≡ false = all-in (λ k. leb m k ≡ false) j good (any-none (λ k. leb m k) good in-range) (memb-in j good e) in
+      again-first m j rest [] good good-fails (leb-false m j b) (or-introl (memb j good) false e)
+
+  pub wrong-leaf : length (good ++ (j ∷ rest)) ≤ maxLegs → leafCount (s .read .network) < maxLeaves → FirstWrong s 2 good j rest
+  wrong-leaf h k =
+      let f : ltb maxLegs (length (good ++ (j ∷ rest))) ≡ false = le-ltb maxLegs (length (good ++ (j ∷ rest))) h in
+      let g : leb maxLeaves (leafCount (s .read .network)) ≡ false = lt-leb maxLeaves (leafCount (s .read .network)) k in
+      record {
+        range = λ b. rw (f, g, range-decides b);
+        again = λ b. rw (f, g, again-decides b);
+      }
+
+  pub wrong-outputs : length (good ++ (j ∷ rest)) ≤ maxOutputs → FirstWrong s 3 good j rest
+  wrong-outputs h =
+      let f : ltb maxOutputs (length (good ++ (j ∷ rest))) ≡ false = le-ltb maxOutputs (length (good ++ (j ∷ rest))) h in
+      record {
+        range = λ b. rw (f, range-decides b);
+        again = λ b. rw (f, again-decides b);
+      }
+
 pub left-to-right : LeftToRight
-left-to-right m good j rest s r =
-    let h : Fails (indexChecks m [] good) = index-fails m [] good s r (apart-nil good) in
-    record {
-      range = range-first m j rest [] good h;
-      again = λ e.
-          let b : leb m j ≡ false = all-in (λ k. leb m k ≡ false) j good (any-none (λ k. leb m k) good s) (memb-in j good e) in
-          again-first m j rest [] good h (leb-false m j b) (or-introl (memb j good) false e);
-    }
+left-to-right s good j rest e r = record { leaf = wrong-leaf s good j rest e r; outputs = wrong-outputs s good j rest e r }
 
 -- ---- which numbers a field is refused by ----
 

@@ -11,7 +11,7 @@ use borrow.Author.Tests.{ltb-false, le-ltb, leb-false, lt-leb, eqb-false, ne-eqb
 use Rattle.spec.specs.Lists.{memb, anyb}
 use Rattle.spec.specs.Members.{All}
 use Rattle.spec.specs.Refusal.{Check, first, passes}
-use Rattle.spec.specs.Network.{Network, leafCount, indexCount, maxLeaves, maxIndices, maxLegs, maxOutputs, repeats, strays, networkChecks, accepted}
+use Rattle.spec.specs.Network.{Network, leafCount, indexCount, maxLeaves, maxIndices, maxLegs, maxOutputs, repeats, anyOutOfRange, networkChecks, accepted}
 use Rattle.spec.specs.Tree.{valid, pairsOf}
 use Rattle.spec.specs.Calls.{treeCheck, flagsCheck}
 use Rattle.spec.specs.FileClaims.{LawfulTree, LawfulAsk}
@@ -58,10 +58,10 @@ apart-memb j (k ∷ l) e = let (f, g) = or-none (eqb j k) (memb j l) e in (eqb-s
 abbrev pub Apart : List ℕ → List ℕ → Type 0
 Apart before l = All (λ k. memb k before ≡ false) l
 
-pub index-fails : (m : ℕ) (before l : List ℕ) → strays m l ≡ false → repeats l ≡ false → Apart before l → Fails (indexChecks m before l)
+pub index-fails : (m : ℕ) (before l : List ℕ) → anyOutOfRange m l ≡ false → repeats l ≡ false → Apart before l → Fails (indexChecks m before l)
 index-fails m before [] s r a = tt
 index-fails m before (j ∷ l) s r a =
-    let (s₀, s₁) = or-none (leb m j) (strays m l) s in
+    let (s₀, s₁) = or-none (leb m j) (anyOutOfRange m l) s in
     let (r₀, r₁) = or-none (memb j l) (repeats l) r in
     (s₀, (a .0, index-fails m (j ∷ before) l s₁ r₁ (both l (apart-memb j l r₀) (a .1))))
   where
@@ -69,7 +69,7 @@ index-fails m before (j ∷ l) s r a =
     both [] e f = tt
     both (k ∷ x) e f = (rw (e .0) (f .0), both x (e .1) (f .1))
 
-pub fails-index : (m : ℕ) (before l : List ℕ) → Fails (indexChecks m before l) → (strays m l ≡ false) × (repeats l ≡ false) × Apart before l
+pub fails-index : (m : ℕ) (before l : List ℕ) → Fails (indexChecks m before l) → (anyOutOfRange m l ≡ false) × (repeats l ≡ false) × Apart before l
 fails-index m before [] h = (refl, refl, tt)
 fails-index m before (j ∷ l) h =
     let (s, r, a) = fails-index m (j ∷ before) l (h .1 .1) in
@@ -84,7 +84,7 @@ apart-nil (k ∷ l) = (refl, apart-nil l)
 
 -- at most `most` indices, each below m, none twice
 abbrev pub Named : ℕ → ℕ → List ℕ → Type 0
-Named most m l = (ltb most (length l) ≡ false) × (strays m l ≡ false) × (repeats l ≡ false)
+Named most m l = (ltb most (length l) ≡ false) × (anyOutOfRange m l ≡ false) × (repeats l ≡ false)
 
 -- the weights, and the leaves so far, are as they must be
 pub record Begun (w : List ℕ) (ls : List (List ℕ)) : Type 0 where
@@ -117,19 +117,19 @@ accepted-parts N e =
     let (l, l₁) = or-none (ltb maxLeaves (leafCount N)) _ large in
     let (i, l₂) = or-none (ltb maxIndices (indexCount N)) _ l₁ in
     let (g, o) = or-none (anyb (λ x. ltb maxLegs (length x)) (N .leaves)) (ltb maxOutputs (length (N .outputs))) l₂ in
-    let (s, s₁) = or-none (anyb (strays (indexCount N)) (N .leaves)) (strays (indexCount N) (N .outputs)) range in
+    let (s, s₁) = or-none (anyb (anyOutOfRange (indexCount N)) (N .leaves)) (anyOutOfRange (indexCount N) (N .outputs)) range in
     let (t, t₁) = or-none (anyb repeats (N .leaves)) (repeats (N .outputs)) again in (
       record {
         weights = (i, (heavy, tt));
         few = ltb-false maxLeaves (leafCount N) l;
-        legs = tests-three (λ x. ltb maxLegs (length x)) (strays (indexCount N)) repeats (N .leaves) g s t;
+        legs = tests-three (λ x. ltb maxLegs (length x)) (anyOutOfRange (indexCount N)) repeats (N .leaves) g s t;
       },
       (o, s₁, t₁),
     )
 
 pub parts-accepted : (N : Network) → Begun (N .weights) (N .leaves) → Named maxOutputs (indexCount N) (N .outputs) → accepted N ≡ true
 parts-accepted N b o =
-    let (g, s, r) = three-tests (λ l. ltb maxLegs (length l)) (strays (indexCount N)) repeats (N .leaves) (b .legs) in
+    let (g, s, r) = three-tests (λ l. ltb maxLegs (length l)) (anyOutOfRange (indexCount N)) repeats (N .leaves) (b .legs) in
     rw (
       le-ltb maxLeaves (leafCount N) (b .few),
       b .weights .0,

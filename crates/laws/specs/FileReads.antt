@@ -108,7 +108,7 @@ no-room places flagPlaces file k = (
 )
 
 -- every network's tree and flags have room
-room-for-all : (places flagPlaces : ℕ) (c : Contents) → Lawful c → 254 ≤ places → 256 ≤ flagPlaces → Room places flagPlaces c
+pub room-for-all : (places flagPlaces : ℕ) (c : Contents) → Lawful c → 254 ≤ places → 256 ≤ flagPlaces → Room places flagPlaces c
 room-for-all places flagPlaces c l h k = (tree (c .tree), flags (c .ask))
   where
     tree : (t : Option (List ℕ)) → RoomForTree (c .network) places t

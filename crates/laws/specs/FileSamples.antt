@@ -43,7 +43,7 @@ after l = field 1 (1 ∷ []) ++ l
 abbrev ended : List ℕ → List ℕ
 ended l = after (field 3 [] ++ l)
 
--- nothing; no outputs; half a header; a payload that ends early; a tag before its payload; the leaf's bytes from left to right
+-- nothing; no outputs; half a header; a payload that ends early; a tag before its payload; a leaf's bytes, and the outputs', from left to right
 refusals : map (λ l. codeOf (refusalIn (readOf 9 9 l))) (
     []
     ∷ after []
@@ -56,13 +56,15 @@ refusals : map (λ l. codeOf (refusalIn (readOf 9 9 l))) (
     ∷ (field 1 (9 ∷ []))
     ∷ after (field 2 (1 ∷ []))
     ∷ after (field 2 (0 ∷ 0 ∷ 5 ∷ []))
+    ∷ after (field 3 (0 ∷ 5 ∷ 0 ∷ []))
+    ∷ after (field 3 (0 ∷ 0 ∷ 5 ∷ []))
     ∷ ended (field 4 (0 ∷ []))
     ∷ ended (field 4 (0 ∷ 0 ∷ []))
     ∷ ended (field 5 (0 ∷ 0 ∷ []))
     ∷ ended (field 5 (2 ∷ []))
     ∷ ended []
     ∷ [])
-    ≡ 1 ∷ 1 ∷ 1 ∷ 1 ∷ 2 ∷ 2 ∷ 3 ∷ 3 ∷ 4 ∷ 5 ∷ 6 ∷ 8 ∷ 8 ∷ 9 ∷ 9 ∷ 0 ∷ []
+    ≡ 1 ∷ 1 ∷ 1 ∷ 1 ∷ 2 ∷ 2 ∷ 3 ∷ 3 ∷ 4 ∷ 5 ∷ 6 ∷ 5 ∷ 6 ∷ 8 ∷ 8 ∷ 9 ∷ 9 ∷ 0 ∷ []
 unfolding readOf valid treeAt pairsOf
 refusals = refl
 

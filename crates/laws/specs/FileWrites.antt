@@ -3,23 +3,24 @@ use mathlib.Core.Path.{_≡_, refl, sym, ap, _∙_, subst}
 use mathlib.Core.Bool.{false}
 use mathlib.Core.List.{List, [], _∷_, _++_}
 use mathlib.Core.Option.{Option, none, some}
-use Prim.Native.Nat.{ℕ, _+_, _≤_}
+use Prim.Native.Nat.{ℕ, _+_, _-_, _≤_}
 use native.Mathlib.Omega.{arith}
 use lib.Dec.{ltb}
-use lib.ListN.{length}
+use lib.ListN.{length, take, drop}
+use lib.Seq.{take-at, drop-at, length-take-le}
 use borrow.Author.Tests.{ltb-false, le-ltb}
 use Rattle.spec.specs.Refusal.{Check, first, Result, done}
 use Rattle.spec.specs.Network.{Network, networkChecks}
 use Rattle.spec.specs.Calls.{lent, lengthCheck}
-use Rattle.spec.specs.File.{Ask, plain, flagged, target, Contents, fileOf, treeChecks, flagsChecks, writeChecks, writeOf, bufferAfter}
-use Rattle.spec.specs.FileClaims.{LawfulTree, LawfulAsk, Lawful, TargetIsByte, WritesLawful, Rewritten, ReadThenWritten, BufferStays, ifTree, ifFlags, WriterByNumber}
+use Rattle.spec.specs.File.{Ask, plain, flagged, target, Contents, fileOf, treeChecks, flagsChecks, writeChecks, readOf, writeOf, bufferAfter}
+use Rattle.spec.specs.FileClaims.{LawfulTree, LawfulAsk, Lawful, TargetIsByte, WritesLawful, Rewritten, ReadThenWritten, WriterThenReader, BufferStays, ifTree, ifFlags, WriterByNumber}
 use Rattle.spec.specs.CallClaims.{numbersOf}
 use Rattle.laws.specs.Booleans.{or-none}
 use Rattle.laws.specs.MemberLaws.{all-append, all-parts}
 use Rattle.laws.specs.Results.{done-same, checked-done, checked-none}
 use Rattle.laws.specs.FileDecisions.{refused-by-first}
 use Rattle.laws.specs.FileFields.{Fails, passes-fails, fails-passes, tree-fails, fails-tree, flags-fails, fails-flags}
-use Rattle.laws.specs.FileReads.{reads-just}
+use Rattle.laws.specs.FileReads.{written-then-read, reads-just, room-for-all}
 use Rattle.laws.specs.FileLists.{placed-at}
 
 -- ---- the conditions, and what is lawful ----
@@ -96,6 +97,25 @@ pub read-then-written : ReadThenWritten
 read-then-written places flagPlaces file c b e =
     let (h, r, q) = reads-just places flagPlaces file c b .0 e in
     subst (λ (x : List ℕ). Rewritten x c) (sym q) (rewritten c h)
+
+-- ---- written, then read ----
+
+-- the bytes from the cursor on are the file's
+bytes-written : (c : Contents) (out : List ℕ) (cursor next : ℕ) → Lawful c → next ≡ cursor + length (fileOf c) → next ≤ length out
+    → take (next - cursor) (drop cursor (bufferAfter c cursor (writeOf c (length out) cursor) out)) ≡ fileOf c
+bytes-written c out cursor next h q k =
+    let rest : List ℕ = drop (cursor + length (fileOf c)) out in
+    let front : length (take cursor out) ≡ cursor = length-take-le cursor out (omega arith) in
+    let size : length (fileOf c) ≡ next - cursor = omega arith in
+    ap (λ (l : List ℕ). take (next - cursor) (drop cursor l)) (rewritten c h .buffer out cursor (omega arith))
+    ∙ ap (take (next - cursor)) (drop-at (take cursor out) (fileOf c ++ rest) cursor front)
+    ∙ take-at (fileOf c) rest (next - cursor) size
+
+pub writer-then-reader : WriterThenReader
+writer-then-reader places flagPlaces c out cursor next h k b e =
+    let (l, q, z) = writes-lawful c (length out) cursor next b .0 e in
+    ap (readOf places flagPlaces) (bytes-written c out cursor next l q z)
+    ∙ written-then-read places flagPlaces c l (room-for-all places flagPlaces c l h k)
 
 pub buffer-stays : BufferStays
 buffer-stays c cursor out r e = ap (λ (x : Result ℕ). bufferAfter c cursor x out) e

@@ -10,7 +10,7 @@ use lib.ListN.{length, getD, take, drop}
 use borrow.Author.Tests.{lt-ltb, le-ltb, ltb-false}
 use Rattle.spec.specs.Lists.{memb, anyb, range}
 use Rattle.spec.specs.Refusal.{Refusal, truncated, wrongTag, tooLarge, overweight, outOfRange, repeated, shortBuffer, invalidTree, invalidFlags, totalBeyond, danglingIndex, tableTooWide, drawsExhausted, codeOf, numberOf, passes}
-use Rattle.spec.specs.Network.{Network, leafCount, indexCount, legs, maxLeaves, maxIndices, maxLegs, maxOutputs, maxWeight, repeats, strays, refusalOf, accepted}
+use Rattle.spec.specs.Network.{Network, leafCount, indexCount, legs, maxLeaves, maxIndices, maxLegs, maxOutputs, maxWeight, repeats, anyOutOfRange, refusalOf, accepted}
 use Rattle.spec.specs.NetworkClaims.{Accepted}
 use Rattle.spec.specs.Layout.{firsts, rowAt, networkOf}
 use Rattle.laws.specs.Booleans.{or-introl, or-intror, or-none}
@@ -62,21 +62,21 @@ module _ (m n o : ℕ) (counts : List ℕ) where
 -- ---- the four conditions ----
 
 -- an index not below m
-unfoldable pub strayOf : (m n o : ℕ) (counts cells outputs : List ℕ) → Bool
-strayOf m n o counts cells outputs = anyb (strays m) (leavesOf n counts cells) || strays m (firsts o outputs)
+unfoldable pub outOfRangeOf : (m n o : ℕ) (counts cells outputs : List ℕ) → Bool
+outOfRangeOf m n o counts cells outputs = anyb (anyOutOfRange m) (leavesOf n counts cells) || anyOutOfRange m (firsts o outputs)
 
 -- an index repeated
 unfoldable pub repeatOf : (n o : ℕ) (counts cells outputs : List ℕ) → Bool
 repeatOf n o counts cells outputs = anyb repeats (leavesOf n counts cells) || repeats (firsts o outputs)
 
 module _ (m n o : ℕ) (counts cells outputs : List ℕ) (fit : o ≤ length outputs) where
-  pub stray-leaf : {b : Bool} → b ≡ anyb (strays m) (leavesOf n counts cells) → b ≡ true → true ≡ strayOf m n o counts cells outputs
-  unfolding strayOf
-  stray-leaf e t = sym (or-introl (anyb (strays m) (leavesOf n counts cells)) (strays m (firsts o outputs)) (sym e ∙ t))
+  pub beyond-leaf : {b : Bool} → b ≡ anyb (anyOutOfRange m) (leavesOf n counts cells) → b ≡ true → true ≡ outOfRangeOf m n o counts cells outputs
+  unfolding outOfRangeOf
+  beyond-leaf e t = sym (or-introl (anyb (anyOutOfRange m) (leavesOf n counts cells)) (anyOutOfRange m (firsts o outputs)) (sym e ∙ t))
 
-  pub stray-output : {b d : Bool} → b ≡ anyb (strays m) (leavesOf n counts cells) → b ≡ false → d ≡ strays m (take o outputs) → d ≡ strayOf m n o counts cells outputs
-  unfolding strayOf
-  stray-output e f h = h ∙ rw (sym e ∙ f, firsts-take o outputs fit)
+  pub beyond-output : {b d : Bool} → b ≡ anyb (anyOutOfRange m) (leavesOf n counts cells) → b ≡ false → d ≡ anyOutOfRange m (take o outputs) → d ≡ outOfRangeOf m n o counts cells outputs
+  unfolding outOfRangeOf
+  beyond-output e f h = h ∙ rw (sym e ∙ f, firsts-take o outputs fit)
 
   pub repeat-leaf : {b : Bool} → b ≡ anyb repeats (leavesOf n counts cells) → b ≡ true → true ≡ repeatOf n o counts cells outputs
   unfolding repeatOf
@@ -87,8 +87,8 @@ module _ (m n o : ℕ) (counts cells outputs : List ℕ) (fit : o ≤ length out
   repeat-output e f h = h ∙ rw (sym e ∙ f, firsts-take o outputs fit)
 
 -- the number, from the four conditions in their order
-unfoldable pub codeFrom : (large heavy stray twice : Bool) → ℕ
-codeFrom large heavy stray twice = cond large 3 (cond heavy 4 (cond stray 5 (cond twice 6 0)))
+unfoldable pub codeFrom : (large heavy beyond again : Bool) → ℕ
+codeFrom large heavy beyond again = cond large 3 (cond heavy 4 (cond beyond 5 (cond again 6 0)))
 
 code-first : (a b c d : Bool) → codeOf (cond a (some tooLarge) (cond b (some overweight) (cond c (some outOfRange) (cond d (some repeated) none)))) ≡ codeFrom a b c d
 unfolding codeFrom
@@ -122,20 +122,20 @@ module _ (m n o : ℕ) (weights counts cells outputs : List ℕ) where
   -- the refusal's number
   pub code-means :
       codeOf (refusalOf (networkOf m n o weights counts cells outputs))
-      ≡ codeFrom (largeOf m n o counts) (anyb (λ w. ltb maxWeight w) (firsts m weights)) (strayOf m n o counts cells outputs) (repeatOf n o counts cells outputs)
-  unfolding networkOf strayOf repeatOf leavesOf
+      ≡ codeFrom (largeOf m n o counts) (anyb (λ w. ltb maxWeight w) (firsts m weights)) (outOfRangeOf m n o counts cells outputs) (repeatOf n o counts cells outputs)
+  unfolding networkOf outOfRangeOf repeatOf leavesOf
   code-means =
       let N = networkOf m n o weights counts cells outputs in
       let ic : length (firsts m weights) ≡ m = firsts-length m weights in
       code-first
       (large N)
       (anyb (λ w. ltb maxWeight w) (firsts m weights))
-      (anyb (strays (length (firsts m weights))) (N .leaves) || strays (length (firsts m weights)) (N .outputs))
+      (anyb (anyOutOfRange (length (firsts m weights))) (N .leaves) || anyOutOfRange (length (firsts m weights)) (N .outputs))
       (anyb repeats (N .leaves) || repeats (N .outputs))
       ∙ (λ j. codeFrom
       (large-layout j)
       (anyb (λ w. ltb maxWeight w) (firsts m weights))
-      (anyb (strays (ic j)) (N .leaves) || strays (ic j) (N .outputs))
+      (anyb (anyOutOfRange (ic j)) (N .leaves) || anyOutOfRange (ic j) (N .outputs))
       (anyb repeats (N .leaves) || repeats (N .outputs)))
 
 -- ---- what follows where none of them holds ----
@@ -202,7 +202,7 @@ module _ (m n o : ℕ) (weights counts cells outputs : List ℕ) (l : Lent weigh
   weighed e f = let (p, q, r, s) = small m n o counts (sym e ∙ f) in omega (arith, l .weightPlaces)
 
   -- the answers: the conditions that were tested, each with what its test said
-  answer : {a b c d : Bool} → a ≡ largeOf m n o counts → b ≡ anyb (λ w. ltb maxWeight w) (firsts m weights) → c ≡ strayOf m n o counts cells outputs → d ≡ repeatOf n o counts cells outputs
+  answer : {a b c d : Bool} → a ≡ largeOf m n o counts → b ≡ anyb (λ w. ltb maxWeight w) (firsts m weights) → c ≡ outOfRangeOf m n o counts cells outputs → d ≡ repeatOf n o counts cells outputs
       → codeFrom a b c d ≡ codeOf (refusalOf (networkOf m n o weights counts cells outputs))
   answer p q r s = (λ j. codeFrom (p j) (q j) (r j) (s j)) ∙ sym (code-means m n o weights counts cells outputs)
 
@@ -219,19 +219,19 @@ module _ (m n o : ℕ) (weights counts cells outputs : List ℕ) (l : Lent weigh
       unfolding codeFrom
       answer-heavy x = answer (sym few ∙ large) (sym x ∙ weights-are) refl refl
 
-      module _ {c : Bool} (light : b ≡ false) (stray : c ≡ strayOf m n o counts cells outputs) where
-        pub answer-stray : c ≡ true → 5 ≡ codeOf (refusalOf (networkOf m n o weights counts cells outputs))
+      module _ {c : Bool} (light : b ≡ false) (beyond : c ≡ outOfRangeOf m n o counts cells outputs) where
+        pub answer-beyond : c ≡ true → 5 ≡ codeOf (refusalOf (networkOf m n o weights counts cells outputs))
         unfolding codeFrom
-        answer-stray x = answer (sym few ∙ large) (sym light ∙ weights-are) (sym x ∙ stray) refl
+        answer-beyond x = answer (sym few ∙ large) (sym light ∙ weights-are) (sym x ∙ beyond) refl
 
-        module _ {d : Bool} (inside : c ≡ false) (twice : d ≡ repeatOf n o counts cells outputs) where
+        module _ {d : Bool} (inside : c ≡ false) (again : d ≡ repeatOf n o counts cells outputs) where
           pub answer-repeat : d ≡ true → 6 ≡ codeOf (refusalOf (networkOf m n o weights counts cells outputs))
           unfolding codeFrom
-          answer-repeat x = answer (sym few ∙ large) (sym light ∙ weights-are) (sym inside ∙ stray) (sym x ∙ twice)
+          answer-repeat x = answer (sym few ∙ large) (sym light ∙ weights-are) (sym inside ∙ beyond) (sym x ∙ again)
 
           pub answer-none : d ≡ false → 0 ≡ codeOf (refusalOf (networkOf m n o weights counts cells outputs))
           unfolding codeFrom
-          answer-none x = answer (sym few ∙ large) (sym light ∙ weights-are) (sym inside ∙ stray) (sym x ∙ twice)
+          answer-none x = answer (sym few ∙ large) (sym light ∙ weights-are) (sym inside ∙ beyond) (sym x ∙ again)
 
 -- the check answered 0
 pub accepted-facts : (m n o : ℕ) (weights counts cells outputs : List ℕ)

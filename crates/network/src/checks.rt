@@ -6,7 +6,7 @@ ghost use Rattle.spec.specs.Refusal.{codeOf};
 ghost use Rattle.spec.specs.Network.{refusalOf, maxLeaves, maxOutputs};
 ghost use Rattle.spec.specs.Layout.{networkOf};
 ghost use Rattle.network.specs.Checks.{Rows, Lent};
-ghost use Rattle.network.specs.Codes.{largeOf, strayOf, repeatOf};
+ghost use Rattle.network.specs.Codes.{largeOf, outOfRangeOf, repeatOf};
 use crate::Network;
 use crate::refusal;
 use crate::scan;
@@ -38,7 +38,7 @@ pub fn out_of_range<'a>(
     outputs: &'a [u16],
 ) -> bool
     requires { ⌜ Rows n (now counts) (now legs) × (o ≤ length (now outputs)) ⌝ }
-    ensures { λ r. ⌜ r ≡ strayOf m n o (now (counts .entry)) (now (legs .entry)) (now (outputs .entry)) ⌝ }
+    ensures { λ r. ⌜ r ≡ outOfRangeOf m n o (now (counts .entry)) (now (legs .entry)) (now (outputs .entry)) ⌝ }
 {
     if scan::leaves_out_of_range(n, counts, legs, m) {
         return true;

@@ -2,7 +2,7 @@
 ghost use mathlib.Core.Path.{_≡_};
 ghost use lib.Dec.{ltb};
 ghost use Rattle.spec.specs.Lists.{anyb};
-ghost use Rattle.spec.specs.Network.{repeats, strays};
+ghost use Rattle.spec.specs.Network.{repeats, anyOutOfRange};
 ghost use Rattle.spec.specs.Layout.{rowAt};
 ghost use Rattle.network.specs.Checks.{Row, Rows, leavesOf};
 use crate::Network;
@@ -21,7 +21,7 @@ pub fn above(bytes: &[u8], limit: u8) -> bool
 
 // Is an index not below the index count m.
 pub fn out_of_range(row: &[u16], m: usize) -> bool
-    ensures { λ r. ⌜ r ≡ strays m (now (row .entry)) ⌝ }
+    ensures { λ r. ⌜ r ≡ anyOutOfRange m (now (row .entry)) ⌝ }
 {
     for i in 0..row.len() {
         if m <= row[i] as usize {
@@ -65,7 +65,7 @@ pub fn leaf<'a>(counts: &'a [u8], legs: &'a [u16], i: usize) -> &'a [u16]
 // Does one of n leaves name an index that is not below m.
 pub fn leaves_out_of_range<'a>(n: usize, counts: &'a [u8], legs: &'a [u16], m: usize) -> bool
     requires { ⌜ Rows n (now counts) (now legs) ⌝ }
-    ensures { λ r. ⌜ r ≡ anyb (strays m) (leavesOf n (now (counts .entry)) (now (legs .entry))) ⌝ }
+    ensures { λ r. ⌜ r ≡ anyb (anyOutOfRange m) (leavesOf n (now (counts .entry)) (now (legs .entry))) ⌝ }
 {
     for i in 0..n {
         if out_of_range(leaf(counts, legs, i), m) {

@@ -1,21 +1,21 @@
--- What is claimed of the network file. Definitions only; proofs in FileReads, FileBytes, FileWrites, FileLists and FileDecisions of laws.
--- Assumes nothing.
+-- What is claimed of the network file. Definitions only; proofs in FileReads, FileBytes, FileWrites, FileLists, FileDecisions and FileSamples
+-- of laws. Assumes nothing.
 use mathlib.Core.Bool.{true, false, not, cond}
 use mathlib.Core.List.{List, [], _∷_, _++_, map}
 use mathlib.Core.Logic.{_↔_}
 use mathlib.Core.Option.{Option, none, some}
 use mathlib.Core.Path.{_≡_}
-use Prim.Native.Nat.{ℕ, suc, _+_, _*_, _%_, _≤_, _<_}
+use Prim.Native.Nat.{ℕ, suc, _+_, _-_, _*_, _%_, _≤_, _<_}
 use lib.Dec.{eqb}
 use lib.ListN.{length, getD, take, drop}
 use Rattle.spec.specs.Lists.{memb, from}
 use Rattle.spec.specs.Members.{All}
 use Rattle.spec.specs.Refusal.{Refusal, truncated, wrongTag, tooLarge, outOfRange, repeated, shortBuffer, numberOf, codeOf, Check, check, first, Result, refused, done}
-use Rattle.spec.specs.Network.{Network, leafCount, indexCount, repeats, strays, accepted}
+use Rattle.spec.specs.Network.{Network, leafCount, indexCount, maxLeaves, maxLegs, maxOutputs, repeats, anyOutOfRange, accepted}
 use Rattle.spec.specs.Tree.{valid, pairsOf}
 use Rattle.spec.specs.Calls.{treePlaces, treeCheck, flagsCheck, flagAt}
 use Rattle.spec.specs.CallClaims.{numbersOf}
-use Rattle.spec.specs.File.{Ask, plain, flagged, target, Contents, field, fileOf, allowed, mayEnd, Reading, weightsChecks, indexBytes, leafChecks, outputsChecks, takeField, readFields, nothingRead, readOf, treeWritten, flagsWritten, writeChecks, writeOf, bufferAfter}
+use Rattle.spec.specs.File.{Ask, plain, flagged, target, Contents, field, fileOf, allowed, mayEnd, Reading, weightsChecks, leafChecks, outputsChecks, takeField, readFields, nothingRead, readOf, treeWritten, flagsWritten, writeChecks, writeOf, bufferAfter}
 
 -- ---- the format, stated without a reader ----
 
@@ -109,6 +109,13 @@ abbrev pub ReadThenWritten : Type 0
 ReadThenWritten =
     (places flagPlaces : ℕ) (file : List ℕ) (c : Contents) → Bytes file → readOf places flagPlaces file ≡ done c → Rewritten file c
 
+-- what the writer writes is read back: the bytes from its cursor to where it ends, with lists that are long enough for every network
+abbrev pub WriterThenReader : Type 0
+WriterThenReader =
+    (places flagPlaces : ℕ) (c : Contents) (out : List ℕ) (cursor next : ℕ) → 254 ≤ places → 256 ≤ flagPlaces → TargetIsByte (c .ask)
+    → writeOf c (length out) cursor ≡ done next
+    → readOf places flagPlaces (take (next - cursor) (drop cursor (bufferAfter c cursor (writeOf c (length out) cursor) out))) ≡ done c
+
 -- a refusal leaves the buffer as it is
 abbrev pub BufferStays : Type 0
 BufferStays =
@@ -195,14 +202,21 @@ pub record PayloadNumbers (s : Reading) (l : List ℕ) : Type 0 where
 abbrev pub PayloadsInOrder : Type 0
 PayloadsInOrder = (s : Reading) (l : List ℕ) → PayloadNumbers s l
 
--- the first index that is out of range, or repeats one before it, decides, whatever follows
-pub record FirstWrong (m : ℕ) (good : List ℕ) (j : ℕ) (rest : List ℕ) : Type 0 where
-  pub range : m ≤ j → indexBytes m [] (good ++ (j ∷ rest)) ≡ some outOfRange
-  pub again : memb j good ≡ true → indexBytes m [] (good ++ (j ∷ rest)) ≡ some repeated
+-- In a payload of indices, a leaf's or the outputs', the first that is out of range, or repeats one before it, decides, whatever follows:
+-- the indices before it, `good`, are in range, and none of them repeats.
+pub record FirstWrong (s : Reading) (tag : ℕ) (good : List ℕ) (j : ℕ) (rest : List ℕ) : Type 0 where
+  pub range : indexCount (s .read .network) ≤ j → takeField s tag (good ++ (j ∷ rest)) ≡ refused outOfRange
+  pub again : memb j good ≡ true → takeField s tag (good ++ (j ∷ rest)) ≡ refused repeated
+
+-- for a leaf (02) and for the outputs (03), length and leaf count being within their limits
+pub record WrongIndices (s : Reading) (good : List ℕ) (j : ℕ) (rest : List ℕ) : Type 0 where
+  pub leaf : length (good ++ (j ∷ rest)) ≤ maxLegs → leafCount (s .read .network) < maxLeaves → FirstWrong s 2 good j rest
+  pub outputs : length (good ++ (j ∷ rest)) ≤ maxOutputs → FirstWrong s 3 good j rest
 
 abbrev pub LeftToRight : Type 0
 LeftToRight =
-    (m : ℕ) (good : List ℕ) (j : ℕ) (rest : List ℕ) → strays m good ≡ false → repeats good ≡ false → FirstWrong m good j rest
+    (s : Reading) (good : List ℕ) (j : ℕ) (rest : List ℕ) → anyOutOfRange (indexCount (s .read .network)) good ≡ false → repeats good ≡ false
+    → WrongIndices s good j rest
 
 -- "7, for lists the reader fills, at the file's end"
 abbrev pub ListsLast : Type 0

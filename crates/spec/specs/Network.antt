@@ -73,8 +73,8 @@ repeats [] = false
 repeats (j ∷ l) = memb j l || repeats l
 
 -- does a list name an index that is not below m
-abbrev pub strays : ℕ → List ℕ → Bool
-strays m l = anyb (λ j. leb m j) l
+abbrev pub anyOutOfRange : ℕ → List ℕ → Bool
+anyOutOfRange m l = anyb (λ j. leb m j) l
 
 -- The conditions on a network, in their order; `large` is a count of the call's own that is above its limit. A record is checked
 -- by number: all of 3, then all of 4, of 5, of 6.
@@ -86,7 +86,7 @@ networkChecks large N =
     || (ltb maxIndices (indexCount N) || (anyb (λ l. ltb maxLegs (length l)) (N .leaves) || ltb maxOutputs (length (N .outputs))))))
     tooLarge
     ∷ check (anyb (λ w. ltb maxWeight w) (N .weights)) overweight
-    ∷ check (anyb (strays (indexCount N)) (N .leaves) || strays (indexCount N) (N .outputs)) outOfRange
+    ∷ check (anyb (anyOutOfRange (indexCount N)) (N .leaves) || anyOutOfRange (indexCount N) (N .outputs)) outOfRange
     ∷ check (anyb repeats (N .leaves) || repeats (N .outputs)) repeated
     ∷ []
 

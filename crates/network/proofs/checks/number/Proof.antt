@@ -1,6 +1,6 @@
 -- Assumes nothing.
 use borrow.Author.Needs.{needs}
-use Rattle.network.specs.Codes.{rows, weighed, answer-large, answer-heavy, answer-stray, answer-repeat, answer-none}
+use Rattle.network.specs.Codes.{rows, weighed, answer-large, answer-heavy, answer-beyond, answer-repeat, answer-none}
 use lib.ListN.{length-take}
 use native.Mathlib.Omega.{arith}
 use Rattle.network.proofs.checks.number.Statement.{statement}
@@ -25,7 +25,7 @@ out-of-range-requires : tie.Need-out-of-range-requires
 out-of-range-requires c κs = rows _ _ _ _ _ _ _ (c .before .before .before .before .before .before .before .before .before .pre) (c .before .before .before .before .too-large .ensures) (c .before .before .before .if1 .left)
 
 returns-3 : tie.Need-returns-3
-returns-3 c = answer-stray _ _ _ _ _ _ _ (c .before .before .before .before .before .before .before .before .before .before .before .pre) (c .before .before .before .before .before .before .too-large .ensures) (c .before .before .before .before .before .if1 .left) (c .before .before .before .above .ensures) (c .before .before .if2 .left) (c .before .out-of-range .ensures) (c .if3 .taken)
+returns-3 c = answer-beyond _ _ _ _ _ _ _ (c .before .before .before .before .before .before .before .before .before .before .before .pre) (c .before .before .before .before .before .before .too-large .ensures) (c .before .before .before .before .before .if1 .left) (c .before .before .before .above .ensures) (c .before .before .if2 .left) (c .before .out-of-range .ensures) (c .if3 .taken)
 
 repeated-requires : tie.Need-repeated-requires
 repeated-requires c κs = rows _ _ _ _ _ _ _ (c .before .before .before .before .before .before .before .before .before .before .before .pre) (c .before .before .before .before .before .before .too-large .ensures) (c .before .before .before .before .before .if1 .left)

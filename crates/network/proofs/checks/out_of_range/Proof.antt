@@ -1,7 +1,7 @@
 -- Assumes nothing.
 use borrow.Author.Needs.{needs}
 use lib.ListN.{length-take}
-use Rattle.network.specs.Codes.{stray-leaf, stray-output}
+use Rattle.network.specs.Codes.{beyond-leaf, beyond-output}
 use native.Mathlib.Omega.{arith}
 use Rattle.network.proofs.checks.out_of_range.Statement.{statement}
 use Rattle.network.proofs.checks.out_of_range.Tie as tie
@@ -10,7 +10,7 @@ leaves-out-of-range-requires : tie.Need-leaves-out-of-range-requires
 leaves-out-of-range-requires c κs = search needs
 
 returns : tie.Need-returns
-returns c = stray-leaf _ _ _ _ _ _ (c .before .before .before .before .before .pre .1) (c .before .leaves-out-of-range .ensures) (c .if1 .taken)
+returns c = beyond-leaf _ _ _ _ _ _ (c .before .before .before .before .before .pre .1) (c .before .leaves-out-of-range .ensures) (c .if1 .taken)
 
 slice-aggregate-out-of-range : tie.Need-slice-aggregate-out-of-range
 slice-aggregate-out-of-range c = simp length-take (omega arith)
@@ -19,7 +19,7 @@ out-of-range-requires : tie.Need-out-of-range-requires
 out-of-range-requires c κs = search needs
 
 returns-2 : tie.Need-returns-2
-returns-2 c = stray-output _ _ _ _ _ _ (c .before .before .before .before .before .before .before .pre .1) (c .before .before .before .leaves-out-of-range .ensures) (c .before .before .if1 .left) (c .out-of-range .ensures)
+returns-2 c = beyond-output _ _ _ _ _ _ (c .before .before .before .before .before .before .before .pre .1) (c .before .before .before .leaves-out-of-range .ensures) (c .before .before .if1 .left) (c .out-of-range .ensures)
 
 pub out-of-range-spec : {M : Type 1} → statement M
 out-of-range-spec =

@@ -2,14 +2,14 @@
 use borrow.Author.Needs.{needs}
 use Rattle.network.specs.Checks.{leavesOf, row-of, leaves-next, leaves-found, leaves-end}
 use Rattle.network.specs.Searches.{NoneBefore, any-start}
-use Rattle.spec.specs.Network.{strays}
+use Rattle.spec.specs.Network.{anyOutOfRange}
 use native.Mathlib.Omega.{arith}
 use Prim.Native.Nat.{_-_}
 use Rattle.network.proofs.scan.leaves_out_of_range.Statement.{statement}
 use Rattle.network.proofs.scan.leaves_out_of_range.Tie as tie
 
 abbrev Inv-loop : tie.InvT-loop
-Inv-loop n counts legs m i₀ i = NoneBefore (strays m) (leavesOf n counts legs) i
+Inv-loop n counts legs m i₀ i = NoneBefore (anyOutOfRange m) (leavesOf n counts legs) i
 
 abbrev μ-loop : tie.MeasureT-loop
 μ-loop n counts legs m i₀ i = n - i
