@@ -13,15 +13,17 @@ use Rattle.slots.specs.Writes.{among}
 use Rattle.spec.specs.Lists.{memb}
 use Rattle.spec.specs.Network.{Network, leafCount, legs, InRange}
 use Rattle.spec.specs.Tree.{Pair, pairsOf, stepOrder, valid, root}
+use Rattle.spec.specs.Layout.{networkOf}
 use Rattle.spec.specs.Price.{listAt}
 use Rattle.laws.specs.Walks.{valid-tree}
 use Rattle.laws.specs.Arrays.{Inner, valid-inner}
 use Rattle.laws.specs.FlatLaws.{pairs-length}
+use Rattle.network.specs.Layouts.{layout-leaf-count}
 use Rattle.nodesets.specs.Passes.{leftOf, rightOf, nodes, withSets, leafHas, ups, downs, cuts}
 use Rattle.nodesets.specs.Sets.{withSets-length, withSets-past, held-withSets, withSets-is}
 use Rattle.nodesets.specs.Steps.{Steps, valid-steps, at-inner}
 use Rattle.nodesets.specs.Turns.{ups-length, cuts-length}
-use Rattle.nodesets.specs.Reads.{Reads, reads-count, reads-leaf, reads-output}
+use Rattle.nodesets.specs.Reads.{reads-leaf, reads-output}
 use Rattle.nodesets.specs.Flow.{wanted, wanted-root}
 use Rattle.nodesets.specs.Right.{Right, lists-right}
 
@@ -33,11 +35,11 @@ pub record Ordered (n : ℕ) (kids order : List ℕ) : Type 0 where
 pub ordered-steps : {n : ℕ} {kids order : List ℕ} → Ordered n kids order → Steps n kids order
 ordered-steps {n} {kids} {order} p = valid-steps n kids order (p .is-valid) (p .in-order)
 
--- slot v is the list of node v, for every node, and every other word is as it was
+-- slot v is the list of node v, for every node, and every other word is as it was; whatever the weights are
 abbrev pub SetsAre : (W n o : ℕ) (counts legs outputs kids sets₀ sets : List ℕ) → Type 0
 SetsAre W n o counts legs outputs kids sets₀ sets =
-    (N : Network) → Reads N n o counts legs outputs → InRange N
-    → sets ≡ withSets sets₀ W (λ v j. memb j (listAt N (pairsOf kids) v)) (nodes n kids)
+    (m : ℕ) (weights : List ℕ) → InRange (networkOf m n o weights counts legs outputs)
+    → sets ≡ withSets sets₀ W (λ v j. memb j (listAt (networkOf m n o weights counts legs outputs) (pairsOf kids) v)) (nodes n kids)
 
 -- ---- the passes change no word past the nodes' slots ----
 
@@ -83,8 +85,10 @@ pub record Sound (W n : ℕ) (kids order sets₀ outside₀ sets : List ℕ) : T
   pub room-outside : nodes n kids * W ≤ length outside₀
   pub words : Words sets
 
-module _ (N : Network) (W o : ℕ) (counts rows outputs kids order sets₀ outside₀ sets : List ℕ) (r : Reads N (leafCount N) o counts rows outputs)
-    (ir : InRange N) (q : Sound W (leafCount N) kids order sets₀ outside₀ sets)
+module _ (N : Network) (W o : ℕ) (counts rows outputs kids order sets₀ outside₀ sets : List ℕ) (ir : InRange N)
+    (leaf-is : (i j : ℕ) → i < leafCount N → leafHas counts rows i j ≡ memb j (legs N i))
+    (output-is : (j : ℕ) → among outputs 0 o j ≡ memb j (N .outputs))
+    (q : Sound W (leafCount N) kids order sets₀ outside₀ sets)
     (p : Passed W (leafCount N) o counts rows outputs kids order sets₀ outside₀ sets) where
   abbrev n : ℕ
   n = leafCount N
@@ -120,7 +124,7 @@ module _ (N : Network) (W o : ℕ) (counts rows outputs kids order sets₀ outsi
       ∙ withSets-past sets₀ W (leafHas counts rows) n i (omega (arith, mul-le-mul-right {m = n} {n = m} W (omega arith)))
 
   leaves-right : Right W (λ i j. memb j (legs N i)) (λ i. i < n) (p .leaves)
-  leaves-right i h j b = rw (p .leaves-are) (held-withSets sets₀ W (leafHas counts rows) n i j leaf-room h b ∙ reads-leaf r i j h)
+  leaves-right i h j b = rw (p .leaves-are) (held-withSets sets₀ W (leafHas counts rows) n i j leaf-room h b ∙ leaf-is i j h)
 
   -- with one leaf or more
   lists-held : 1 ≤ n → (s j : ℕ) → s < m → j < W * 64 → held sets W s j ≡ memb j (listAt N a s)
@@ -132,7 +136,7 @@ module _ (N : Network) (W o : ℕ) (counts rows outputs kids order sets₀ outsi
       let outs-right : Right W (wanted N a) (λ u. u ≡ m - 1) (p .outs) =
       λ u e j b. rw (e, p .outs-are)
       (held-with outside₀ W (m - 1) (among outputs 0 o) j (omega (arith, q .room-outside, next-slot (m - 1) m W (omega arith))) b
-      ∙ reads-output r j ∙ sym (wanted-root N a t w ok j) ∙ ap (λ (x : ℕ). wanted N a x j) et) in
+      ∙ output-is j ∙ sym (wanted-root N a t w ok j) ∙ ap (λ (x : ℕ). wanted N a x j) et) in
       let outs-length : length (p .outs) ≡ length outside₀ = ap length (p .outs-are) ∙ withSet-length outside₀ W (m - 1) (among outputs 0 o) in
       rw (p .sets-are, p .wants-are, p .joins-are)
       (lists-right N kids order steps inners W ir (p .leaves) (p .outs) (omega (arith, q .room, leaves-length)) (omega (arith, q .room-outside, outs-length))
@@ -147,10 +151,14 @@ module _ (N : Network) (W o : ℕ) (counts rows outputs kids order sets₀ outsi
 -- EACH NODE'S SLOT HOLDS ITS LIST
 pub passed : (W n o : ℕ) (counts legs outputs kids order sets₀ outside₀ sets : List ℕ) → Sound W n kids order sets₀ outside₀ sets
     → Passed W n o counts legs outputs kids order sets₀ outside₀ sets → SetsAre W n o counts legs outputs kids sets₀ sets
-passed W n o counts rows outputs kids order sets₀ outside₀ sets q p N r ir =
+passed W n o counts rows outputs kids order sets₀ outside₀ sets q p m weights ir =
+    let N = networkOf m n o weights counts rows outputs in
     subst
-    (λ (x : ℕ). Reads N x o counts rows outputs → Sound W x kids order sets₀ outside₀ sets → Passed W x o counts rows outputs kids order sets₀ outside₀ sets
+    (λ (x : ℕ). ((i j : ℕ) → i < x → leafHas counts rows i j ≡ memb j (legs N i))
+    → Sound W x kids order sets₀ outside₀ sets
+    → Passed W x o counts rows outputs kids order sets₀ outside₀ sets
     → sets ≡ withSets sets₀ W (λ v j. memb j (listAt N (pairsOf kids) v)) (nodes x kids))
-    (reads-count r)
-    (λ r q p. lists-are N W o counts rows outputs kids order sets₀ outside₀ sets r ir q p)
-    r q p
+    (layout-leaf-count m n o weights counts rows outputs)
+    (λ r q p. lists-are N W o counts rows outputs kids order sets₀ outside₀ sets ir r (reads-output m n o weights counts rows outputs) q p)
+    (reads-leaf m n o weights counts rows outputs)
+    q p
