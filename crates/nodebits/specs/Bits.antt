@@ -47,14 +47,18 @@ pub record StepKnown (W l r v : ℕ) (sets effective : List ℕ) : Type 0 where
   pub node-in : v * W + W ≤ length sets
 
 -- what is asked of a tree and of its nodes' sets
-pub record Known (W n : ℕ) (counts legs kids order sets effective : List ℕ) : Type 0 where
+pub record InnerKnown (W n : ℕ) (kids order sets effective : List ℕ) : Type 0 where
   pub narrow : W ≤ 16
   pub wide : W * 64 ≤ length effective
   pub light : Light effective
-  pub rows : Rows n counts legs
   pub steps : Steps n kids order
   pub room : nodes n kids * W ≤ length sets
-  -- a leaf's set weighs what its indices weigh
-  pub leaves : (i : ℕ) → i < n → sizeOf effective sets W i ≡ leafSize effective counts legs i
   -- a node's set is a part of its children's together
   pub nested : (v j : ℕ) → memb v order ≡ true → j < W * 64 → held sets W v j ≡ true → either sets W (leftOf kids n v) (rightOf kids n v) j ≡ true
+
+-- and of its leaves
+pub record Known (W n : ℕ) (counts legs kids order sets effective : List ℕ) : Type 0 where
+  pub inner : InnerKnown W n kids order sets effective
+  pub rows : Rows n counts legs
+  -- a leaf's set weighs what its indices weigh
+  pub leaves : (i : ℕ) → i < n → sizeOf effective sets W i ≡ leafSize effective counts legs i

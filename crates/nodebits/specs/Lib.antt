@@ -2,3 +2,4 @@
 pub mod Weights
 pub mod Bits
 pub mod Loops
+pub mod Stepped

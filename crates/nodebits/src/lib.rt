@@ -14,7 +14,8 @@ ghost use Rattle.slots.specs.Slots.{held};
 ghost use Rattle.slots.specs.Weigh.{openWeight, Light, weighed, either, wordWeight};
 ghost use Rattle.network.specs.Checks.{Rows};
 ghost use Rattle.nodesets.specs.Passes.{nodes};
-ghost use Rattle.nodebits.specs.Bits.{Zeros, Effective, StepKnown, Known, sizeOf, workOf, leafSize, nodeWork};
+ghost use Rattle.nodebits.specs.Bits.{Zeros, Effective, StepKnown, InnerKnown, Known, sizeOf, workOf, leafSize, nodeWork};
+ghost use Rattle.nodebits.specs.Stepped.{Stepped};
 
 // A number as wide as an index.
 fn wide8(x: u8) -> usize
@@ -151,4 +152,48 @@ fn step_bits(
         work: work as u16,
         size: (work - o.dropped) as u16,
     }
+}
+
+// In step order, writes each inner node's size bits and work bits. The leaves' size bits are there.
+fn inner_bits(
+    sizes: &mut [u16],
+    works: &mut [u16],
+    sets: &[u64],
+    w: usize,
+    n: usize,
+    kids: &[u16],
+    order: &[u16],
+    effective: &[u8],
+)
+    requires { ⌜ InnerKnown w n (now kids) (now order) (now sets) (now effective) × (nodes n (now kids) ≤ length (now sizes)) × (nodes n (now kids) ≤ length (now works)) × ((i : ℕ) → i < n → getD (now sizes) i 0 ≡ sizeOf (now effective) (now sets) w i) ⌝ }
+    ensures { λ _. ⌜ Stepped w n (now (kids .entry)) (now (order .entry)) (now (sets .entry)) (now (effective .entry)) (now (sizes .entry)) (now (works .entry)) (length (now (order .entry))) (now (sizes .exit)) (now (works .exit)) ⌝ }
+{
+    for k in 0..order.len() {
+        let v = wide16(order[k]);
+        let l = nodesets::left(kids, n, v);
+        let r = nodesets::right(kids, n, v);
+        let b = step_bits(sets, w, l, r, v, effective, sizes[l], sizes[r]);
+        sizes[v] = b.size;
+        works[v] = b.work;
+    }
+}
+
+// Writes each node's size bits and work bits; a leaf has no work.
+pub fn node_bits(
+    sizes: &mut [u16],
+    works: &mut [u16],
+    sets: &[u64],
+    w: usize,
+    n: usize,
+    counts: &[u8],
+    legs: &[u16],
+    kids: &[u16],
+    order: &[u16],
+    effective: &[u8],
+)
+    requires { ⌜ Known w n (now counts) (now legs) (now kids) (now order) (now sets) (now effective) × (nodes n (now kids) ≤ length (now sizes)) × (nodes n (now kids) ≤ length (now works)) ⌝ }
+    ensures { λ _. ⌜ (now (sizes .exit) ≡ over (now (sizes .entry)) (map (sizeOf (now (effective .entry)) (now (sets .entry)) w) (range (nodes n (now (kids .entry)))))) × (now (works .exit) ≡ over (now (works .entry)) (map (nodeWork (now (effective .entry)) (now (sets .entry)) (now (kids .entry)) w n) (range (nodes n (now (kids .entry)))))) ⌝ }
+{
+    leaf_bits(sizes, works, n, counts, legs, effective);
+    inner_bits(sizes, works, sets, w, n, kids, order, effective);
 }
