@@ -8,12 +8,12 @@ use Prim.Native.Nat.{ℕ, zero, suc, _+_, _-_, _*_, _/_, _≤_, _<_}
 use native.Mathlib.Omega.{arith}
 use native.Mathlib.Nat.{lt-of-not-le}
 use lib.ListN.{length, getD, take, drop}
-use Rattle.spec.specs.Lists.{memb}
+use Rattle.spec.specs.Lists.{memb, count}
 use Rattle.spec.specs.Tree.{Tree, number, numbers, inner, Pair, treeAt, root, valid, innerOf, ValidTree, pairsOf, stepOrder}
 use Rattle.laws.specs.Booleans.{clash}
 use Rattle.laws.specs.ListLaws.{count-not-memb}
 use Rattle.laws.specs.Walks.{valid-tree, valid-none, valid-inners}
-use Rattle.laws.specs.Arrays.{describes-shape}
+use Rattle.laws.specs.Arrays.{Shape, describes-shape}
 use Rattle.laws.specs.Ordering.{inner-above, inner-numbers, inner-count, inner-length}
 use Rattle.laws.specs.FlatLaws.{pairs-length}
 use Rattle.nodesets.specs.Passes.{leftOf, rightOf, nodes}
@@ -27,6 +27,7 @@ pub record Steps (n : ℕ) (kids order : List ℕ) : Type 0 where
   pub numbers : nodes n kids ≡ n + (n - 1)
   -- their numbers, and their children's
   pub inner : (v : ℕ) → memb v order ≡ true → (n ≤ v) × (v < nodes n kids)
+  pub once : (v : ℕ) → n ≤ v → v < nodes n kids → count v order ≡ 1
   pub all : (v : ℕ) → n ≤ v → v < nodes n kids → memb v order ≡ true
   pub children : (v : ℕ) → memb v order ≡ true → (leftOf kids n v < nodes n kids) × (rightOf kids n v < nodes n kids)
   -- children first
@@ -42,6 +43,7 @@ no-steps kids e =
       steps = refl;
       numbers = e;
       inner = λ v m. clash m refl;
+      once = λ v b c. absurd (omega arith);
       all = λ v b c. absurd (omega arith);
       children = λ v m. clash m refl;
       ready = λ k h. absurd (omega arith);
@@ -59,20 +61,20 @@ module _ (n : ℕ) (kids : List ℕ) (t : Tree) (d : ValidTree n (pairsOf kids) 
   top-is : number t ≡ nodes n kids - 1
   top-is = omega (arith, d .rooted, nodes-is)
 
+  shape : Shape n t
+  shape = describes-shape n (pairsOf kids) t (d .described)
+
+  once : (v : ℕ) → n ≤ v → v < nodes n kids → count v (inner t) ≡ 1
+  once v b c = inner-count n t shape v b ∙ d .met v (omega (arith, nodes-is))
+
   tree-steps : Steps n kids (inner t)
   tree-steps =
-      let shape = describes-shape n (pairsOf kids) t (d .described) in
       record {
         steps = omega (arith, inner-length t, valid-inners n (pairsOf kids) t d, d .inner);
         numbers = omega (arith, d .inner, nodes-is);
         inner = λ v m. (inner-above n t shape v m, below-nodes v (inner-numbers t v m));
-        all = λ v b c. eq-true-of-not-eq-false (λ e. omega (
-          arith,
-          nodes-is,
-          d .met v (omega (arith, nodes-is)),
-          inner-count n t shape v b,
-          count-not-memb v (inner t) e,
-        ));
+        once = once;
+        all = λ v b c. eq-true-of-not-eq-false (λ e. omega (arith, once v b c, count-not-memb v (inner t) e));
         children = λ v m. let c = children-in n kids t (d .described) v m in (below-nodes (leftOf kids n v) (c .0), below-nodes (rightOf kids n v) (c .1));
         ready = children-before n kids t (d .described);
         parent = λ k h. subst (λ (x : ℕ). Known n kids x (drop (suc k) (inner t)) (getD (inner t) k 0)) top-is (parent-after n kids t (d .described) k h);

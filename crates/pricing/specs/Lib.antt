@@ -1,0 +1,4 @@
+-- What pricing answers, its loops, and that they give the price list. Assumes nothing.
+pub mod Answers
+pub mod Sums
+pub mod Lines
