@@ -14,9 +14,6 @@ use Rattle.network.specs.Checks.{Rows}
 use Rattle.nodesets.specs.Passes.{leftOf, rightOf, nodes}
 use Rattle.nodesets.specs.Steps.{Steps}
 
-abbrev pub Zeros : List ℕ → Type 0
-Zeros l = (j : ℕ) → getD l j 0 ≡ 0
-
 -- a list has each index's weight, and 0 where the index is flagged
 abbrev pub Effective : (weights flags effective : List ℕ) → Type 0
 Effective weights flags effective = (j : ℕ) → getD effective j 0 ≡ openWeight weights flags j

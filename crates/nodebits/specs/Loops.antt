@@ -11,15 +11,15 @@ use lib.ListN.{length, getD, set, drop, length-set, List·getD-eq-default}
 use lib.Seq.{getD-set-same, getD-set-other, getD-drop}
 use Rattle.spec.specs.Lists.{range, keep, sumOf}
 use Rattle.spec.specs.Layout.{firsts}
-use Rattle.spec.specs.Memory.{over, copied}
+use Rattle.spec.specs.Memory.{filled, over, copied}
 use Rattle.laws.specs.ListLaws.{sum-append, range-length}
-use Rattle.cells.specs.Cells.{copied-at, copied-past, copied-next, copied-all}
+use Rattle.cells.specs.Cells.{filled-length, filled-all, copied-at, copied-past, copied-next, copied-all}
 use Rattle.bits.specs.Digits.{or-digits, and-digits, diff-digits, bitDiff}
 use Rattle.bits.specs.Lowest.{Tests}
 use Rattle.slots.specs.Slots.{held, held-digit}
 use Rattle.slots.specs.Weigh.{openWeight, Light, weighed, either, sum-bound, open-light}
 use Rattle.network.specs.Layouts.{firsts-none, firsts-more, firsts-at, firsts-length, map-range-at, map-range-length}
-use Rattle.nodebits.specs.Bits.{Zeros, Effective, StepKnown, sizeOf, workOf}
+use Rattle.nodebits.specs.Bits.{Effective, StepKnown, sizeOf, workOf}
 use Rattle.nodebits.specs.Weights.{weighed-either, weighed-part}
 
 -- ---- weights of flagged indices made 0 ----
@@ -61,17 +61,19 @@ clearing-end old flags now i m h e c j =
       | no q ↦ c .done j (omega arith)
     ]
 
--- the weights, copied and then cleared
-pub effective-is : (old weights flags new : List ℕ) (m : ℕ) → m ≤ length weights → m ≤ length old → Zeros old
-    → ((j : ℕ) → getD new j 0 ≡ openWeight (copied old weights m) flags j) → Effective (firsts m weights) flags new
-effective-is old weights flags new m h k z e j = e j ∙ ap (λ (x : ℕ). cond (not (eqb (getD flags j 0) 0)) 0 x) there
+-- a list made 0, with the weights copied to its front, and then cleared
+pub effective-is : (old zeros copy weights flags new : List ℕ) (m : ℕ) → m ≤ length weights → m ≤ length old → zeros ≡ filled (length old) 0
+    → copy ≡ copied zeros weights m → ((j : ℕ) → getD new j 0 ≡ openWeight copy flags j) → Effective (firsts m weights) flags new
+effective-is old zeros copy weights flags new m h k z f e j =
+    e j ∙ ap (λ (x : ℕ). cond (not (eqb (getD flags j 0) 0)) 0 x) (ap (λ (l : List ℕ). getD l j 0) f ∙ there)
   where
-    there : getD (copied old weights m) j 0 ≡ getD (firsts m weights) j 0
+    there : getD (copied zeros weights m) j 0 ≡ getD (firsts m weights) j 0
     there =
+        let l : length zeros ≡ length old = ap length z ∙ filled-length {A = ℕ} (length old) 0 in
         elim (decLe m j) [
-          | yes q ↦ copied-past old weights m j 0 (omega arith) ∙ z j
+          | yes q ↦ copied-past zeros weights m j 0 (omega arith) ∙ rw z (filled-all (length old) j 0)
               ∙ sym (List·getD-eq-default (firsts m weights) 0 (omega (arith, firsts-length m weights)))
-          | no q ↦ copied-at old weights m j 0 (omega arith) (omega arith) (omega arith) ∙ sym (firsts-at m weights j (omega arith))
+          | no q ↦ copied-at zeros weights m j 0 (omega arith) (omega arith) (omega arith) ∙ sym (firsts-at m weights j (omega arith))
         ]
 
 -- ---- a leaf's indices ----

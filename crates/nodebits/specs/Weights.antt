@@ -36,7 +36,7 @@ module _ (wt fl : List ℕ) where
 -- ---- unions and parts ----
 
 module _ (f : ℕ → ℕ) where
-  sum-cond : (b : Bool) (x : ℕ) (l : List ℕ) → sumOf f (cond b (x ∷ l) l) ≡ cond b (f x) 0 + sumOf f l
+  pub sum-cond : (b : Bool) (x : ℕ) (l : List ℕ) → sumOf f (cond b (x ∷ l) l) ≡ cond b (f x) 0 + sumOf f l
   sum-cond true x l = refl
   sum-cond false x l = omega arith
 

@@ -14,7 +14,7 @@ ghost use Rattle.slots.specs.Slots.{held};
 ghost use Rattle.slots.specs.Weigh.{openWeight, Light, weighed, either, wordWeight};
 ghost use Rattle.network.specs.Checks.{Rows};
 ghost use Rattle.nodesets.specs.Passes.{nodes};
-ghost use Rattle.nodebits.specs.Bits.{Zeros, Effective, StepKnown, InnerKnown, Known, sizeOf, workOf, leafSize, nodeWork};
+ghost use Rattle.nodebits.specs.Bits.{Effective, StepKnown, InnerKnown, Known, sizeOf, workOf, leafSize, nodeWork};
 ghost use Rattle.nodebits.specs.Stepped.{Stepped};
 
 // A number as wide as an index.
@@ -46,11 +46,12 @@ fn clear_flagged(effective: &mut [u8], flags: &[u8])
     }
 }
 
-// Writes the weights of `m` indices to `effective`, those of flagged indices as 0.
+// Writes the weights of `m` indices to `effective`, those of flagged indices as 0, and 0 after them.
 pub fn effective_weights(effective: &mut [u8], m: usize, weights: &[u8], flags: &[u8])
-    requires { ⌜ (m ≤ length (now weights)) × (m ≤ length (now effective)) × Zeros (now effective) ⌝ }
+    requires { ⌜ (m ≤ length (now weights)) × (m ≤ length (now effective)) ⌝ }
     ensures { λ _. ⌜ Effective (firsts m (now (weights .entry))) (now (flags .entry)) (now (effective .exit)) ⌝ }
 {
+    cells::fill8(effective, 0);
     cells::copy8(effective, weights, m);
     clear_flagged(effective, flags);
 }

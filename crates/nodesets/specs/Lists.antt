@@ -35,6 +35,11 @@ pub record Ordered (n : ℕ) (kids order : List ℕ) : Type 0 where
 pub ordered-steps : {n : ℕ} {kids order : List ℕ} → Ordered n kids order → Steps n kids order
 ordered-steps {n} {kids} {order} p = valid-steps n kids order (p .is-valid) (p .in-order)
 
+pub ordered-inners : {n : ℕ} {kids order : List ℕ} → Ordered n kids order → (v : ℕ) → n ≤ v → v < nodes n kids → Inner n (pairsOf kids) v
+ordered-inners {n} {kids} {order} p v b h =
+    let (t, w, ok) = valid-tree n (pairsOf kids) (omega (arith, ordered-steps p .numbers)) (p .is-valid) in
+    valid-inner n (pairsOf kids) t ok v b (omega (arith, pairs-length kids))
+
 -- slot v is the list of node v, for every node, and every other word is as it was; whatever the weights are
 abbrev pub SetsAre : (W n o : ℕ) (counts legs outputs kids sets₀ sets : List ℕ) → Type 0
 SetsAre W n o counts legs outputs kids sets₀ sets =
@@ -131,7 +136,6 @@ module _ (N : Network) (W o : ℕ) (counts rows outputs kids order sets₀ outsi
   lists-held one s j h b =
       let (t, w, ok) = valid-tree n a one (q .ordered .is-valid) in
       let em : n + length a ≡ m = omega (arith, pairs-length kids) in
-      let inners : (v : ℕ) → n ≤ v → v < m → Inner n a v = λ v x y. valid-inner n a t ok v x (omega arith) in
       let et : root n a ≡ m - 1 = omega arith in
       let outs-right : Right W (wanted N a) (λ u. u ≡ m - 1) (p .outs) =
       λ u e j b. rw (e, p .outs-are)
@@ -139,7 +143,7 @@ module _ (N : Network) (W o : ℕ) (counts rows outputs kids order sets₀ outsi
       ∙ output-is j ∙ sym (wanted-root N a t w ok j) ∙ ap (λ (x : ℕ). wanted N a x j) et) in
       let outs-length : length (p .outs) ≡ length outside₀ = ap length (p .outs-are) ∙ withSet-length outside₀ W (m - 1) (among outputs 0 o) in
       rw (p .sets-are, p .wants-are, p .joins-are)
-      (lists-right N kids order steps inners W ir (p .leaves) (p .outs) (omega (arith, q .room, leaves-length)) (omega (arith, q .room-outside, outs-length))
+      (lists-right N kids order steps (ordered-inners (q .ordered)) W ir (p .leaves) (p .outs) (omega (arith, q .room, leaves-length)) (omega (arith, q .room-outside, outs-length))
       leaves-right outs-right s h j b)
 
   pub lists-are : sets ≡ withSets sets₀ W (λ v j. memb j (listAt N a v)) m

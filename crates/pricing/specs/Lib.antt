@@ -2,3 +2,8 @@
 pub mod Answers
 pub mod Sums
 pub mod Lines
+pub mod Nodes
+pub mod Tables
+pub mod Priced
+pub mod Whole
+pub mod Final

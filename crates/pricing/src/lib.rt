@@ -7,7 +7,9 @@ ghost use Prim.Native.Nat.{_+_, _-_, _*_, _<_, _≤_, max};
 ghost use lib.ListN.{length, getD, set};
 ghost use lib.Seq.{sets};
 ghost use Rattle.spec.specs.Lists.{from, range, sumOf};
-ghost use Rattle.spec.specs.Layout.{firsts};
+ghost use Rattle.spec.specs.Layout.{firsts, networkOf};
+ghost use Rattle.spec.specs.Tree.{pairsOf};
+ghost use Rattle.spec.specs.Calls.{flagAt};
 ghost use Rattle.spec.specs.Memory.{over};
 ghost use Rattle.spec.specs.Price.{upTo, largest};
 ghost use Rattle.slots.specs.Weigh.{Light};
@@ -16,6 +18,7 @@ ghost use Rattle.nodesets.specs.Steps.{Steps};
 ghost use Rattle.pricing.specs.Answers.{totalOf, widestOf, widestIn};
 ghost use Rattle.pricing.specs.Sums.{workSum, sliceShare};
 ghost use Rattle.pricing.specs.Lines.{lines};
+ghost use Rattle.pricing.specs.Priced.{Priceable, Room, Priced};
 
 // The sum of 2 to the work bits, or beyond from 2^53 on.
 pub enum Total {
@@ -152,5 +155,54 @@ fn list_steps(
             works[v],
             sizes[v],
         );
+    }
+}
+
+// Prices the tree `kids` of an accepted network, in step order: fills the price list's lists from their fronts on; `outside` is worked in.
+pub fn price(
+    outside: &mut [u64],
+    sets: &mut [u64],
+    sizes: &mut [u16],
+    works: &mut [u16],
+    steps: &mut [u16],
+    w: usize,
+    m: usize,
+    n: usize,
+    o: usize,
+    weights: &[u8],
+    counts: &[u8],
+    legs: &[u16],
+    outputs: &[u16],
+    flags: &[u8],
+    kids: &[u16],
+    order: &[u16],
+) -> Prices
+    requires { ⌜ Priceable w m n o (now weights) (now counts) (now legs) (now outputs) (now kids) (now order) × Room w n (now kids) (now order) (length (now outside)) (length (now sets)) (length (now sizes)) (length (now works)) (length (now steps)) ⌝ }
+    ensures { λ r. ⌜ Priced w (networkOf m n o (now (weights .entry)) (now (counts .entry)) (now (legs .entry)) (now (outputs .entry))) (flagAt (now (flags .entry))) (pairsOf (now (kids .entry))) (now (sets .entry)) (now (sizes .entry)) (now (works .entry)) (now (steps .entry)) (now (sets .exit)) (now (sizes .exit)) (now (works .exit)) (now (steps .exit)) r ⌝ }
+{
+    let mut effective = [0u8; 1024];
+    nodebits::effective_weights(&mut effective, m, weights, flags);
+    nodesets::node_sets(sets, outside, w, n, o, counts, legs, outputs, kids, order);
+    nodebits::node_bits(
+        sizes,
+        works,
+        sets,
+        w,
+        n,
+        counts,
+        legs,
+        kids,
+        order,
+        &effective,
+    );
+    list_steps(steps, n, kids, order, works, sizes);
+    let c = order.len();
+    let total = total_of(works, n, c);
+    let widest = widest_of(sizes, n + c);
+    let bits = slice_bits(m, weights, flags);
+    Prices {
+        total,
+        widest,
+        slice_bits: bits,
     }
 }
