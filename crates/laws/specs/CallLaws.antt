@@ -6,6 +6,7 @@ pub checks-by-number : ChecksByNumber
 checks-by-number N =
     record {
       valid = λ words kids. refl;
+      order = λ words places kids. refl;
       same = λ words kids others. refl;
       price = λ words room flags kids. refl;
       greedy = λ words places. refl;

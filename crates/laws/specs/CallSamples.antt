@@ -9,11 +9,11 @@ use Rattle.spec.specs.Lists.{from, range}
 use Rattle.spec.specs.Memory.{filled, over, cleared}
 use Rattle.spec.specs.Refusal.{Refusal, tooLarge, overweight, shortBuffer, invalidTree, invalidFlags, numberOf, word, first, Result, refused, done}
 use Rattle.spec.specs.Network.{Network, named, refusalOf}
-use Rattle.spec.specs.Tree.{valid, treeAt, pairsOf, flatOf, samePlan}
+use Rattle.spec.specs.Tree.{valid, treeAt, pairsOf, flatOf, samePlan, stepOrder}
 use Rattle.spec.specs.Price.{kept, listing, flatSteps, exact}
 use Rattle.spec.specs.Greedy.{greedyFrom, greedy}
 use Rattle.spec.specs.Slicing.{slice}
-use Rattle.spec.specs.Calls.{lent, lengthCheck, treeCheck, flagsCheck, improveWords, PriceRoom, validCall, sameCall, priceCall, greedyCall, improveCall, sliceCall, workspaceAfter, greedyTree, pricedSteps, pricedSizes, pricedWorks}
+use Rattle.spec.specs.Calls.{lent, lengthCheck, treeCheck, flagsCheck, improveWords, PriceRoom, validCall, orderCall, sameCall, priceCall, greedyCall, improveCall, sliceCall, workspaceAfter, orderedSteps, greedyTree, pricedSteps, pricedSizes, pricedWorks}
 use Rattle.spec.specs.Draws.{unitOf}
 use Rattle.laws.specs.Accepted.{byNumber}
 use Rattle.laws.specs.Samples.{network, sample}
@@ -130,6 +130,19 @@ plain-calls : (
     ≡ 7 ∷ 0 ∷ 7 ∷ 8 ∷ 7 ∷ 7 ∷ 0 ∷ []
 unfolding validCall sameCall greedyCall valid treeAt pairsOf samePlan greedy greedyFrom kept named
 plain-calls = refl
+
+order-calls : (
+    ofResult (orderCall sample 4095 2 kids)
+    ∷ ofResult (orderCall sample 4096 1 kids)
+    ∷ ofResult (orderCall sample 4096 2 (0 ∷ 1 ∷ []))
+    ∷ [])
+    ≡ 7 ∷ 7 ∷ 8 ∷ []
+unfolding orderCall valid treeAt pairsOf stepOrder
+order-calls = refl
+
+steps-written : orderedSteps (orderCall sample 4096 3 kids) (9 ∷ 9 ∷ 9 ∷ []) ≡ 3 ∷ 4 ∷ 9 ∷ []
+unfolding orderCall valid treeAt pairsOf stepOrder over
+steps-written = refl
 
 price-calls : map (λ r. ofResult (priceCall sample 4096 r [] kids)) (
     room 20 5 5 10 ∷ room 19 5 5 10 ∷ room 20 4 5 10 ∷ room 20 5 4 10 ∷ room 20 5 5 9 ∷ [])

@@ -6,7 +6,7 @@ use Prim.Native.Nat.{ℕ}
 use Rattle.spec.specs.Lists.{from}
 use Rattle.spec.specs.Refusal.{numberOf, Check}
 use Rattle.spec.specs.Network.{Network}
-use Rattle.spec.specs.Calls.{PriceRoom, validChecks, sameChecks, priceChecks, greedyChecks, improveChecks, sliceChecks}
+use Rattle.spec.specs.Calls.{PriceRoom, validChecks, orderChecks, sameChecks, priceChecks, greedyChecks, improveChecks, sliceChecks}
 
 -- the numbers of some checks
 abbrev pub numbersOf : List Check → List ℕ
@@ -15,6 +15,7 @@ numbersOf cs = map (λ c. numberOf (c .gives)) cs
 -- which refusals a call checks, in which order, whatever it is handed
 pub record ByNumber (N : Network) : Type 0 where
   pub valid : (words : ℕ) (kids : List ℕ) → numbersOf (validChecks N words kids) ≡ from 3 6
+  pub order : (words places : ℕ) (kids : List ℕ) → numbersOf (orderChecks N words places kids) ≡ from 3 6
   pub same : (words : ℕ) (kids others : List ℕ) → numbersOf (sameChecks N words kids others) ≡ 3 ∷ 4 ∷ 5 ∷ 6 ∷ 7 ∷ 8 ∷ 8 ∷ []
   pub price : (words : ℕ) (room : PriceRoom) (flags kids : List ℕ) → numbersOf (priceChecks N words room flags kids) ≡ from 3 7
   pub greedy : (words places : ℕ) → numbersOf (greedyChecks N words places) ≡ from 3 5

@@ -10,7 +10,7 @@ use Rattle.spec.specs.Lists.{memb, range, anyb, keep}
 use Rattle.spec.specs.Memory.{over, cleared}
 use Rattle.spec.specs.Refusal.{Refusal, shortBuffer, invalidTree, invalidFlags, totalBeyond, danglingIndex, numberOf, Check, check, Result, refused, done, checked}
 use Rattle.spec.specs.Network.{Network, leafCount, indexCount, legs, networkChecks}
-use Rattle.spec.specs.Tree.{Pair, valid, pairsOf, flatOf, samePlan}
+use Rattle.spec.specs.Tree.{Pair, valid, pairsOf, flatOf, stepOrder, samePlan}
 use Rattle.spec.specs.Price.{listing, flatSteps, sizeAt, workAt, Total, exact, beyond, total, Prices, priceOf}
 use Rattle.spec.specs.Greedy.{greedy}
 use Rattle.spec.specs.Improve.{clamped, Improved, improve}
@@ -124,6 +124,14 @@ module _ (N : Network) where
   unfoldable pub validCall : ℕ → List ℕ → Result (Unit {0})
   validCall words kids = checked (validChecks words kids) (done tt)
 
+  -- the step order, to a list of one place a step
+  abbrev pub orderChecks : ℕ → ℕ → List ℕ → List Check
+  orderChecks words places kids =
+      networkChecks false N ++ (lengthCheck (lent words plainWords ∷ lent places (stepPlaces N) ∷ []) ∷ treeCheck N kids ∷ [])
+
+  unfoldable pub orderCall : ℕ → ℕ → List ℕ → Result (List ℕ)
+  orderCall words places kids = checked (orderChecks words places kids) (done (stepOrder kids (leafCount N)))
+
   -- sameness of two trees
   abbrev pub sameChecks : ℕ → List ℕ → List ℕ → List Check
   sameChecks words kids others = networkChecks false N ++ (lengthCheck (lent words plainWords ∷ []) ∷ treeCheck N kids ∷ treeCheck N others ∷ [])
@@ -199,7 +207,11 @@ abbrev pub listAfter : {A B : Type 0} → Result A → (A → List B) → List B
 listAfter (refused r) written l = l
 listAfter (done x) written l = over l (written x)
 
--- the lists that each call writes: greedy's tree; improvement's; slicing's and its flags; pricing's listing, size bits and work bits by node
+-- the lists that each call writes: the step order; greedy's tree; improvement's; slicing's and its flags; pricing's listing, size bits
+-- and work bits by node
+abbrev pub orderedSteps : Result (List ℕ) → List ℕ → List ℕ
+orderedSteps r l = listAfter r (λ steps. steps) l
+
 abbrev pub greedyTree : Result (List Pair) → List ℕ → List ℕ
 greedyTree r l = listAfter r flatOf l
 

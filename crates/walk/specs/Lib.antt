@@ -4,3 +4,4 @@ pub mod Marks
 pub mod Check
 pub mod Wrong
 pub mod Order
+pub mod Entry

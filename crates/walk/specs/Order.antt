@@ -2,7 +2,7 @@
 use mathlib.Core.Path.{_≡_, refl, sym, _∙_, ap, ap₂, subst}
 use mathlib.Core.Bool.{true, false, not}
 use mathlib.Core.List.{List, [], _∷_, _++_, append-assoc, append-nil}
-use mathlib.Core.Option.{some}
+use mathlib.Core.Option.{Option, some}
 use Prim.Native.Nat.{ℕ, zero, suc, _+_, _-_, _*_, _≤_, _<_}
 use native.Mathlib.Omega.{arith}
 use native.Mathlib.Decide.{decLe}
@@ -39,7 +39,7 @@ inner-length (node v l r) =
     omega (arith, length-append (inner l) (inner r ++ (v ∷ [])), length-append (inner r) (v ∷ []), inner-length l, inner-length r)
 
 -- no number is above the root's
-abbrev Low : ℕ → Tree → Type 0
+abbrev pub Low : ℕ → Tree → Type 0
 Low top t = (k : ℕ) → memb k (numbers t) ≡ true → k ≤ top
 
 abbrev Lows : ℕ → List Tree → Type 0
@@ -212,12 +212,28 @@ module _ (kids : List ℕ) (n : ℕ) (two : 2 ≤ n) (right : wrongTree n kids �
               (sym (ap (λ (z : Tree). pending (z ∷ ts) ++ g .written) e) ∙ w) (sym (ap (λ (z : Tree). length (pending (z ∷ ts))) e) ∙ q)
 
 -- at most one leaf: nothing to write
-pub few-order : (kids : List ℕ) (n : ℕ) (out : List ℕ) → n < 2 → wrongTree n kids ≡ false → out ≡ over out (stepOrder kids n)
-few-order kids n out h e =
+few-none : (kids : List ℕ) (n : ℕ) → n < 2 → wrongTree n kids ≡ false → stepOrder kids n ≡ []
+few-none kids n h e =
     let z : kids ≡ [] = no-length kids (eqb-true (length kids) 0 (few n kids h ∙ ap not e)) in
-    sym (ap (over out) (ap (λ (l : List ℕ). stepOrder l n) z ∙ none n h) ∙ over-none out)
+    ap (λ (l : List ℕ). stepOrder l n) z ∙ none n h
   where
     none : (n : ℕ) → n < 2 → stepOrder [] n ≡ []
     none zero h = order-none
     none (suc zero) h = order-one
     none (suc (suc n)) h = absurd (omega arith)
+
+pub few-order : (kids : List ℕ) (n : ℕ) (out : List ℕ) → n < 2 → wrongTree n kids ≡ false → out ≡ over out (stepOrder kids n)
+few-order kids n out h e = sym (ap (over out) (few-none kids n h e) ∙ over-none out)
+
+-- as many steps as internal nodes
+pub order-length : (kids : List ℕ) (n : ℕ) → wrongTree n kids ≡ false → length (stepOrder kids n) ≡ n - 1
+unfolding stepOrder
+order-length kids n e =
+    elim (decLe 2 n) [
+      | yes h ↦
+          let (t, w, ok) = valid-tree n (pairsOf kids) (omega arith) (not-wrong n kids e) in
+          ap (λ (o : Option Tree). length (innerOf o)) w ∙ inner-length t ∙ valid-inners n (pairsOf kids) t ok ∙ omega (arith, ok .inner)
+      | no h ↦
+          let z : stepOrder kids n ≡ [] = few-none kids n (omega arith) e in
+          ap length z ∙ omega arith
+    ]

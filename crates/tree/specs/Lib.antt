@@ -1,0 +1,2 @@
+-- The entries on trees.
+pub mod Answers
