@@ -28,7 +28,7 @@ use Rattle.pricing.specs.Answers.{totalOf, widestOf, widestIn, pricesOf}
 use Rattle.pricing.specs.Sums.{workSum, sliceShare}
 use Rattle.pricing.specs.Lines.{lines}
 use Rattle.pricing.specs.Tables.{sum-same-from, slice-sum}
-use Rattle.pricing.specs.Priced.{Priceable, Room, ListingSound, PriceList, Priced}
+use Rattle.pricing.specs.Promise.{Priceable, Room, ListingSound, PriceList, Pricing}
 use Rattle.pricing.specs.Whole.{NodesRight, nodes-right, sizes-are, works-are, steps-are, total-is, widest-is}
 
 module _ {W m n o : ℕ} {weights counts rows outputs kids order : List ℕ} (p : Priceable W m n o weights counts rows outputs kids order) where

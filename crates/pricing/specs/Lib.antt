@@ -4,6 +4,6 @@ pub mod Sums
 pub mod Lines
 pub mod Nodes
 pub mod Tables
-pub mod Priced
+pub mod Promise
 pub mod Whole
 pub mod Final

@@ -18,7 +18,7 @@ ghost use Rattle.nodesets.specs.Steps.{Steps};
 ghost use Rattle.pricing.specs.Answers.{totalOf, widestOf, widestIn};
 ghost use Rattle.pricing.specs.Sums.{workSum, sliceShare};
 ghost use Rattle.pricing.specs.Lines.{lines};
-ghost use Rattle.pricing.specs.Priced.{Priceable, Room, Priced};
+ghost use Rattle.pricing.specs.Promise.{Priceable, Room, Pricing};
 
 // The sum of 2 to the work bits, or beyond from 2^53 on.
 pub enum Total {
@@ -178,7 +178,7 @@ pub fn price(
     order: &[u16],
 ) -> Prices
     requires { ⌜ Priceable w m n o (now weights) (now counts) (now legs) (now outputs) (now kids) (now order) × Room w n (now kids) (now order) (length (now outside)) (length (now sets)) (length (now sizes)) (length (now works)) (length (now steps)) ⌝ }
-    ensures { λ r. ⌜ Priced w (networkOf m n o (now (weights .entry)) (now (counts .entry)) (now (legs .entry)) (now (outputs .entry))) (flagAt (now (flags .entry))) (pairsOf (now (kids .entry))) (now (sets .entry)) (now (sizes .entry)) (now (works .entry)) (now (steps .entry)) (now (sets .exit)) (now (sizes .exit)) (now (works .exit)) (now (steps .exit)) r ⌝ }
+    ensures { λ r. ⌜ Pricing w (networkOf m n o (now (weights .entry)) (now (counts .entry)) (now (legs .entry)) (now (outputs .entry))) (flagAt (now (flags .entry))) (pairsOf (now (kids .entry))) (now (sets .entry)) (now (sizes .entry)) (now (works .entry)) (now (steps .entry)) (now (sets .exit)) (now (sizes .exit)) (now (works .exit)) (now (steps .exit)) r ⌝ }
 {
     let mut effective = [0u8; 1024];
     nodebits::effective_weights(&mut effective, m, weights, flags);

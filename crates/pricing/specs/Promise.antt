@@ -55,7 +55,7 @@ pub record PriceList (W : ℕ) (N : Network) (flag : ℕ → Bool) (a : List Pai
   pub works-are : works ≡ over works₀ (map (workAt N flag a) (range (nodePlaces N)))
   pub steps-are : steps ≡ over steps₀ (flatSteps (listing N flag a))
 
-pub record Priced (W : ℕ) (N : Network) (flag : ℕ → Bool) (a : List Pair) (sets₀ sizes₀ works₀ steps₀ sets sizes works steps : List ℕ) (r : Prices) : Type 0 where
+pub record Pricing (W : ℕ) (N : Network) (flag : ℕ → Bool) (a : List Pair) (sets₀ sizes₀ works₀ steps₀ sets sizes works steps : List ℕ) (r : Prices) : Type 0 where
   pub list : PriceList W N flag a sets₀ sizes₀ works₀ steps₀ sets sizes works steps
   pub answer : r ≡ pricesOf (priceOf N flag a)
   pub sound : ListingSound N flag a
