@@ -10,29 +10,30 @@ use lib.ListN.{length, take, drop}
 use lib.Seq.{take-at}
 use borrow.Author.Tests.{lt-ltb, le-ltb, ltb-false}
 use Rattle.spec.specs.Lists.{memb, range, anyb}
-use Rattle.spec.specs.Memory.{over}
+use Rattle.spec.specs.Memory.{over, cleared}
 use Rattle.spec.specs.Layout.{networkOf}
-use Rattle.spec.specs.Refusal.{Refusal, invalidTree, invalidFlags, numberOf, codeOf, Check, Result, refused, done}
+use Rattle.spec.specs.Refusal.{Refusal, invalidTree, invalidFlags, numberOf, codeOf, Check, check, Result, refused, done, checked}
 use Rattle.spec.specs.Network.{Network, leafCount, indexCount, refusalOf}
 use Rattle.spec.specs.Tree.{pairsOf, stepOrder}
 use Rattle.spec.specs.Price as price
 use Rattle.spec.specs.Price.{priceOf}
 use Rattle.spec.specs.Calls as calls
-use Rattle.spec.specs.Calls.{lent, plainWords, setWords, stepNumbers, wrongTree, treeCheck, flagsCheck, flagAt, nodePlaces, stepPlaces, PriceRoom, lengthCheck, priceCall}
-use Rattle.laws.specs.Booleans.{or-none}
+use Rattle.spec.specs.Calls.{lent, plainWords, setWords, stepNumbers, wrongTree, treeCheck, flagsCheck, flagAt, nodePlaces, stepPlaces, PriceRoom, lengthCheck, priceCall, workspaceAfter}
+use Rattle.laws.specs.Booleans.{clash, or-none}
 use Rattle.laws.specs.Results.{not-done}
 use Rattle.cells.specs.Cells.{over-fits}
 use Rattle.network.specs.Layouts.{layout-leaf-count, layout-index-count}
 use Rattle.network.specs.Checks.{Lent, Rows}
 use Rattle.network.specs.Codes.{Facts}
-use Rattle.nodesets.specs.Lists.{Ordered}
+use Rattle.nodesets.specs.Lists.{Ordered, ordered-steps}
 use Rattle.walk.specs.Wrong.{not-wrong}
-use Rattle.walk.specs.Entry.{Untouched, by-network, past-network, by-length, past-length, holds-first, passes-first}
+use Rattle.walk.specs.Entry.{Untouched, by-network, past-network, by-length, past-length, holds-first, passes-first, same-words as same-workspace}
 use Rattle.pricing.specs.Answers.{pricesOf}
 use Rattle.pricing.specs.Promise.{Priceable, Room, ListingSound, PriceList, Pricing}
 use Rattle.pricing.specs.declared.Prices.{Prices}
+use Rattle.cost.specs.declared.Priced.{Priced}
 use Rattle.cost.specs.declared.Priced.the-variants.{Refused, Done}
-use Rattle.cost.specs.Answers.{answerOf, room, pricedSets, Answered, tooShort, wrongFlags, restCall}
+use Rattle.cost.specs.Answers.{room, Answered, TreeCost, tooShort, wrongFlags, restCall}
 
 -- the lent lists have the stated lengths
 pub record LongEnough (n words sets sizes works steps : ℕ) : Type 0 where
@@ -41,6 +42,17 @@ pub record LongEnough (n words sets sizes works steps : ℕ) : Type 0 where
   pub for-sizes : n + (n - 1) ≤ sizes
   pub for-works : n + (n - 1) ≤ works
   pub for-steps : (n - 1) * 5 ≤ steps
+
+pub same-words : {n words words′ sets sizes works steps : ℕ} → words′ ≡ words → LongEnough n words sets sizes works steps
+    → LongEnough n words′ sets sizes works steps
+same-words e l =
+    record {
+      for-words = omega (arith, e, l .for-words);
+      for-sets = l .for-sets;
+      for-sizes = l .for-sizes;
+      for-works = l .for-works;
+      for-steps = l .for-steps;
+    }
 
 -- ---- 7 and 9 ----
 
@@ -148,6 +160,15 @@ module _ (N : Network) (flags kids : List ℕ) where
           past-network N (lengthCheck lents ∷ rest) (done (priceOf N (flagAt flags) (pairsOf kids))) ok
           ∙ past-length lents rest (done (priceOf N (flagAt flags) (pairsOf kids))) (rw q h)
 
+-- the tree check's answer
+pub tree-wrong : (b w : Bool) → b ≡ not w → not b ≡ true → w ≡ true
+tree-wrong b true e f = refl
+tree-wrong b false e f = clash f (ap not e)
+
+pub tree-right : (b w : Bool) → b ≡ not w → not b ≡ false → w ≡ false
+tree-right b true e f = clash (ap not e) f
+tree-right b false e f = refl
+
 -- ---- what an answer leaves ----
 
 module _ (N : Network) (flags kids sets₀ sizes₀ works₀ steps₀ : List ℕ) (c : Result price.Prices) where
@@ -196,3 +217,60 @@ priceable {m} {n} {o} {weights} {counts} {rows} {outputs} {kids} {order} l f rig
       accepted = f .accepted;
       ordered = record { is-valid = not-wrong n kids right; in-order = e };
     }
+
+pub enough : {n words sets sizes works steps words′ : ℕ} {kids order : List ℕ} → n ≤ 128 → LongEnough n words sets sizes works steps → words′ ≡ words
+    → Ordered n kids order → Room 4 n kids order words′ sets sizes works steps
+enough few l e o =
+    let s = ordered-steps o in
+    record {
+      for-outside = omega (arith, few, e, l .for-words, s .numbers);
+      for-sets = omega (arith, l .for-sets, s .numbers);
+      for-sizes = omega (arith, l .for-sizes, s .numbers);
+      for-works = omega (arith, l .for-works, s .numbers);
+      for-steps = omega (arith, l .for-steps, s .steps);
+    }
+
+-- the front of a list that the step order was written to
+pub order-front : (old new s : List ℕ) (k : ℕ) → new ≡ over old s → length s ≡ k → k ≤ length old → take k new ≡ s
+order-front old new s k e q h =
+    ap (take k) (e ∙ over-fits old s (omega arith)) ∙ take-at s (drop (length s) old) k q
+
+pub front-length : (old new s : List ℕ) (k : ℕ) → new ≡ over old s → length s ≡ k → k ≤ length old → k ≡ length (take k new)
+front-length old new s k e q h = sym (ap length (order-front old new s k e q h) ∙ q)
+
+-- ---- the whole promise ----
+
+pub part-words : {n words words′ sets sizes works steps : ℕ} → plainWords ≤ words′ → LongEnough n words sets sizes works steps
+    → LongEnough n words′ sets sizes works steps
+part-words e l =
+    record { for-words = e; for-sets = l .for-sets; for-sizes = l .for-sizes; for-works = l .for-works; for-steps = l .for-steps }
+
+after-either : (x y : Bool) (p : price.Prices) (ws : List ℕ)
+    → cleared ws plainWords ≡ workspaceAfter plainWords (checked (check x invalidTree ∷ check y invalidFlags ∷ []) (done p)) ws
+after-either true y p ws = refl
+after-either false true p ws = refl
+after-either false false p ws = refl
+
+module _ (N : Network) (flags kids ws₀ sets₀ sizes₀ works₀ steps₀ : List ℕ) where
+  abbrev whole : Result price.Prices
+  whole = priceCall N (length ws₀) (room (length sets₀) (length sizes₀) (length works₀) (length steps₀)) flags kids
+
+  -- a call that is refused with nothing touched
+  pub untouched-cost : {k : ℕ} → Untouched k whole
+      → TreeCost N flags kids ws₀ sets₀ sizes₀ works₀ steps₀ ws₀ sets₀ sizes₀ works₀ steps₀ (Refused k)
+  untouched-cost {k} u =
+      record {
+        answered = answered-refused N flags kids sets₀ sizes₀ works₀ steps₀ whole (u .refusal) k (u .is) (sym (u .number));
+        workspace = same-workspace u plainWords ws₀;
+      }
+
+  -- a call that the checks of the tree and of the flags decide
+  pub rest-cost : (ws sets sizes works steps : List ℕ) (r : Priced) → whole ≡ restCall N flags kids → ws ≡ cleared ws₀ plainWords
+      → Answered N flags kids (restCall N flags kids) sets₀ sizes₀ works₀ steps₀ sets sizes works steps r
+      → TreeCost N flags kids ws₀ sets₀ sizes₀ works₀ steps₀ ws sets sizes works steps r
+  unfolding restCall
+  rest-cost ws sets sizes works steps r e q g =
+      record {
+        answered = subst (λ c. Answered N flags kids c sets₀ sizes₀ works₀ steps₀ sets sizes works steps r) (sym e) g;
+        workspace = q ∙ after-either ((treeCheck N kids) .holds) ((flagsCheck N flags) .holds) (priceOf N (flagAt flags) (pairsOf kids)) ws₀ ∙ ap (λ c. workspaceAfter plainWords c ws₀) (sym e);
+      }

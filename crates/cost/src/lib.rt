@@ -131,6 +131,108 @@ fn priced_in<'a>(
         return Priced::Refused(refusal::INVALID_FLAGS);
     }
     Priced::Done(price_valid(
-        ws, sets, sizes, works, steps, m, n, o, weights, counts, legs, outputs, flags, tree,
+        ws,
+        sets,
+        sizes,
+        works,
+        steps,
+        m,
+        n,
+        o,
+        weights,
+        counts,
+        legs,
+        outputs,
+        flags,
+        tree,
     ))
+}
+
+// The answer on lists that a record holds, the network's own check first.
+fn cost_of<'a>(
+    m: usize,
+    n: usize,
+    o: usize,
+    weights: &'a [u8],
+    counts: &'a [u8],
+    legs: &'a [u16],
+    outputs: &'a [u16],
+    flags: &[u8],
+    tree: &[u16],
+    ws: &mut [u64],
+    sets: &mut [u64],
+    sizes: &mut [u16],
+    works: &mut [u16],
+    steps: &mut [u16],
+) -> Priced
+    requires { ⌜ Lent (now weights) (now counts) (now legs) (now outputs) ⌝ }
+    ensures { λ r. ⌜ TreeCost (networkOf m n o (now (weights .entry)) (now (counts .entry)) (now (legs .entry)) (now (outputs .entry))) (now (flags .entry)) (now (tree .entry)) (now (ws .entry)) (now (sets .entry)) (now (sizes .entry)) (now (works .entry)) (now (steps .entry)) (now (ws .exit)) (now (sets .exit)) (now (sizes .exit)) (now (works .exit)) (now (steps .exit)) r ⌝ }
+{
+    let k = checks::number(m, n, o, weights, counts, legs, outputs);
+    if k != refusal::NONE {
+        return Priced::Refused(k);
+    }
+    if too_short(
+        n,
+        ws.len(),
+        sets.len(),
+        sizes.len(),
+        works.len(),
+        steps.len(),
+    ) {
+        return Priced::Refused(refusal::SHORT_BUFFER);
+    }
+    let words = stated();
+    let r = priced_in(
+        &mut ws[..words],
+        sets,
+        sizes,
+        works,
+        steps,
+        m,
+        n,
+        o,
+        weights,
+        counts,
+        legs,
+        outputs,
+        flags,
+        tree,
+    );
+    cells::clear(ws, words);
+    r
+}
+
+// Prices the tree of a network with the given flags: each node's set, size bits and work bits, the listing, total, widest and slice bits.
+pub fn tree_cost(
+    network: Network,
+    flags: &[u8],
+    tree: &[u16],
+    ws: &mut [u64],
+    sets: &mut [u64],
+    sizes: &mut [u16],
+    works: &mut [u16],
+    steps: &mut [u16],
+) -> Priced
+    ensures { λ r. ⌜ TreeCost (netOf network) (now (flags .entry)) (now (tree .entry)) (now (ws .entry)) (now (sets .entry)) (now (sizes .entry)) (now (works .entry)) (now (steps .entry)) (now (ws .exit)) (now (sets .exit)) (now (sizes .exit)) (now (works .exit)) (now (steps .exit)) r ⌝ }
+{
+    let m = network.index_count;
+    let n = network.leaf_count;
+    let o = network.output_count;
+    cost_of(
+        m,
+        n,
+        o,
+        &network.weights,
+        &network.leg_counts,
+        &network.legs,
+        &network.outputs,
+        flags,
+        tree,
+        ws,
+        sets,
+        sizes,
+        works,
+        steps,
+    )
 }
