@@ -10,10 +10,10 @@ use Rattle.spec.specs.Memory.{filled, over, cleared}
 use Rattle.spec.specs.Refusal.{Refusal, tooLarge, overweight, shortBuffer, invalidTree, invalidFlags, numberOf, word, first, Result, refused, done}
 use Rattle.spec.specs.Network.{Network, named, refusalOf}
 use Rattle.spec.specs.Tree.{valid, treeAt, pairsOf, flatOf, samePlan, stepOrder}
-use Rattle.spec.specs.Price.{kept, listing, exact}
+use Rattle.spec.specs.Price.{kept, listing, flatSteps, exact}
 use Rattle.spec.specs.Greedy.{greedyFrom, greedy}
 use Rattle.spec.specs.Slicing.{slice}
-use Rattle.spec.specs.Calls.{lent, lengthCheck, treeCheck, flagsCheck, improveWords, PriceRoom, validCall, orderCall, sameCall, priceCall, greedyCall, improveCall, sliceCall, workspaceAfter, orderedSteps, greedyTree}
+use Rattle.spec.specs.Calls.{lent, lengthCheck, treeCheck, flagsCheck, improveWords, PriceRoom, validCall, orderCall, sameCall, priceCall, greedyCall, improveCall, sliceCall, workspaceAfter, orderedSteps, greedyTree, pricedSteps, pricedSizes, pricedWorks}
 use Rattle.spec.specs.Draws.{unitOf}
 use Rattle.laws.specs.Accepted.{byNumber}
 use Rattle.laws.specs.Samples.{network, sample}
@@ -158,12 +158,12 @@ unfolding orderCall valid treeAt pairsOf stepOrder over
 steps-written = refl
 
 price-calls : map (λ r. ofResult (priceCall sample 4096 r [] kids)) (
-    room 20 5 5 2 ∷ room 19 5 5 2 ∷ room 20 4 5 2 ∷ room 20 5 4 2 ∷ room 20 5 5 1 ∷ [])
+    room 20 5 5 10 ∷ room 19 5 5 10 ∷ room 20 4 5 10 ∷ room 20 5 4 10 ∷ room 20 5 5 9 ∷ [])
     ≡ 0 ∷ 7 ∷ 7 ∷ 7 ∷ 7 ∷ []
 unfolding priceCall valid treeAt pairsOf
 price-calls = refl
 
-price-words : (ofResult (priceCall sample 4095 (room 20 5 5 2) [] kids) ∷ ofResult (priceCall sample 4096 (room 20 5 5 2) (2 ∷ []) kids) ∷ [])
+price-words : (ofResult (priceCall sample 4095 (room 20 5 5 10) [] kids) ∷ ofResult (priceCall sample 4096 (room 20 5 5 10) (2 ∷ []) kids) ∷ [])
     ≡ 7 ∷ 9 ∷ []
 unfolding priceCall valid treeAt pairsOf
 price-words = refl
@@ -186,7 +186,7 @@ clamps : map improveWords (0 ∷ 3 ∷ 4 ∷ 12 ∷ 13 ∷ []) ≡ 4160 ∷ 4160
 clamps = refl
 
 -- pricing goes by the flags, and sameness by the trees
-flags-count : priceCall sample 4096 (room 20 5 5 2) (0 ∷ 1 ∷ []) (2 ∷ 1 ∷ 3 ∷ 0 ∷ [])
+flags-count : priceCall sample 4096 (room 20 5 5 10) (0 ∷ 1 ∷ []) (2 ∷ 1 ∷ 3 ∷ 0 ∷ [])
     ≡ done (record { total = exact 4; widest = some 1; sliceBits = 2 })
 unfolding priceCall listing valid treeAt pairsOf kept named
 flags-count = refl
@@ -209,3 +209,18 @@ lists : (greedyTree (greedyCall sample 4096 5) (7 ∷ 7 ∷ 7 ∷ 7 ∷ 7 ∷ []
     × (greedyTree (greedyCall sample 0 5) (7 ∷ 7 ∷ 7 ∷ 7 ∷ 7 ∷ []) ≡ 7 ∷ 7 ∷ 7 ∷ 7 ∷ 7 ∷ [])
 unfolding greedyCall greedy greedyFrom kept named flatOf over
 lists = (refl, refl)
+
+-- two steps, and a place past them; three leaves and two nodes; a refusal
+abbrev eleven : List ℕ
+eleven = filled 11 9
+
+abbrev tree : List ℕ
+tree = 2 ∷ 1 ∷ 3 ∷ 0 ∷ []
+
+priced : (pricedSteps sample (0 ∷ 1 ∷ []) tree (priceCall sample 4096 (room 20 5 5 11) (0 ∷ 1 ∷ []) tree) eleven
+    ≡ 3 ∷ 2 ∷ 1 ∷ 1 ∷ 0 ∷ 4 ∷ 3 ∷ 0 ∷ 1 ∷ 1 ∷ 9 ∷ [])
+    × (pricedSizes sample [] tree (priceCall sample 4096 (room 20 6 6 11) [] tree) (filled 6 9) ≡ 3 ∷ 3 ∷ 1 ∷ 2 ∷ 1 ∷ 9 ∷ [])
+    × (pricedWorks sample [] tree (priceCall sample 4096 (room 20 6 6 11) [] tree) (filled 6 9) ≡ 0 ∷ 0 ∷ 0 ∷ 3 ∷ 3 ∷ 9 ∷ [])
+    × (pricedSteps sample [] tree (priceCall sample 4096 (room 20 5 5 9) [] tree) eleven ≡ eleven)
+unfolding priceCall listing flatSteps valid treeAt pairsOf kept named over filled
+priced = (refl, refl, refl, refl)

@@ -11,7 +11,7 @@ use Rattle.spec.specs.Memory.{over, cleared}
 use Rattle.spec.specs.Refusal.{Refusal, shortBuffer, invalidTree, invalidFlags, totalBeyond, danglingIndex, numberOf, Check, check, Result, refused, done, checked}
 use Rattle.spec.specs.Network.{Network, leafCount, indexCount, legs, networkChecks}
 use Rattle.spec.specs.Tree.{Pair, valid, pairsOf, flatOf, stepOrder, samePlan}
-use Rattle.spec.specs.Price.{Step, listing, Total, exact, beyond, total, Prices, priceOf}
+use Rattle.spec.specs.Price.{listing, flatSteps, sizeAt, workAt, Total, exact, beyond, total, Prices, priceOf}
 use Rattle.spec.specs.Greedy.{greedy}
 use Rattle.spec.specs.Improve.{clamped, Improved, improve}
 use Rattle.spec.specs.Slicing.{Plan, slice, asIs, onePass}
@@ -53,6 +53,10 @@ nodePlaces N = leafCount N + stepPlaces N
 
 abbrev pub setWords : ℕ
 setWords = 4
+
+-- a step takes five places of the listing's flat list
+abbrev pub stepNumbers : ℕ
+stepNumbers = 5
 
 -- ---- 8 and 9 ----
 
@@ -144,7 +148,7 @@ module _ (N : Network) where
       ∷ lent (room .sets) (nodePlaces N * setWords)
       ∷ lent (room .sizes) (nodePlaces N)
       ∷ lent (room .works) (nodePlaces N)
-      ∷ lent (room .steps) (stepPlaces N)
+      ∷ lent (room .steps) (stepPlaces N * stepNumbers)
       ∷ [])
       ∷ treeCheck N kids
       ∷ flagsCheck N flags
@@ -203,7 +207,8 @@ abbrev pub listAfter : {A B : Type 0} → Result A → (A → List B) → List B
 listAfter (refused r) written l = l
 listAfter (done x) written l = over l (written x)
 
--- the lists that each call writes: the step order; greedy's tree; improvement's; slicing's and its flags; pricing's listing
+-- the lists that each call writes: the step order; greedy's tree; improvement's; slicing's and its flags; pricing's listing, size bits
+-- and work bits by node
 abbrev pub orderedSteps : Result (List ℕ) → List ℕ → List ℕ
 orderedSteps r l = listAfter r (λ steps. steps) l
 
@@ -219,5 +224,12 @@ slicedTree r l = listAfter r (λ p. flatOf (p .tree)) l
 abbrev pub slicedFlags : Network → Result Plan → List ℕ → List ℕ
 slicedFlags N r l = listAfter r (λ p. map (λ j. cond (p .flag j) 1 0) (range (indexCount N))) l
 
-abbrev pub pricedSteps : Network → List ℕ → List ℕ → Result Prices → List Step → List Step
-pricedSteps N flags kids r l = listAfter r (λ p. listing N (flagAt flags) (pairsOf kids)) l
+module _ (N : Network) (flags kids : List ℕ) where
+  abbrev pub pricedSteps : Result Prices → List ℕ → List ℕ
+  pricedSteps r l = listAfter r (λ p. flatSteps (listing N (flagAt flags) (pairsOf kids))) l
+
+  abbrev pub pricedSizes : Result Prices → List ℕ → List ℕ
+  pricedSizes r l = listAfter r (λ p. map (sizeAt N (flagAt flags) (pairsOf kids)) (range (nodePlaces N))) l
+
+  abbrev pub pricedWorks : Result Prices → List ℕ → List ℕ
+  pricedWorks r l = listAfter r (λ p. map (workAt N (flagAt flags) (pairsOf kids)) (range (nodePlaces N))) l

@@ -71,6 +71,18 @@ stepAt N flag a v =
 unfoldable pub listing : Network → (ℕ → Bool) → List Pair → List Step
 listing N flag a = map (stepAt N flag a) (innerOf (treeAt (leafCount N) a (root (leafCount N) a)))
 
+-- the listing as a flat list of numbers: node, left, right, work bits, size bits of each step
+unfoldable pub flatSteps : List Step → List ℕ
+flatSteps [] = []
+flatSteps (c ∷ cs) = c .made ∷ c .left ∷ c .right ∷ c .workBits ∷ c .sizeBits ∷ flatSteps cs
+
+-- the price list by node: size bits; work bits, of which a leaf has none
+abbrev pub sizeAt : Network → (ℕ → Bool) → List Pair → ℕ → ℕ
+sizeAt N flag a v = bits N flag (listAt N a v)
+
+abbrev pub workAt : Network → (ℕ → Bool) → List Pair → ℕ → ℕ
+workAt N flag a v = cond (ltb v (leafCount N)) 0 ((stepAt N flag a v) .workBits)
+
 -- the nodes that steps make
 abbrev pub madeNodes : List Step → List ℕ
 madeNodes l = map (λ c. c .made) l

@@ -1,0 +1,3 @@
+-- What pricing's entry answers and leaves in the lent lists, and its checks. Assumes nothing.
+pub mod Answers
+pub mod Checks

@@ -1,0 +1,238 @@
+// Pricing of a network's tree, as an entry that asks nothing of its caller.
+ghost use mathlib.Core.Path.{_≡_};
+ghost use mathlib.Core.Bool.{false};
+ghost use Prim.Native.Nat.{_≤_};
+ghost use lib.ListN.{length};
+ghost use Rattle.spec.specs.Layout.{networkOf};
+ghost use Rattle.spec.specs.Tree.{pairsOf};
+ghost use Rattle.spec.specs.Calls.{plainWords, wrongTree, flagAt};
+ghost use Rattle.network.specs.Record.{netOf};
+ghost use Rattle.network.specs.Checks.{Lent};
+ghost use Rattle.network.specs.Codes.{Facts};
+ghost use Rattle.cost.specs.Answers.{tooShort, wrongFlags, restCall, Answered, TreeCost};
+ghost use Rattle.pricing.specs.Promise.{Pricing};
+ghost use Rattle.cost.specs.Checks.{LongEnough};
+use network::Network;
+use network::checks;
+use network::refusal;
+use pricing::Prices;
+
+// The answer of pricing.
+pub enum Priced {
+    Refused(u8),
+    Done(Prices),
+}
+
+// The stated workspace, in words.
+fn stated() -> usize
+    ensures { λ r. ⌜ r ≡ plainWords ⌝ }
+{
+    4096
+}
+
+// Is a lent list shorter than stated, for `n` leaves.
+fn too_short(n: usize, words: usize, sets: usize, sizes: usize, works: usize, steps: usize) -> bool
+    requires { ⌜ n ≤ 512 ⌝ }
+    ensures { λ r. ⌜ r ≡ tooShort n words sets sizes works steps ⌝ }
+{
+    let inner = cells::less(n, 1);
+    let nodes = n + inner;
+    if words < stated() {
+        return true;
+    }
+    if sets < nodes * 4 {
+        return true;
+    }
+    if sizes < nodes {
+        return true;
+    }
+    if works < nodes {
+        return true;
+    }
+    steps < inner * 5
+}
+
+// Are there more flags than the `m` indices, or is a flag above 1.
+fn wrong_flags(m: usize, flags: &[u8]) -> bool
+    ensures { λ r. ⌜ r ≡ wrongFlags m (now (flags .entry)) ⌝ }
+{
+    if m < flags.len() {
+        return true;
+    }
+    network::scan::above(flags, 1)
+}
+
+// Prices a valid tree of an accepted network, in lists that are long enough.
+fn price_valid<'a>(
+    ws: &mut [u64],
+    sets: &mut [u64],
+    sizes: &mut [u16],
+    works: &mut [u16],
+    steps: &mut [u16],
+    m: usize,
+    n: usize,
+    o: usize,
+    weights: &'a [u8],
+    counts: &'a [u8],
+    legs: &'a [u16],
+    outputs: &'a [u16],
+    flags: &[u8],
+    tree: &[u16],
+) -> Prices
+    requires { ⌜ Lent (now weights) (now counts) (now legs) (now outputs) × Facts m n o (now weights) (now counts) (now legs) (now outputs) × LongEnough n (length (now ws)) (length (now sets)) (length (now sizes)) (length (now works)) (length (now steps)) × (wrongTree n (now tree) ≡ false) ⌝ }
+    ensures { λ r. ⌜ Pricing 4 (networkOf m n o (now (weights .entry)) (now (counts .entry)) (now (legs .entry)) (now (outputs .entry))) (flagAt (now (flags .entry))) (pairsOf (now (tree .entry))) (now (sets .entry)) (now (sizes .entry)) (now (works .entry)) (now (steps .entry)) (now (sets .exit)) (now (sizes .exit)) (now (works .exit)) (now (steps .exit)) r ⌝ }
+{
+    let mut order = [0u16; 128];
+    let c = walk::post_order(tree, n, ws, &mut order);
+    pricing::price(
+        ws,
+        sets,
+        sizes,
+        works,
+        steps,
+        4,
+        m,
+        n,
+        o,
+        weights,
+        counts,
+        legs,
+        outputs,
+        flags,
+        tree,
+        &order[..c],
+    )
+}
+
+// The answer where the network is accepted and the lists are long enough. On a refusal only `ws` is written.
+fn priced_in<'a>(
+    ws: &mut [u64],
+    sets: &mut [u64],
+    sizes: &mut [u16],
+    works: &mut [u16],
+    steps: &mut [u16],
+    m: usize,
+    n: usize,
+    o: usize,
+    weights: &'a [u8],
+    counts: &'a [u8],
+    legs: &'a [u16],
+    outputs: &'a [u16],
+    flags: &[u8],
+    tree: &[u16],
+) -> Priced
+    requires { ⌜ Lent (now weights) (now counts) (now legs) (now outputs) × Facts m n o (now weights) (now counts) (now legs) (now outputs) × LongEnough n (length (now ws)) (length (now sets)) (length (now sizes)) (length (now works)) (length (now steps)) ⌝ }
+    ensures { λ r. ⌜ Answered (networkOf m n o (now (weights .entry)) (now (counts .entry)) (now (legs .entry)) (now (outputs .entry))) (now (flags .entry)) (now (tree .entry)) (restCall (networkOf m n o (now (weights .entry)) (now (counts .entry)) (now (legs .entry)) (now (outputs .entry))) (now (flags .entry)) (now (tree .entry))) (now (sets .entry)) (now (sizes .entry)) (now (works .entry)) (now (steps .entry)) (now (sets .exit)) (now (sizes .exit)) (now (works .exit)) (now (steps .exit)) r ⌝ }
+{
+    if !walk::is_tree(tree, n, ws) {
+        return Priced::Refused(refusal::INVALID_TREE);
+    }
+    if wrong_flags(m, flags) {
+        return Priced::Refused(refusal::INVALID_FLAGS);
+    }
+    Priced::Done(price_valid(
+        ws,
+        sets,
+        sizes,
+        works,
+        steps,
+        m,
+        n,
+        o,
+        weights,
+        counts,
+        legs,
+        outputs,
+        flags,
+        tree,
+    ))
+}
+
+// The answer on lists that a record holds, the network's own check first.
+fn cost_of<'a>(
+    m: usize,
+    n: usize,
+    o: usize,
+    weights: &'a [u8],
+    counts: &'a [u8],
+    legs: &'a [u16],
+    outputs: &'a [u16],
+    flags: &[u8],
+    tree: &[u16],
+    ws: &mut [u64],
+    sets: &mut [u64],
+    sizes: &mut [u16],
+    works: &mut [u16],
+    steps: &mut [u16],
+) -> Priced
+    requires { ⌜ Lent (now weights) (now counts) (now legs) (now outputs) ⌝ }
+    ensures { λ r. ⌜ TreeCost (networkOf m n o (now (weights .entry)) (now (counts .entry)) (now (legs .entry)) (now (outputs .entry))) (now (flags .entry)) (now (tree .entry)) (now (ws .entry)) (now (sets .entry)) (now (sizes .entry)) (now (works .entry)) (now (steps .entry)) (now (ws .exit)) (now (sets .exit)) (now (sizes .exit)) (now (works .exit)) (now (steps .exit)) r ⌝ }
+{
+    let k = checks::number(m, n, o, weights, counts, legs, outputs);
+    if k != refusal::NONE {
+        return Priced::Refused(k);
+    }
+    if too_short(
+        n,
+        ws.len(),
+        sets.len(),
+        sizes.len(),
+        works.len(),
+        steps.len(),
+    ) {
+        return Priced::Refused(refusal::SHORT_BUFFER);
+    }
+    let words = stated();
+    let r = priced_in(
+        &mut ws[..words],
+        sets,
+        sizes,
+        works,
+        steps,
+        m,
+        n,
+        o,
+        weights,
+        counts,
+        legs,
+        outputs,
+        flags,
+        tree,
+    );
+    cells::clear(ws, words);
+    r
+}
+
+// Prices the tree of a network with the given flags: each node's set, size bits and work bits, the listing, total, widest and slice bits.
+pub fn tree_cost(
+    network: Network,
+    flags: &[u8],
+    tree: &[u16],
+    ws: &mut [u64],
+    sets: &mut [u64],
+    sizes: &mut [u16],
+    works: &mut [u16],
+    steps: &mut [u16],
+) -> Priced
+    ensures { λ r. ⌜ TreeCost (netOf network) (now (flags .entry)) (now (tree .entry)) (now (ws .entry)) (now (sets .entry)) (now (sizes .entry)) (now (works .entry)) (now (steps .entry)) (now (ws .exit)) (now (sets .exit)) (now (sizes .exit)) (now (works .exit)) (now (steps .exit)) r ⌝ }
+{
+    let m = network.index_count;
+    let n = network.leaf_count;
+    let o = network.output_count;
+    cost_of(
+        m,
+        n,
+        o,
+        &network.weights,
+        &network.leg_counts,
+        &network.legs,
+        &network.outputs,
+        flags,
+        tree,
+        ws,
+        sets,
+        sizes,
+        works,
+        steps,
+    )
+}

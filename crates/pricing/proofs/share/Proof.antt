@@ -1,0 +1,18 @@
+-- Assumes nothing.
+use borrow.Author.Needs.{needs}
+use borrow.Author.Tests.{eq-eqb, ne-eqb}
+use native.Mathlib.Omega.{arith}
+use Prim.Native.Nat.{ℕ, _+_, _-_, _*_, _<_, _≤_}
+use mathlib.Core.Path.{_≡_, refl, sym, ap, _∙_, subst}
+use lib.ListN.{length, getD, set, length-set}
+use Rattle.pricing.proofs.share.Statement.{statement}
+use Rattle.pricing.proofs.share.Tie as tie
+
+returns : tie.Need-returns
+returns c = (rw (eq-eqb (c .before .args .flag) 0 (c .if1 .taken)), omega arith)
+
+returns-2 : tie.Need-returns-2
+returns-2 c = (rw (ne-eqb (c .before .args .flag) 0 (c .if1 .left)), omega arith)
+
+pub share-spec : {M : Type 1} → statement M
+share-spec = tie.close (tie.spec returns returns-2)

@@ -1,0 +1,21 @@
+-- Assumes nothing.
+use borrow.Author.Needs.{needs}
+use Rattle.pricing.specs.Sums.{no-leaves, some-leaves}
+use native.Mathlib.Omega.{arith}
+use Prim.Native.Nat.{ℕ, _+_, _-_, _*_, _<_, _≤_}
+use mathlib.Core.Path.{_≡_, refl, sym, ap, _∙_, subst}
+use lib.ListN.{length, getD, set, length-set}
+use Rattle.pricing.proofs.widest_of.Statement.{statement}
+use Rattle.pricing.proofs.widest_of.Tie as tie
+
+returns : tie.Need-returns
+returns c = no-leaves (c .before .before .args .sizes .now) (c .before .before .args .m) (c .if1 .taken)
+
+largest-of-requires : tie.Need-largest-of-requires
+largest-of-requires c κs = search needs
+
+returns-2 : tie.Need-returns-2
+returns-2 c = some-leaves (c .before .before .before .args .sizes .now) (c .before .before .before .args .m) (c .largest-of .result) (c .before .if1 .left) (c .largest-of .ensures)
+
+pub widest-of-spec : {M : Type 1} → statement M
+widest-of-spec = tie.close (tie.spec returns largest-of-requires returns-2)

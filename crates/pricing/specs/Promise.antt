@@ -1,0 +1,61 @@
+-- What pricing asks of the lent lists, and what it leaves in them: the price list. Assumes nothing.
+use mathlib.Core.Bool.{Bool, true}
+use mathlib.Core.Path.{_≡_, refl, sym, _∙_, ap, subst}
+use mathlib.Core.List.{List, map}
+use Prim.Native.Nat.{ℕ, _+_, _-_, _*_, _≤_, _<_}
+use native.Mathlib.Omega.{arith}
+use lib.ListN.{length}
+use Rattle.spec.specs.Lists.{memb, range, sumOf}
+use Rattle.spec.specs.Memory.{over}
+use Rattle.spec.specs.Layout.{networkOf}
+use Rattle.spec.specs.Network.{Network, leafCount, indexCount, legs, Sliceable}
+use Rattle.spec.specs.NetworkClaims.{Accepted}
+use Rattle.spec.specs.Tree.{Pair, pairsOf}
+use Rattle.spec.specs.Price.{Step, listAt, listing, flatSteps, sizeAt, workAt, priceOf}
+use Rattle.spec.specs.Calls.{flagAt, nodePlaces}
+use Rattle.spec.specs.RunClaims.{RunsToDirectSum}
+use Rattle.laws.specs.Integers.{ℤ-semiring}
+use Rattle.laws.specs.Theorem.{listing-runs}
+use Rattle.slots.specs.Slots.{held}
+use Rattle.network.specs.Checks.{Rows}
+use Rattle.nodesets.specs.Passes.{nodes, withSets}
+use Rattle.nodesets.specs.Lists.{Ordered}
+use Rattle.pricing.specs.declared.Prices.{Prices}
+use Rattle.pricing.specs.Answers.{pricesOf}
+
+-- an accepted network, a valid tree and its step order, in lent lists; W words a set
+pub record Priceable (W m n o : ℕ) (weights counts rows outputs kids order : List ℕ) : Type 0 where
+  pub narrow : W ≤ 16
+  pub wide : m ≤ W * 64
+  pub few : n ≤ 65536
+  pub few-outputs : o ≤ 65536
+  pub weight-places : m ≤ length weights
+  pub row-places : Rows n counts rows
+  pub accepted : Accepted (networkOf m n o weights counts rows outputs)
+  pub ordered : Ordered n kids order
+
+-- the lists that are filled are long enough
+pub record Room (W n : ℕ) (kids order : List ℕ) (outside sets sizes works steps : ℕ) : Type 0 where
+  pub for-outside : nodes n kids * W ≤ outside
+  pub for-sets : nodes n kids * W ≤ sets
+  pub for-sizes : nodes n kids ≤ sizes
+  pub for-works : nodes n kids ≤ works
+  pub for-steps : length order * 5 ≤ steps
+
+-- the run of pricing's listing, in every setting of the flagged indices, adds up to the direct sum: tables of whole numbers
+abbrev pub ListingSound : Network → (ℕ → Bool) → List Pair → Type 0
+ListingSound N flag a =
+    2 ≤ leafCount N → Sliceable N flag → (tables : ℕ → List ℕ → ℤ-semiring .Car)
+    → RunsToDirectSum ℤ-semiring N tables flag a (listing N flag a)
+
+-- each lent list has the price list at its front, and what stood there after it
+pub record PriceList (W : ℕ) (N : Network) (flag : ℕ → Bool) (a : List Pair) (sets₀ sizes₀ works₀ steps₀ sets sizes works steps : List ℕ) : Type 0 where
+  pub sets-are : sets ≡ withSets sets₀ W (λ v j. memb j (listAt N a v)) (nodePlaces N)
+  pub sizes-are : sizes ≡ over sizes₀ (map (sizeAt N flag a) (range (nodePlaces N)))
+  pub works-are : works ≡ over works₀ (map (workAt N flag a) (range (nodePlaces N)))
+  pub steps-are : steps ≡ over steps₀ (flatSteps (listing N flag a))
+
+pub record Pricing (W : ℕ) (N : Network) (flag : ℕ → Bool) (a : List Pair) (sets₀ sizes₀ works₀ steps₀ sets sizes works steps : List ℕ) (r : Prices) : Type 0 where
+  pub list : PriceList W N flag a sets₀ sizes₀ works₀ steps₀ sets sizes works steps
+  pub answer : r ≡ pricesOf (priceOf N flag a)
+  pub sound : ListingSound N flag a
