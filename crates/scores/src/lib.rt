@@ -13,11 +13,11 @@ pub const NONE: usize = 256;
 
 pub const WIDE: usize = 257;
 
-// The size bits of slot `x`.
-pub fn size(sizes: &[u64], x: usize) -> usize
-    ensures { λ r. ⌜ r ≡ getD (now (sizes .entry)) x 0 ⌝ }
+// The number that stands at `i`, as wide as an index.
+pub fn at(words: &[u64], i: usize) -> usize
+    ensures { λ r. ⌜ r ≡ getD (now (words .entry)) i 0 ⌝ }
 {
-    cells::get64(sizes, x) as usize
+    cells::get64(words, i) as usize
 }
 
 fn exp2(b: usize) -> u64
@@ -30,7 +30,7 @@ fn exp2(b: usize) -> u64
 fn takes(sizes: &[u64], x: usize, y: usize) -> u64
     ensures { λ r. ⌜ (r ≡ power (getD (now (sizes .entry)) x 0) + power (getD (now (sizes .entry)) y 0)) × (r ≤ 2 ^ 41) ⌝ }
 {
-    exp2(size(sizes, x)) + exp2(size(sizes, y))
+    exp2(at(sizes, x)) + exp2(at(sizes, y))
 }
 
 // Of two slots, the lower first, the one that goes first in their pair, and the one that goes second: `n0` slots are the start's.
@@ -89,10 +89,10 @@ pub fn sooner(
 fn too_wide(sizes: &[u64], x: usize, y: usize) -> bool
     ensures { λ r. ⌜ r ≡ overForty (now (sizes .entry)) x y ⌝ }
 {
-    if 40 < size(sizes, x) {
+    if 40 < at(sizes, x) {
         return true;
     }
-    40 < size(sizes, y)
+    40 < at(sizes, y)
 }
 
 // The least pair of `y` so far, when its pair with `x` is looked at too.

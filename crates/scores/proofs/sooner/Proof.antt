@@ -1,5 +1,6 @@
 -- Assumes nothing.
 use borrow.Author.Needs.{needs}
+use Rattle.scores.specs.Scores.{keyAt}
 use native.Mathlib.Omega.{arith}
 use Prim.Native.Nat.{ℕ, _+_, _-_, _*_, _<_, _≤_}
 use mathlib.Core.Path.{_≡_, refl, sym, ap, _∙_, subst}
@@ -41,7 +42,9 @@ precedes-requires : tie.Need-precedes-requires
 precedes-requires c κs = search needs
 
 returns : tie.Need-returns
-returns c = search needs
+unfolding keyAt
+returns c = c .precedes .ensures
+    ∙ rw (c .before .before .before .before .before .before .before .before .exp2 .ensures .0, c .before .before .before .before .before .before .before .takes .ensures .0, c .before .before .before .before .before .before .exp22 .ensures .0, c .before .before .before .before .before .takes2 .ensures .0, c .before .before .before .before .first .ensures, c .before .before .before .first2 .ensures, c .before .before .second .ensures, c .before .second2 .ensures)
 
 pub sooner-spec : {M : Type 1} → statement M
 sooner-spec =

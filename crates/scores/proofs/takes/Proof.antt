@@ -7,14 +7,14 @@ use lib.ListN.{length, getD, set, length-set}
 use Rattle.scores.proofs.takes.Statement.{statement}
 use Rattle.scores.proofs.takes.Tie as tie
 
-size-requires : tie.Need-size-requires
-size-requires c κs = search needs
+at-requires : tie.Need-at-requires
+at-requires c κs = search needs
 
 exp2-requires : tie.Need-exp2-requires
 exp2-requires c κs = search needs
 
-size-requires-2 : tie.Need-size-requires-2
-size-requires-2 c κs = search needs
+at-requires-2 : tie.Need-at-requires-2
+at-requires-2 c κs = search needs
 
 exp2-requires-2 : tie.Need-exp2-requires-2
 exp2-requires-2 c κs = search needs
@@ -23,9 +23,9 @@ add-result : tie.Need-add-result
 add-result c = search needs
 
 returns : tie.Need-returns
-returns c = search needs
+returns c = (rw (c .before .before .exp2 .ensures .0, c .exp22 .ensures .0, c .before .before .before .at .ensures, c .before .at2 .ensures), omega (arith, c .before .before .exp2 .ensures .1, c .exp22 .ensures .1))
 
 pub takes-spec : {M : Type 1} → statement M
 takes-spec =
     tie.close
-    (tie.spec size-requires exp2-requires size-requires-2 exp2-requires-2 add-result returns)
+    (tie.spec at-requires exp2-requires at-requires-2 exp2-requires-2 add-result returns)
