@@ -8,7 +8,7 @@ use Prim.Native.Nat.{ℕ, zero, suc, _+_, _*_, _/_, _%_, _≤_, _<_}
 use lib.Dec.{eqb}
 use lib.ListN.{length, getD, set, length-set}
 use borrow.Author.Tests.{eq-eqb, ne-eqb}
-use Rattle.spec.specs.Greedy.{keyBefore}
+use Rattle.spec.specs.Greedy.{Key, keyBefore}
 use Rattle.laws.specs.Booleans.{by-cases}
 use Rattle.cells.specs.Loop.{turns}
 use Rattle.scores.specs.Scores.{keyAt, rowOf}
@@ -53,7 +53,7 @@ module _ (ws : List ℕ) (W : ℕ) (wt sizes : List ℕ) (n₀ : ℕ) (live : Li
 
 module _ (sizes : List ℕ) (n₀ : ℕ) (rows : List ℕ) where
   -- the key of the pair that an entry names
-  abbrev pub entryKey : ℕ → Rattle.spec.specs.Greedy.Key
+  abbrev pub entryKey : ℕ → Key
   entryKey y = keyAt sizes n₀ (getD rows y 0 % 512) y (getD rows y 0 / 512)
 
   -- the table whose pair is the least so far (256: none, 257: a pair is too wide), when that of y is looked at too
