@@ -9,12 +9,12 @@ use native.Mathlib.Numerals.{add-one}
 use native.Mathlib.Decide.{decLe}
 use lib.Bits.{bitAnd, bitOr, or-lt, and-lt}
 use lib.Dec.{leb}
-use lib.ListN.{getD, set}
+use lib.ListN.{length, getD, set}
 use lib.Seq.{set-comm}
 use borrow.Author.Tests.{le-leb, lt-leb}
 use Rattle.cells.specs.Loop.{turns}
 use Rattle.bits.specs.Digits.{digit, ofDigits, digit-of, or-digits, and-digits, zero-digits}
-use Rattle.slots.specs.Slots.{held, wordOf, written, withSet, held-digit, word-is, written-other, written-next, place-eq}
+use Rattle.slots.specs.Slots.{held, wordOf, written, withSet, withSet-length, held-digit, word-is, written-other, written-next, place-eq}
 
 -- how many of the first m slots of a list hold index j
 unfoldable pub holders : List ℕ → ℕ → List ℕ → ℕ → ℕ → ℕ
@@ -112,6 +112,11 @@ staying a ws W live m j = atLeast a ws W live m j || held ws W 256 j
 -- the words in which slot 257 holds what two or more hold, and slot 258 what three or more hold, each with the outer slot
 unfoldable pub withHolders : List ℕ → ℕ → List ℕ → ℕ → List ℕ
 withHolders ws W live m = withSet (withSet ws W 257 (staying 2 ws W live m)) W 258 (staying 3 ws W live m)
+
+pub holders-length : (ws : List ℕ) (W : ℕ) (live : List ℕ) (m : ℕ) → length (withHolders ws W live m) ≡ length ws
+unfolding withHolders
+holders-length ws W live m =
+    withSet-length (withSet ws W 257 (staying 2 ws W live m)) W 258 (staying 3 ws W live m) ∙ withSet-length ws W 257 (staying 2 ws W live m)
 
 written-set : (ws : List ℕ) (at : ℕ) (p : ℕ → Bool) (n i x : ℕ) → ((k : ℕ) → k < n → i ≡ at + k → ⊥)
     → set (written ws at p n) i x ≡ written (set ws i x) at p n

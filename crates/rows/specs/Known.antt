@@ -40,6 +40,31 @@ member-at (x ∷ l) u h f =
 abbrev pub Rises : List ℕ → Type 0
 Rises l = (i k : ℕ) → i < k → k < length l → getD l i 0 < getD l k 0
 
+-- two live slots by their places
+pub places-of {ℓ} : {P : Type ℓ} (L : List ℕ) → Rises L → (u v : ℕ) → memb u L ≡ true → memb v L ≡ true → u < v
+    → ((i k : ℕ) → i < k → k < length L → u ≡ getD L i 0 → v ≡ getD L k 0 → P) → P
+places-of L r u v mu mv h f =
+    member-at L u mu λ i bi ei.
+    member-at L v mv λ k bk ek.
+    elim (decLe k i) [
+      | yes q ↦ absurd (elim (decLe i k) [
+        | yes q′ ↦ (let e : i ≡ k = omega arith in omega (arith, ei, ek, ap (λ (n : ℕ). getD L n 0) e))
+        | no q′ ↦ omega (arith, ei, ek, r k i (omega arith) bi)
+      ])
+      | no q ↦ f i k (omega arith) bk ei ek
+    ]
+
+-- two places with one slot are the same
+pub same-place : (L : List ℕ) → Rises L → (i k : ℕ) → i < length L → k < length L → getD L i 0 ≡ getD L k 0 → i ≡ k
+same-place L r i k bi bk e =
+    elim (ℕ-discrete i k) [
+      | yes q ↦ q
+      | no n ↦ elim (decLe i k) [
+        | yes q ↦ absurd (omega (arith, r i k (omega (arith, n)) bk))
+        | no q ↦ absurd (omega (arith, r k i (omega arith) bi))
+      ]
+    ]
+
 pub all-more : (P : ℕ → Type 0) (k : ℕ) → ((i : ℕ) → i < k → P i) → P k → (i : ℕ) → i < suc k → P i
 all-more P k h p i b = elim (ℕ-discrete i k) [ yes e ↦ rw e p | no n ↦ h i (omega (arith, n)) ]
 
