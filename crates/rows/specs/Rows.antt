@@ -64,6 +64,15 @@ module _ (sizes : List ℕ) (n₀ : ℕ) (rows : List ℕ) where
       (cond (eqb (getD rows y 0) 256) best
       (cond (eqb best 256 || keyBefore (entryKey y) (entryKey best)) y best)))
 
+  -- it is one of the two, or 257
+  pub bettered-one : (P : ℕ → Type 0) (best y : ℕ) → P best → P y → P 257 → P (bettered best y)
+  unfolding bettered
+  bettered-one P best y p q r =
+      by-cases (eqb best 257) (λ e. rw e p)
+      (λ e. by-cases (eqb (getD rows y 0) 257) (λ d. rw (e, d) r)
+      (λ d. by-cases (eqb (getD rows y 0) 256) (λ f. rw (e, d, f) p)
+      (λ f. by-cases (eqb best 256 || keyBefore (entryKey y) (entryKey best)) (λ h. rw (e, d, f, h) q) (λ h. rw (e, d, f, h) p))))
+
   -- of the first m live tables
   unfoldable pub leastOf : List ℕ → ℕ → ℕ
   leastOf live m = turns (λ k best. bettered best (getD live k 0)) 256 m

@@ -90,7 +90,7 @@ fn better(sizes: &[u64], n0: usize, rows: &[u64], best: usize, y: usize) -> usiz
 
 // Of the first `m` live tables, the one with the least pair; NONE; or WIDE where a pair is too wide.
 pub fn least(sizes: &[u64], n0: usize, rows: &[u64], live: &[u16], m: usize) -> usize
-    ensures { λ r. ⌜ r ≡ leastOf (now (sizes .entry)) n0 (now (rows .entry)) (now (live .entry)) m ⌝ }
+    ensures { λ r. ⌜ (r ≡ leastOf (now (sizes .entry)) n0 (now (rows .entry)) (now (live .entry)) m) × (r < 65536) ⌝ }
 {
     let mut best = NONE;
     for k in 0..m {
