@@ -119,10 +119,10 @@ module _ (G : Given) (S : Ghost) (M : Lists) (H : Holds G S M) (y : ℕ) (c : Ch
   order : pairAt n₀ tree (c .x) y ≡ record { first = entry tree f; second = entry tree g }
   order = by-cases (ltb y n₀) (λ e. rw e) (λ e. rw e)
 
-  inF : memb f L ≡ true
+  pub inF : memb f L ≡ true
   inF = by-cases (ltb y n₀) (λ e. rw e (c .inX)) (λ e. rw e (c .inY))
 
-  inG : memb g L ≡ true
+  pub inG : memb g L ≡ true
   inG = by-cases (ltb y n₀) (λ e. rw e (c .inY)) (λ e. rw e (c .inX))
 
   apart : f ≡ g → ⊥

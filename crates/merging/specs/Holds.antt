@@ -53,6 +53,9 @@ pub record Lists : Type 0 where
   pub live : List ℕ
   pub rows : List ℕ
 
+abbrev pub listsOf : List ℕ → List ℕ → List ℕ → List ℕ → List ℕ → Lists
+listsOf words nodes sizes live rows = record { words = words; nodes = nodes; sizes = sizes; live = live; rows = rows }
+
 pub record Holds (G : Given) (S : Ghost) (M : Lists) : Type 0 where
   pub sound : Sound (G .net) (G .base) (G .lo) (G .all) (stateOf S)
   pub sets : (u : ℕ) → u < S .next → HoldsList (G .net) (M .words) (G .width) u (S .tree u)

@@ -7,3 +7,4 @@ pub mod After
 pub mod Agree
 pub mod Removed
 pub mod Merge
+pub mod Connect

@@ -9,11 +9,19 @@ ghost use Rattle.slots.specs.Slots.{withSet};
 ghost use Rattle.live.specs.Merged.{mergedSet};
 ghost use Rattle.merging.specs.Listed.{remaining};
 ghost use Rattle.merging.specs.Removed.{keptAt, placeAfter};
+ghost use Rattle.live.specs.Holders.{withHolders};
+ghost use Rattle.slots.specs.Weigh.{Light};
+ghost use Rattle.rows.specs.Rows.{renewedAll, leastOf};
+ghost use Rattle.merging.specs.Holds.{Given, Ghost, listsOf};
+ghost use Rattle.merging.specs.Connect.{Start, Connected};
 ghost use Rattle.merging.specs.Merge.{firstAt, secondAt, marked, withNode};
 use rows::GONE;
 use rows::STALE;
 use scores::NONE;
 use scores::WIDE;
+
+// What is answered where a pair is too wide.
+pub const REFUSED: usize = 65536;
 
 // Puts the `i`-th of `live` at place `t`, unless it is `x` or `y`, and returns the place past it.
 fn keep_at(live: &mut [u16], i: usize, t: usize, x: usize, y: usize) -> usize
@@ -105,4 +113,74 @@ fn merge(
     cells::put64(sizes, z, (r / 512) as u64);
     mark(rows, f, g, z);
     replace(live, m, f, g, z);
+}
+
+// Scans the first `m` live tables for the least pair of all: the table that has it, NONE, or WIDE.
+fn scan(
+    ws: &mut [u64],
+    w: usize,
+    weights: &[u8],
+    sizes: &[u64],
+    n0: usize,
+    live: &[u16],
+    m: usize,
+    rows: &mut [u64],
+) -> usize
+    requires { ⌜ (w ≤ 16) × Light (now weights) ⌝ }
+    ensures words { λ r. ⌜ now (ws .exit) ≡ withHolders (now (ws .entry)) w (now (live .entry)) m ⌝ }
+    ensures pairs { λ r. ⌜ now (rows .exit) ≡ renewedAll (now (ws .exit)) w (now (weights .entry)) (now (sizes .entry)) n0 (now (live .entry)) (now (rows .entry)) m ⌝ }
+    ensures least { λ r. ⌜ (r ≡ leastOf (now (sizes .entry)) n0 (now (rows .exit)) (now (live .entry)) m) × (r < 65536) ⌝ }
+{
+    live::put_holders(ws, w, live, m);
+    rows::renew_all(ws, w, weights, sizes, n0, live, m, rows);
+    rows::least(sizes, n0, rows, live, m)
+}
+
+// Merges the least pair of the `n0` live tables and its like until none share an index, and returns how many merges there were, or REFUSED.
+// The array so far has `count` nodes, and each merge puts one more after them.
+pub fn connect(
+    ws: &mut [u64],
+    w: usize,
+    weights: &[u8],
+    n: usize,
+    n0: usize,
+    nodes: &mut [u16],
+    sizes: &mut [u64],
+    live: &mut [u16],
+    rows: &mut [u64],
+    kids: &mut [u16],
+    count: usize,
+) -> usize
+    requires { ⌜ (w ≤ 16) × Light (now weights) × (n0 ≤ length (now live)) × (n0 < 16384) × (n < 16384) × (count < 16384) ⌝ }
+    ensures { λ r. ⌜ ((r ≡ 65536 → ⊥) → r ≤ n0) ⌝ }
+    ensures { λ r. ⌜ ((G : Given) (S : Ghost) → Start G S (listsOf (now (ws .entry)) (now (nodes .entry)) (now (sizes .entry)) (now (live .entry)) (now (rows .entry))) w n n0 count (now (weights .entry)) (now (kids .entry)) → Connected G S (now (kids .entry)) (now (nodes .exit)) (now (sizes .exit)) (now (live .exit)) (now (kids .exit)) r) ⌝ }
+{
+    let mut t: usize = 0;
+    while t < n0 {
+        let m = n0 - t;
+        let y = scan(ws, w, weights, sizes, n0, live, m, rows);
+        if y == WIDE {
+            return REFUSED;
+        }
+        if y == NONE {
+            return t;
+        }
+        merge(
+            ws,
+            w,
+            n,
+            n0,
+            y,
+            n0 + t,
+            nodes,
+            sizes,
+            live,
+            m,
+            rows,
+            kids,
+            count + t,
+        );
+        t += 1;
+    }
+    t
 }
