@@ -60,12 +60,12 @@ numbers-tell r s e = sym (back r) ∙ ap ofNumber e ∙ back s
 
 -- no member passes the test: none at any place
 module _ {A : Type 0} (p : A → Bool) (d : A) where
-  none-at : (l : List A) → anyb p l ≡ false → (i : ℕ) → i < length l → p (getD l i d) ≡ false
+  pub none-at : (l : List A) → anyb p l ≡ false → (i : ℕ) → i < length l → p (getD l i d) ≡ false
   none-at [] e i h = absurd (omega arith)
   none-at (x ∷ l) e zero h = or-none (p x) (anyb p l) e .0
   none-at (x ∷ l) e (suc i) h = none-at l (or-none (p x) (anyb p l) e .1) i (omega arith)
 
-  at-none : (l : List A) → ((i : ℕ) → i < length l → p (getD l i d) ≡ false) → anyb p l ≡ false
+  pub at-none : (l : List A) → ((i : ℕ) → i < length l → p (getD l i d) ≡ false) → anyb p l ≡ false
   at-none [] h = refl
   at-none (x ∷ l) h = rw (h 0 (omega arith)) (at-none l (λ i b. h (suc i) (omega arith)))
 

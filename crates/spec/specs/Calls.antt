@@ -56,9 +56,12 @@ setWords = 4
 
 -- ---- 8 and 9 ----
 
--- "not valid, or odd length"
+-- of n leaves: "not valid, or odd length"
+abbrev pub wrongTree : ℕ → List ℕ → Bool
+wrongTree n kids = eqb (length kids % 2) 1 || not (valid n (pairsOf kids))
+
 abbrev pub treeCheck : Network → List ℕ → Check
-treeCheck N kids = check (eqb (length kids % 2) 1 || not (valid (leafCount N) (pairsOf kids))) invalidTree
+treeCheck N kids = check (wrongTree (leafCount N) kids) invalidTree
 
 -- "more flags than indices, or a byte over 1"
 abbrev pub flagsCheck : Network → List ℕ → Check

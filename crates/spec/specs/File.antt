@@ -7,7 +7,7 @@ use lib.Dec.{eqb, ltb, leb}
 use lib.ListN.{length, take, drop}
 use Rattle.spec.specs.Lists.{memb, anyb}
 use Rattle.spec.specs.Memory.{filled, placed}
-use Rattle.spec.specs.Refusal.{Refusal, truncated, wrongTag, tooLarge, overweight, outOfRange, repeated, Check, check, Result, refused, done, andThen, decide, checked}
+use Rattle.spec.specs.Refusal.{Refusal, truncated, wrongTag, tooLarge, overweight, outOfRange, repeated, Check, check, first, Result, refused, done, andThen, checked}
 use Rattle.spec.specs.Network.{Network, leafCount, indexCount, maxLeaves, maxIndices, maxLegs, maxOutputs, maxWeight, networkChecks}
 use Rattle.spec.specs.Calls.{Lent, lent, lengthCheck, treePlaces, treeCheck, flagsCheck}
 
@@ -81,34 +81,53 @@ pub record Reading : Type 0 where
   pub due : Due
   pub read : Contents
 
--- the indices of a leaf, or the outputs, "bytes left to right": not below the index count m, or named before
+-- ---- the conditions on a field, in their order ----
+
+-- of a field with tag t that says n bytes, where `there` are left: "header, tag, payload all there"
+abbrev pub headerChecks : Due → ℕ → ℕ → ℕ → List Check
+headerChecks due t n there = check (not (allowed due t)) wrongTag ∷ check (ltb there n) truncated ∷ []
+
+-- "length and leaf count, then bytes left to right"
+abbrev pub weightsChecks : List ℕ → List Check
+weightsChecks l = check (ltb maxIndices (length l)) tooLarge ∷ check (anyb (λ w. ltb maxWeight w) l) overweight ∷ []
+
+-- the indices of a leaf, or the outputs: not below the index count m, or named before
+abbrev pub indexChecks : ℕ → List ℕ → List ℕ → List Check
+indexChecks m before [] = []
+indexChecks m before (j ∷ l) = check (leb m j) outOfRange ∷ check (memb j before) repeated ∷ indexChecks m (j ∷ before) l
+
 abbrev pub indexBytes : ℕ → List ℕ → List ℕ → Option Refusal
-indexBytes m before [] = none
-indexBytes m before (j ∷ l) =
-    let rest = indexBytes m (j ∷ before) l in
-    cond (leb m j) (some outOfRange) (cond (memb j before) (some repeated) rest)
+indexBytes m before l = first (indexChecks m before l)
+
+abbrev pub leafChecks : Network → List ℕ → List Check
+leafChecks N l = check (ltb maxLegs (length l) || leb maxLeaves (leafCount N)) tooLarge ∷ indexChecks (indexCount N) [] l
+
+abbrev pub outputsChecks : Network → List ℕ → List Check
+outputsChecks N l = check (ltb maxOutputs (length l)) tooLarge ∷ indexChecks (indexCount N) [] l
+
+-- ---- the fields ----
 
 -- a network alone
 abbrev pub bare : Network → Contents
 bare N = record { network = N; tree = none; ask = plain }
 
--- the fields in their order: "length and leaf count, then bytes left to right; 8 for a tree that is not valid as its field ends"
 abbrev pub takeWeights : List ℕ → Result Reading
 takeWeights l =
-    checked (check (ltb maxIndices (length l)) tooLarge ∷ check (anyb (λ w. ltb maxWeight w) l) overweight ∷ [])
+    checked (weightsChecks l)
     (done (record { due = leavesDue; read = bare (record { leaves = []; outputs = []; weights = l }) }))
 
 module _ (N : Network) where
   abbrev pub takeLeaf : List ℕ → Result Reading
   takeLeaf l =
-      checked (check (ltb maxLegs (length l) || leb maxLeaves (leafCount N)) tooLarge ∷ [])
-      (decide (indexBytes (indexCount N) [] l) (done (record { due = leavesDue; read = bare (record { leaves = N .leaves ++ (l ∷ []); outputs = []; weights = N .weights }) })))
+      checked (leafChecks N l)
+      (done (record { due = leavesDue; read = bare (record { leaves = N .leaves ++ (l ∷ []); outputs = []; weights = N .weights }) }))
 
   abbrev pub takeOutputs : List ℕ → Result Reading
   takeOutputs l =
-      checked (check (ltb maxOutputs (length l)) tooLarge ∷ [])
-      (decide (indexBytes (indexCount N) [] l) (done (record { due = treeDue; read = bare (record { leaves = N .leaves; outputs = l; weights = N .weights }) })))
+      checked (outputsChecks N l)
+      (done (record { due = treeDue; read = bare (record { leaves = N .leaves; outputs = l; weights = N .weights }) }))
 
+  -- "8 for a tree that is not valid as its field ends"
   abbrev pub takeTree : List ℕ → Result Reading
   takeTree l =
       checked (treeCheck N l ∷ []) (done (record { due = askDue; read = record { network = N; tree = some l; ask = plain } }))
@@ -142,7 +161,7 @@ readFields (suc fuel) s (t ∷ high ∷ []) = refused truncated
 readFields (suc fuel) s (t ∷ high ∷ low ∷ bytes) =
     let n = high * 256 + low in
     let rest = andThen (takeField s t (take n bytes)) λ s′. readFields fuel s′ (drop n bytes) in
-    checked (check (not (allowed (s .due) t)) wrongTag ∷ check (ltb (length bytes) n) truncated ∷ []) rest
+    checked (headerChecks (s .due) t n (length bytes)) rest
 
 abbrev pub nothingRead : Reading
 nothingRead =
@@ -191,13 +210,15 @@ flagsChecks N plain = []
 flagsChecks N (flagged l) = flagsCheck N l ∷ []
 flagsChecks N (target w) = []
 
+-- "for the writer the file's bytes after the cursor"
+abbrev pub writeChecks : Contents → ℕ → ℕ → List Check
+writeChecks c size cursor =
+    networkChecks false (c .network)
+    ++ (lengthCheck (lent size (cursor + length (fileOf c)) ∷ []) ∷ (treeChecks (c .network) (c .tree) ++ flagsChecks (c .network) (c .ask)))
+
 -- the writer: from the cursor on, into a buffer of `size` bytes; the answer is the cursor past the file
 unfoldable pub writeOf : Contents → ℕ → ℕ → Result ℕ
-writeOf c size cursor =
-    checked
-    (networkChecks false (c .network)
-    ++ (lengthCheck (lent size (cursor + length (fileOf c)) ∷ []) ∷ (treeChecks (c .network) (c .tree) ++ flagsChecks (c .network) (c .ask))))
-    (done (cursor + length (fileOf c)))
+writeOf c size cursor = checked (writeChecks c size cursor) (done (cursor + length (fileOf c)))
 
 -- "The writer fills only the part of the lent buffer from its cursor on."
 abbrev pub bufferAfter : Contents → ℕ → Result ℕ → List ℕ → List ℕ

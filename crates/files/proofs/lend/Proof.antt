@@ -1,0 +1,51 @@
+-- Assumes nothing.
+use borrow.Author.Needs.{needs}
+use native.Mathlib.Omega.{arith}
+use lib.ListN.{length-take}
+use Rattle.files.proofs.lend.Statement.{statement}
+use Rattle.files.proofs.lend.Tie as tie
+
+min-requires : tie.Need-min-requires
+min-requires c κs = search needs
+
+min-requires-2 : tie.Need-min-requires-2
+min-requires-2 c κs = search needs
+
+slice-relend-prefix-run : tie.Need-slice-relend-prefix-run
+slice-relend-prefix-run c = search needs
+
+slice-aggregate-run : tie.Need-slice-aggregate-run
+slice-aggregate-run c = simp length-take (omega arith)
+
+slice-relend-prefix-run-2 : tie.Need-slice-relend-prefix-run-2
+slice-relend-prefix-run-2 c = search needs
+
+slice-aggregate-run-2 : tie.Need-slice-aggregate-run-2
+slice-aggregate-run-2 c = simp length-take (omega arith)
+
+run-requires : tie.Need-run-requires
+run-requires c κs = search needs
+
+same-length : tie.Need-same-length
+same-length c = search needs
+
+same-length-2 : tie.Need-same-length-2
+same-length-2 c = search needs
+
+returns : tie.Need-returns
+returns c = search needs
+
+pub lend-spec : {M : Type 1} → statement M
+lend-spec =
+    tie.close
+    (tie.spec
+    min-requires
+    min-requires-2
+    slice-relend-prefix-run
+    slice-aggregate-run
+    slice-relend-prefix-run-2
+    slice-aggregate-run-2
+    run-requires
+    same-length
+    same-length-2
+    returns)

@@ -1,0 +1,53 @@
+// The words of a line.
+use netfile::Ask;
+use netfile::Found;
+use netfile::Tree;
+use network::Network;
+
+// A word, then a number.
+fn number(word: &[u8], n: u64) {
+    io::write_all(1, word);
+    io::print_decimal(1, n);
+}
+
+pub fn refused(code: u8, sum: u64) {
+    number(b"refused ", code as u64);
+    number(b" sum ", sum);
+}
+
+fn tree_places(tree: Tree) {
+    match tree {
+        Tree::Absent => {
+            io::write_all(1, b" tree -");
+        }
+        Tree::Present(n) => {
+            number(b" tree ", n as u64);
+        }
+    }
+}
+
+fn asked(ask: Ask) {
+    match ask {
+        Ask::Plain => {
+            io::write_all(1, b" flags - target -");
+        }
+        Ask::Flagged(n) => {
+            number(b" flags ", n as u64);
+            io::write_all(1, b" target -");
+        }
+        Ask::Target(bits) => {
+            number(b" flags - target ", bits as u64);
+        }
+    }
+}
+
+pub fn read(network: Network, found: Found, sum: u64) {
+    number(b"read ", network.leaf_count as u64);
+    number(b" ", network.index_count as u64);
+    number(b" ", network.output_count as u64);
+    let tree = found.tree;
+    let ask = found.ask;
+    tree_places(tree);
+    asked(ask);
+    number(b" sum ", sum);
+}

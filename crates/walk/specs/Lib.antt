@@ -1,0 +1,6 @@
+-- The walks over a tree in lent words.
+pub mod Stack
+pub mod Marks
+pub mod Check
+pub mod Wrong
+pub mod Order

@@ -1,0 +1,73 @@
+//! The port beside the Rust that it comes from. See README.md.
+
+mod bench;
+mod case;
+mod compare;
+mod edges;
+#[cfg(path_rs)]
+mod engine;
+#[cfg(all(test, path_rs))]
+mod findings;
+mod large;
+mod listing;
+mod networks;
+mod numbers;
+mod port;
+mod record;
+mod rust;
+mod small;
+mod trees;
+
+use std::env;
+use std::path::Path;
+use std::process::ExitCode;
+
+/// The crate whose input and output `record` writes.
+const REPLAY: &str = concat!(env!("CARGO_MANIFEST_DIR"), "/../crates/replay");
+
+const USAGE: &str = "usage: harness compare [NETWORKS [SEED]] | bench | record";
+
+fn compare(count: usize, seed: u64) -> ExitCode {
+    if !port::AT_HAND {
+        println!("{}", port::MISSING);
+        return ExitCode::FAILURE;
+    }
+    if !rust::AT_HAND {
+        println!("{}", rust::MISSING);
+    }
+    let mut comparison = compare::Comparison::default();
+    small::run(&mut comparison);
+    edges::run(&mut comparison);
+    large::run(&mut comparison, count, seed);
+    comparison.tell("all", compare::Counts::default());
+    println!("{} differences", comparison.differences);
+    if comparison.differences == 0 {
+        ExitCode::SUCCESS
+    } else {
+        ExitCode::FAILURE
+    }
+}
+
+fn main() -> ExitCode {
+    rust::quiet_caught_panics();
+    let words: Vec<String> = env::args().skip(1).collect();
+    let number = |k: usize, usual: u64| words.get(k).map_or(Some(usual), |word| word.parse().ok());
+    match (words.first().map(String::as_str), number(1, 100_000), number(2, 1)) {
+        (Some("compare"), Some(count), Some(seed)) => compare(count as usize, seed),
+        (Some("bench"), ..) => {
+            bench::run();
+            ExitCode::SUCCESS
+        }
+        (Some("record"), ..) => match record::run(Path::new(REPLAY)) {
+            Ok(()) => ExitCode::SUCCESS,
+            Err(error) => {
+                println!("crates/replay: {error}");
+                ExitCode::FAILURE
+            }
+        },
+        _ => {
+            println!("{USAGE}");
+            ExitCode::FAILURE
+        }
+    }
+}

@@ -1,0 +1,182 @@
+//! The Rust's answers: path.rs run on a case.
+#![cfg_attr(not(path_rs), allow(dead_code))]
+
+use crate::bench::Call;
+use crate::case::{Case, Tree};
+
+/// Whether path.rs is compiled in.
+pub const AT_HAND: bool = cfg!(path_rs);
+
+pub const MISSING: &str = "path.rs is not at hand (LOQSHYBER_PATH_RS): the comparison with the Rust is passed over";
+
+/// What `is_valid` does with a tree.
+#[derive(Clone, Copy, Debug, PartialEq, Eq)]
+pub enum Validity {
+    Valid,
+    Invalid,
+    /// It indexes past its list, as it does on a child above the root's number.
+    Panics,
+}
+
+#[derive(Clone, Debug)]
+pub struct Step {
+    pub node: u16,
+    pub left: u16,
+    pub right: u16,
+    pub log2_flops: f64,
+    pub log2_size: f64,
+}
+
+/// `post_order` and `tree_cost` of a valid tree.
+#[derive(Clone, Debug)]
+pub struct Cost {
+    pub steps: Vec<Step>,
+    pub log2_total: f64,
+    pub log2_max: f64,
+    pub log2_slices: f64,
+}
+
+/// What the Rust says of a case.
+#[derive(Clone, Debug)]
+pub struct Answer {
+    pub validity: Validity,
+    /// Of a valid tree.
+    pub cost: Option<Cost>,
+}
+
+#[cfg(path_rs)]
+pub use compiled::{greedy, quiet_caught_panics, tree_cost_call, valid_cost_call};
+
+/// Runs path.rs, if it is at hand. A case without a tree is one with no internal node.
+#[cfg(path_rs)]
+pub fn answer(case: &Case) -> Option<Answer> {
+    let input = compiled::Input::new(case);
+    let validity = input.validity();
+    Some(Answer { validity, cost: (validity == Validity::Valid).then(|| input.cost()) })
+}
+
+#[cfg(not(path_rs))]
+pub use missing::{answer, greedy, quiet_caught_panics, tree_cost_call, valid_cost_call};
+
+#[cfg(not(path_rs))]
+mod missing {
+    use super::*;
+
+    pub fn answer(_case: &Case) -> Option<Answer> {
+        None
+    }
+
+    pub fn greedy(_case: &Case) -> Option<Tree> {
+        None
+    }
+
+    pub fn quiet_caught_panics() {}
+
+    pub fn tree_cost_call<'a>(_case: &Case) -> Call<'a> {
+        None
+    }
+
+    pub fn valid_cost_call<'a>(_case: &Case) -> Call<'a> {
+        None
+    }
+}
+
+#[cfg(path_rs)]
+mod compiled {
+    use super::*;
+    use crate::engine::path::{self, ContractionTree, GreedyParams, Hypergraph};
+    use std::cell::Cell;
+    use std::hint::black_box;
+    use std::panic;
+
+    thread_local!(static QUIET: Cell<bool> = const { Cell::new(false) });
+
+    /// Keeps a panic that is caught from being printed.
+    pub fn quiet_caught_panics() {
+        let print = panic::take_hook();
+        panic::set_hook(Box::new(move |info| {
+            if !QUIET.get() {
+                print(info);
+            }
+        }));
+    }
+
+    fn caught<T>(run: impl FnOnce() -> T + panic::UnwindSafe) -> Option<T> {
+        QUIET.set(true);
+        let result = panic::catch_unwind(run).ok();
+        QUIET.set(false);
+        result
+    }
+
+    /// A case as path.rs takes it.
+    pub struct Input {
+        pub network: Hypergraph,
+        pub tree: ContractionTree,
+        pub sliced: Vec<bool>,
+    }
+
+    fn wide(list: &[u16]) -> Vec<u32> {
+        list.iter().map(|&i| i as u32).collect()
+    }
+
+    impl Input {
+        pub fn new(case: &Case) -> Self {
+            let network = &case.network;
+            let children = case.tree.iter().flatten().map(|pair| pair.map(u32::from)).collect();
+            Self {
+                network: Hypergraph::new(
+                    network.leaves.iter().map(|leaf| wide(leaf)).collect(),
+                    wide(&network.outputs),
+                    network.weights.iter().map(|&w| w as f64).collect(),
+                ),
+                tree: ContractionTree { n_leaves: network.leaves.len(), children },
+                sliced: case.flags.clone().unwrap_or_default(),
+            }
+        }
+
+        pub fn validity(&self) -> Validity {
+            match caught(|| self.tree.is_valid()) {
+                Some(true) => Validity::Valid,
+                Some(false) => Validity::Invalid,
+                None => Validity::Panics,
+            }
+        }
+
+        /// The cost of a tree that is valid.
+        pub fn cost(&self) -> Cost {
+            let cost = path::tree_cost(&self.network, &self.tree, &self.sliced);
+            let steps = self.tree.post_order().into_iter().map(|v| {
+                let [left, right] = self.tree.kids(v).expect("an internal node");
+                Step {
+                    node: v as u16,
+                    left: left as u16,
+                    right: right as u16,
+                    log2_flops: cost.log2flops[v as usize],
+                    log2_size: cost.log2size[v as usize],
+                }
+            });
+            Cost { steps: steps.collect(), log2_total: cost.log2_total, log2_max: cost.log2_max, log2_slices: cost.log2_slices }
+        }
+    }
+
+    /// The tree of `greedy`, with no noise.
+    pub fn greedy(case: &Case) -> Option<Tree> {
+        let tree = path::greedy(&Input::new(case).network, &GreedyParams::default(), 0);
+        Some(tree.children.iter().map(|pair| pair.map(|v| v as u16)).collect())
+    }
+
+    pub fn tree_cost_call<'a>(case: &Case) -> Call<'a> {
+        let input = Input::new(case);
+        Some(Box::new(move || {
+            black_box(path::tree_cost(&input.network, &input.tree, &input.sliced));
+        }))
+    }
+
+    pub fn valid_cost_call<'a>(case: &Case) -> Call<'a> {
+        let input = Input::new(case);
+        Some(Box::new(move || {
+            assert!(black_box(&input.tree).is_valid());
+            black_box(path::tree_cost(&input.network, &input.tree, &input.sliced));
+        }))
+    }
+}
