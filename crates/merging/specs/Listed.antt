@@ -125,7 +125,7 @@ other x y v = not (eqb v x) && not (eqb v y)
 abbrev pub remaining : ℕ → ℕ → List ℕ → List ℕ
 remaining x y L = keep (other x y) L
 
-off-listed : (tree : ℕ → Tree) (u : ℕ) (L : List ℕ) → off u (listed tree L) ≡ listed tree (keep (λ v. not (eqb v u)) L)
+pub off-listed : (tree : ℕ → Tree) (u : ℕ) (L : List ℕ) → off u (listed tree L) ≡ listed tree (keep (λ v. not (eqb v u)) L)
 off-listed tree u [] = refl
 off-listed tree u (v ∷ L) =
     by-cases (eqb v u)
