@@ -36,6 +36,10 @@ or-digits x y i = rw (or-bit x y i) (both x y i (λ u v. eqb (max u v) 1 ≡ (eq
 pub and-digits : Digitwise bitAnd (λ x y. x && y)
 and-digits x y i = rw (and-bit x y i) (both x y i (λ u v. eqb (min u v) 1 ≡ (eqb u 1 && eqb v 1)) refl refl refl refl)
 
+pub xor-digits : Digitwise bitXor (λ x y. cond x (not y) y)
+xor-digits x y i =
+    rw (xor-bit x y i) (both x y i (λ u v. eqb (differ u v) 1 ≡ cond (eqb u 1) (not (eqb v 1)) (eqb v 1)) refl refl refl refl)
+
 -- x without the digits of y
 abbrev pub bitDiff : ℕ → ℕ → ℕ
 bitDiff x y = bitXor x (bitAnd x y)

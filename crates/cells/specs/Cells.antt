@@ -88,7 +88,7 @@ module _ {A : Type 0} where
   over-fits (x ∷ d) (y ∷ s) h = ap (λ (l : List A). y ∷ l) (over-fits d s (omega arith))
 
   -- one element more
-  over-snoc : (d s : List A) (x : A) → set (over d s) (length s) x ≡ over d (s ++ x ∷ [])
+  pub over-snoc : (d s : List A) (x : A) → set (over d s) (length s) x ≡ over d (s ++ x ∷ [])
   unfolding over
   over-snoc [] s x = refl
   over-snoc (y ∷ d) [] x = ap (λ (l : List A). x ∷ l) (sym (over-nil d))

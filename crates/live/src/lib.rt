@@ -1,0 +1,98 @@
+// Live tables, in slots of lent words: which share an index, and what a merge of two makes.
+// Slot 256 holds the outputs and what is named outside, slot 257 what two live tables or more hold, slot 258 what three or more hold.
+ghost use mathlib.Core.Path.{_≡_};
+ghost use Prim.Native.Nat.{_<_, _≤_};
+ghost use Rattle.slots.specs.Slots.{withSet};
+ghost use Rattle.slots.specs.Weigh.{Light};
+ghost use Rattle.live.specs.Common.{shares};
+ghost use Rattle.live.specs.Holders.{countWord, withHolders};
+ghost use Rattle.live.specs.Merged.{mergedSet, pairBits, wordAt};
+
+// Have slots `x` and `y` an index in common.
+pub fn share(ws: &[u64], w: usize, x: usize, y: usize) -> bool
+    requires { ⌜ (w ≤ 16) × (x < 1048576) × (y < 1048576) ⌝ }
+    ensures { λ r. ⌜ r ≡ shares (now (ws .entry)) w x y ⌝ }
+{
+    let p = x * w;
+    let q = y * w;
+    for k in 0..w {
+        let a = cells::get64(ws, p + k);
+        let b = cells::get64(ws, q + k);
+        if a & b != 0 {
+            return true;
+        }
+    }
+    false
+}
+
+struct Holders {
+    two: u64,
+    three: u64,
+}
+
+// Of word `k` the indices that two or more of the first `m` slots of `live` hold, and those that three or more hold.
+fn count_holders(ws: &[u64], w: usize, live: &[u16], m: usize, k: usize) -> Holders
+    requires { ⌜ (w ≤ 16) × (k < 1048576) ⌝ }
+    ensures { λ r. ⌜ (r .two ≡ countWord (now (ws .entry)) w (now (live .entry)) k 2 m) × (r .three ≡ countWord (now (ws .entry)) w (now (live .entry)) k 3 m) ⌝ }
+{
+    let mut one: u64 = 0;
+    let mut two: u64 = 0;
+    let mut three: u64 = 0;
+    for i in 0..m {
+        let x = cells::get64(ws, cells::at16(live, i) * w + k);
+        three = three | two & x;
+        two = two | one & x;
+        one = one | x;
+    }
+    Holders { two, three }
+}
+
+// Makes slot 257 what two or more of the first `m` slots of `live` hold, and slot 258 what three or more hold, each with slot 256.
+pub fn put_holders(ws: &mut [u64], w: usize, live: &[u16], m: usize)
+    requires { ⌜ w ≤ 16 ⌝ }
+    ensures { λ _. ⌜ now (ws .exit) ≡ withHolders (now (ws .entry)) w (now (live .entry)) m ⌝ }
+{
+    for k in 0..w {
+        let h = count_holders(ws, w, live, m, k);
+        let e = cells::get64(ws, 256 * w + k);
+        cells::put64(ws, 257 * w + k, h.two | e);
+        cells::put64(ws, 258 * w + k, h.three | e);
+    }
+}
+
+// Word `k` of the table that a merge of slots `x` and `y` makes.
+fn merged_word(ws: &[u64], w: usize, x: usize, y: usize, k: usize) -> u64
+    requires { ⌜ (w ≤ 16) × (x < 1048576) × (y < 1048576) × (k < 1048576) ⌝ }
+    ensures { λ r. ⌜ r ≡ wordAt (now (ws .entry)) w x y k ⌝ }
+{
+    let a = cells::get64(ws, x * w + k);
+    let b = cells::get64(ws, y * w + k);
+    let two = cells::get64(ws, 257 * w + k);
+    let three = cells::get64(ws, 258 * w + k);
+    a & b & three | (a ^ b) & two
+}
+
+// Its size bits.
+pub fn merged_size(ws: &[u64], w: usize, x: usize, y: usize, weights: &[u8]) -> usize
+    requires { ⌜ (w ≤ 16) × (x < 1048576) × (y < 1048576) × Light (now weights) ⌝ }
+    ensures { λ r. ⌜ r ≡ pairBits (now (ws .entry)) w (now (weights .entry)) x y ⌝ }
+{
+    let mut sum: usize = 0;
+    for k in 0..w {
+        let v = merged_word(ws, w, x, y, k);
+        sum += slots::weigh_word(v, k * 64, weights, &weights[..0]);
+    }
+    sum
+}
+
+// Makes slot `z` the table that a merge of slots `x` and `y` makes.
+pub fn put_merged(ws: &mut [u64], w: usize, x: usize, y: usize, z: usize)
+    requires { ⌜ (w ≤ 16) × (x < 1048576) × (y < 1048576) × (z < 1048576) ⌝ }
+    ensures { λ _. ⌜ now (ws .exit) ≡ withSet (now (ws .entry)) w z (mergedSet (now (ws .entry)) w x y) ⌝ }
+{
+    let r = z * w;
+    for k in 0..w {
+        let v = merged_word(ws, w, x, y, k);
+        cells::put64(ws, r + k, v);
+    }
+}

@@ -1,0 +1,10 @@
+pub mod Listed
+pub mod Tables
+pub mod Ruled
+pub mod Holds
+pub mod Turn
+pub mod After
+pub mod Agree
+pub mod Removed
+pub mod Merge
+pub mod Connect

@@ -1,0 +1,100 @@
+// The least pair of each live table, kept from turn to turn in a list by slot, and the least of all.
+ghost use mathlib.Core.Path.{_≡_};
+ghost use Prim.Native.Nat.{_<_, _≤_};
+ghost use lib.ListN.{getD};
+ghost use Rattle.slots.specs.Weigh.{Light};
+ghost use Rattle.rows.specs.Rows.{stands, renewed, renewedAll, bettered, leastOf};
+use scores::NONE;
+use scores::WIDE;
+
+// What stands in the list for a table whose least pair is yet to be found, and for a table that is gone.
+pub const STALE: usize = 258;
+
+pub const GONE: usize = 259;
+
+// Does an entry stand: it was found, and its other table is not gone.
+fn still(rows: &[u64], r: usize) -> bool
+    ensures { λ t. ⌜ t ≡ stands (now (rows .entry)) r ⌝ }
+{
+    if r == STALE {
+        return false;
+    }
+    scores::at(rows, r % 512) != GONE
+}
+
+// Finds the entry of the `k`-th live table anew, where it does not stand.
+fn renew(
+    ws: &[u64],
+    w: usize,
+    weights: &[u8],
+    sizes: &[u64],
+    n0: usize,
+    live: &[u16],
+    k: usize,
+    rows: &mut [u64],
+)
+    requires { ⌜ (w ≤ 16) × Light (now weights) ⌝ }
+    ensures { λ _. ⌜ now (rows .exit) ≡ renewed (now (ws .entry)) w (now (weights .entry)) (now (sizes .entry)) n0 (now (live .entry)) k (now (rows .entry)) ⌝ }
+{
+    let y = cells::at16(live, k);
+    let r = scores::at(rows, y);
+    if still(rows, r) {
+        return;
+    }
+    let b = scores::row(ws, w, weights, sizes, n0, live, k, y);
+    cells::put64(rows, y, b as u64);
+}
+
+// The same for the first `m` live tables.
+pub fn renew_all(
+    ws: &[u64],
+    w: usize,
+    weights: &[u8],
+    sizes: &[u64],
+    n0: usize,
+    live: &[u16],
+    m: usize,
+    rows: &mut [u64],
+)
+    requires { ⌜ (w ≤ 16) × Light (now weights) ⌝ }
+    ensures { λ _. ⌜ now (rows .exit) ≡ renewedAll (now (ws .entry)) w (now (weights .entry)) (now (sizes .entry)) n0 (now (live .entry)) (now (rows .entry)) m ⌝ }
+{
+    for k in 0..m {
+        renew(ws, w, weights, sizes, n0, live, k, rows);
+    }
+}
+
+// The table with the least pair so far, when `y` is looked at too.
+fn better(sizes: &[u64], n0: usize, rows: &[u64], best: usize, y: usize) -> usize
+    ensures { λ r. ⌜ r ≡ bettered (now (sizes .entry)) n0 (now (rows .entry)) best y ⌝ }
+{
+    if best == WIDE {
+        return best;
+    }
+    let r = scores::at(rows, y);
+    if r == WIDE {
+        return WIDE;
+    }
+    if r == NONE {
+        return best;
+    }
+    if best == NONE {
+        return y;
+    }
+    let b = scores::at(rows, best);
+    if scores::sooner(sizes, n0, r % 512, y, r / 512, b % 512, best, b / 512) {
+        return y;
+    }
+    best
+}
+
+// Of the first `m` live tables, the one with the least pair; NONE; or WIDE where a pair is too wide.
+pub fn least(sizes: &[u64], n0: usize, rows: &[u64], live: &[u16], m: usize) -> usize
+    ensures { λ r. ⌜ (r ≡ leastOf (now (sizes .entry)) n0 (now (rows .entry)) (now (live .entry)) m) × (r < 65536) ⌝ }
+{
+    let mut best = NONE;
+    for k in 0..m {
+        best = better(sizes, n0, rows, best, cells::at16(live, k));
+    }
+    best
+}
