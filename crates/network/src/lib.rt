@@ -17,9 +17,13 @@ pub struct Network {
 
 impl Network {
     pub const LEAVES: usize = 128;
+
     pub const INDICES: usize = 256;
+
     pub const LEGS: usize = 32;
+
     pub const OUTPUTS: usize = 32;
+
     pub const WEIGHT: u8 = 8;
 
     pub fn empty() -> Self

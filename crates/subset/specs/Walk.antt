@@ -1,0 +1,56 @@
+-- The walk over the splits of one mask, on tables of costs and work bits, and where those tables stand in a list of words. Definitions only.
+-- Assumes nothing.
+use mathlib.Core.Bool.{Bool, _&&_, cond}
+use mathlib.Core.List.{List, [], _∷_}
+use mathlib.Core.Path.{_≡_}
+use Prim.Native.Nat.{ℕ, _+_, _-_, _*_, _^_, _≤_, _<_}
+use lib.Bits.{bitAnd}
+use lib.Count.{ones}
+use lib.Dec.{eqb, ltb}
+use lib.ListN.{length, getD, drop}
+use Rattle.laws.specs.Masks.{submasks}
+use Rattle.slots.specs.Weigh.{Light, weighed, either}
+use Rattle.subset.specs.declared.Choice.{Choice}
+
+-- 2^53
+abbrev pub infinite : ℕ
+infinite = 9007199254740992
+
+-- 2 to the power e if that is below `room`, else 0
+unfoldable pub stepCost : ℕ → ℕ → ℕ
+stepCost e room = cond (ltb (2 ^ e) room) (2 ^ e) 0
+
+-- ---- the walk ----
+
+-- the least cost of each mask, and the work bits of the step that joins two masks' tables
+module _ (best : ℕ → ℕ) (work : ℕ → ℕ → ℕ) where
+  -- the split whose part is sub + low: the choice so far, or this one if it is strictly cheaper
+  unfoldable pub considered : ℕ → ℕ → ℕ → Choice → Choice
+  considered low rest sub c =
+      let new = best (sub + low) + best (rest - sub) + 2 ^ work (sub + low) (rest - sub) in
+      cond (ltb new (c .cost)) (record { cost = new; part = sub + low }) c
+
+  abbrev pub scanMasks : ℕ → ℕ → Choice → List ℕ → Choice
+  scanMasks low rest c [] = c
+  scanMasks low rest c (sub ∷ l) = scanMasks low rest (considered low rest sub c) l
+
+  -- the first cheapest split of the mask rest + low, of m bits, whose part holds low
+  unfoldable pub cheapestOf : ℕ → ℕ → ℕ → Choice
+  cheapestOf m low rest = scanMasks low rest (record { cost = infinite; part = 0 }) (drop 1 (submasks m rest))
+
+-- ---- the tables ----
+
+-- the work bits of the step that joins the tables of the masks l and r: slot 2 n + s has the indices that mask s keeps
+unfoldable pub workAt : List ℕ → List ℕ → ℕ → ℕ → ℕ → ℕ
+workAt ws wt n l r = weighed wt [] (either ws 2 (2 * n + l) (2 * n + r)) 128
+
+abbrev pub bestAt : List ℕ → ℕ → ℕ
+bestAt ws s = getD ws s 0
+
+-- the tables have their room, and the bits of each mask's table stand in their place
+pub record Tables (ws wt : List ℕ) (n : ℕ) : Type 0 where
+  pub few : n ≤ 4096
+  pub room : 7 * n ≤ length ws
+  pub weights : 128 ≤ length wt
+  pub light : Light wt
+  pub sized : (s : ℕ) → 1 ≤ s → s < n → getD ws (6 * n + s) 0 ≡ workAt ws wt n s s
