@@ -2,3 +2,5 @@
 pub mod Weights
 pub mod Walk
 pub mod Considers
+pub mod Walking
+pub mod Entries

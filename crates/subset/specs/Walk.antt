@@ -11,6 +11,7 @@ use lib.ListN.{length, getD, drop}
 use Rattle.laws.specs.Masks.{submasks}
 use Rattle.slots.specs.Weigh.{Light, weighed, either}
 use Rattle.subset.specs.declared.Choice.{Choice}
+use Rattle.subset.specs.declared.Entry.{Entry}
 
 -- 2^53
 abbrev pub infinite : ℕ
@@ -34,9 +35,24 @@ module _ (best : ℕ → ℕ) (work : ℕ → ℕ → ℕ) where
   scanMasks low rest c [] = c
   scanMasks low rest c (sub ∷ l) = scanMasks low rest (considered low rest sub c) l
 
-  -- the first cheapest split of the mask rest + low, of m bits, whose part holds low
-  unfoldable pub cheapestOf : ℕ → ℕ → ℕ → Choice
-  cheapestOf m low rest = scanMasks low rest (record { cost = infinite; part = 0 }) (drop 1 (submasks m rest))
+  -- the first cheapest split of the mask rest + low whose part holds low
+  unfoldable pub cheapestOf : ℕ → ℕ → Choice
+  cheapestOf low rest = scanMasks low rest (record { cost = infinite; part = 0 }) (drop 1 (submasks rest rest))
+
+  -- ---- one mask, of n in all, with the limit on its table's bits ----
+  module _ (n limit : ℕ) where
+    -- is it passed over: it is not the full one, and its table is above the limit
+    unfoldable pub passedOver : ℕ → Bool
+    passedOver s = ltb (s + 1) n && ltb limit (work s s)
+
+    -- what is found for it: a single member costs nothing
+    unfoldable pub entryOf : ℕ → Entry
+    entryOf s =
+        let rest = bitAnd s (s - 1) in
+        let c = cheapestOf (s - rest) rest in
+        let searched : Entry = record { cost = c .cost; part = c .part; tried = 2 ^ ones rest - 1 } in
+        cond (eqb rest 0) (record { cost = 0; part = 0; tried = 0 })
+        (cond (passedOver s) (record { cost = infinite; part = 0; tried = 0 }) searched)
 
 -- ---- the tables ----
 

@@ -9,7 +9,7 @@ ghost use lib.Dec.{ltb};
 ghost use lib.ListN.{length};
 ghost use Rattle.slots.specs.Weigh.{Light, weighed, either};
 ghost use Rattle.subset.specs.Weights.{weightBelow};
-ghost use Rattle.subset.specs.Walk.{infinite, stepCost, considered, workAt, bestAt, Tables};
+ghost use Rattle.subset.specs.Walk.{infinite, stepCost, considered, cheapestOf, entryOf, workAt, bestAt, Tables};
 
 // From 2^53 on a cost counts as infinite.
 const INFINITE: u64 = 9007199254740992;
@@ -109,5 +109,70 @@ fn consider<'a>(
     Choice {
         cost: a + b + step,
         part: l,
+    }
+}
+
+// The first cheapest split of `low` + `rest` whose part holds `low`.
+fn cheapest_split<'a>(
+    words: &'a [u64],
+    weights: &'a [u8],
+    n: usize,
+    low: usize,
+    rest: usize,
+) -> Choice
+    requires { ⌜ Tables (now words) (now weights) n ⌝ }
+    requires { ⌜ (1 ≤ low) × (low + rest < n) ⌝ }
+    ensures { λ c. ⌜ c ≡ cheapestOf (bestAt (now (words .entry))) (workAt (now (words .entry)) (now (weights .entry)) n) low rest ⌝ }
+{
+    let mut found = Choice {
+        cost: INFINITE,
+        part: 0,
+    };
+    let mut sub = rest;
+    let cheapest = loop {
+        if sub == 0 {
+            break found;
+        }
+        sub = (sub - 1) & rest;
+        found = consider(words, weights, n, low, rest, sub, found);
+    };
+    cheapest
+}
+
+// What is found for a mask: the least cost, the part of the first split that has it, and how many splits are tried.
+pub struct Entry {
+    pub cost: u64,
+    pub part: usize,
+    pub tried: u64,
+}
+
+// The mask `s`, from what is found for the masks below it. A mask that is not the full one is passed over if its table is above the limit.
+fn search_mask<'a>(words: &'a [u64], weights: &'a [u8], limit: u64, n: usize, s: usize) -> Entry
+    requires { ⌜ Tables (now words) (now weights) n ⌝ }
+    requires { ⌜ (1 ≤ s) × (s < n) ⌝ }
+    ensures { λ e. ⌜ e ≡ entryOf (bestAt (now (words .entry))) (workAt (now (words .entry)) (now (weights .entry)) n) n limit s ⌝ }
+{
+    let rest = s & (s - 1);
+    if rest == 0 {
+        return Entry {
+            cost: 0,
+            part: 0,
+            tried: 0,
+        };
+    }
+    if s + 1 < n {
+        if limit < words[6 * n + s] {
+            return Entry {
+                cost: INFINITE,
+                part: 0,
+                tried: 0,
+            };
+        }
+    }
+    let found = cheapest_split(words, weights, n, s - rest, rest);
+    Entry {
+        cost: found.cost,
+        part: found.part,
+        tried: (1 << bits::count_ones(rest as u64)) - 1,
     }
 }
