@@ -4,3 +4,4 @@ pub mod Walk
 pub mod Considers
 pub mod Walking
 pub mod Entries
+pub mod Fills

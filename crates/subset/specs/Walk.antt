@@ -3,7 +3,7 @@
 use mathlib.Core.Bool.{Bool, _&&_, cond}
 use mathlib.Core.List.{List, [], _∷_}
 use mathlib.Core.Path.{_≡_}
-use Prim.Native.Nat.{ℕ, _+_, _-_, _*_, _^_, _≤_, _<_}
+use Prim.Native.Nat.{ℕ, zero, suc, _+_, _-_, _*_, _^_, _≤_, _<_}
 use lib.Bits.{bitAnd}
 use lib.Count.{ones}
 use lib.Dec.{eqb, ltb}
@@ -54,6 +54,23 @@ module _ (best : ℕ → ℕ) (work : ℕ → ℕ → ℕ) where
         cond (eqb rest 0) (record { cost = 0; part = 0; tried = 0 })
         (cond (passedOver s) (record { cost = infinite; part = 0; tried = 0 }) searched)
 
+    -- how many splits are tried for it
+    unfoldable pub triedOf : ℕ → ℕ
+    triedOf s =
+        let rest = bitAnd s (s - 1) in
+        cond (eqb rest 0) 0 (cond (passedOver s) 0 (2 ^ ones rest - 1))
+
+-- f 0 + f 1 + .. + f (n - 1)
+unfoldable pub sumBelow : (ℕ → ℕ) → ℕ → ℕ
+sumBelow f zero = 0
+sumBelow f (suc n) = sumBelow f n + f n
+
+-- the tables are filled below the mask `top`, and so many splits were tried
+pub record Filled (best split : ℕ → ℕ) (work : ℕ → ℕ → ℕ) (n limit top tried : ℕ) : Type 0 where
+  pub costs : (s : ℕ) → 1 ≤ s → s < top → best s ≡ entryOf best work n limit s .cost
+  pub parts : (s : ℕ) → 1 ≤ s → s < top → split s ≡ entryOf best work n limit s .part
+  pub count : tried ≡ sumBelow (triedOf best work n limit) top
+
 -- ---- the tables ----
 
 -- the work bits of the step that joins the tables of the masks l and r: slot 2 n + s has the indices that mask s keeps
@@ -62,6 +79,9 @@ workAt ws wt n l r = weighed wt [] (either ws 2 (2 * n + l) (2 * n + r)) 128
 
 abbrev pub bestAt : List ℕ → ℕ → ℕ
 bestAt ws s = getD ws s 0
+
+abbrev pub splitAt : List ℕ → ℕ → ℕ → ℕ
+splitAt ws n s = getD ws (n + s) 0
 
 -- the tables have their room, and the bits of each mask's table stand in their place
 pub record Tables (ws wt : List ℕ) (n : ℕ) : Type 0 where

@@ -9,7 +9,7 @@ ghost use lib.Dec.{ltb};
 ghost use lib.ListN.{length};
 ghost use Rattle.slots.specs.Weigh.{Light, weighed, either};
 ghost use Rattle.subset.specs.Weights.{weightBelow};
-ghost use Rattle.subset.specs.Walk.{infinite, stepCost, considered, cheapestOf, entryOf, workAt, bestAt, Tables};
+ghost use Rattle.subset.specs.Walk.{infinite, stepCost, considered, cheapestOf, entryOf, Filled, workAt, bestAt, splitAt, Tables};
 
 // From 2^53 on a cost counts as infinite.
 const INFINITE: u64 = 9007199254740992;
@@ -175,4 +175,20 @@ fn search_mask<'a>(words: &'a [u64], weights: &'a [u8], limit: u64, n: usize, s:
         part: found.part,
         tried: (1 << bits::count_ones(rest as u64)) - 1,
     }
+}
+
+// Fills the tables of costs and parts, from the lowest mask up, and returns how many splits are tried.
+fn fill(words: &mut [u64], weights: &[u8], limit: u64, n: usize) -> u64
+    requires { ⌜ Tables (now words) (now weights) n ⌝ }
+    requires { ⌜ 1 ≤ n ⌝ }
+    ensures { λ r. ⌜ Filled (bestAt (now (words .exit))) (splitAt (now (words .exit)) n) (workAt (now (words .entry)) (now (weights .entry)) n) n limit n r ⌝ }
+{
+    let mut tried: u64 = 0;
+    for s in 1..n {
+        let e = search_mask(words, weights, limit, n, s);
+        words[s] = e.cost;
+        words[n + s] = e.part as u64;
+        tried += e.tried;
+    }
+    tried
 }
