@@ -12,7 +12,8 @@ use Rattle.spec.specs.Lists.{keep, range, sumOf}
 use Rattle.laws.specs.Booleans.{by-cases, clash, or-introl, or-intror}
 use Rattle.slots.specs.Slots.{held}
 use Rattle.slots.specs.Weigh.{openWeight, weighed, either}
-use Rattle.subset.specs.Walk.{infinite, stepCost, considered, workAt, bestAt, Tables}
+use Rattle.masks.specs.Tables.{workAt}
+use Rattle.subset.specs.Walk.{infinite, stepCost, considered}
 use Rattle.subset.specs.declared.Choice.{Choice}
 
 -- ---- a larger set weighs no less ----

@@ -23,7 +23,7 @@ module _ (best : ℕ → ℕ) (work : ℕ → ℕ → ℕ) (n limit s : ℕ) whe
   entry-passed h k = rw (ne-eqb (bitAnd s (s - 1)) 0 h, k)
 
   pub entry-searched : (bitAnd s (s - 1) ≡ 0 → ⊥) → passedOver best work n limit s ≡ false → (c : Choice) (t : ℕ)
-      → c ≡ cheapestOf best work (s - bitAnd s (s - 1)) (bitAnd s (s - 1)) → t ≡ 2 ^ ones (bitAnd s (s - 1)) - 1
+      → c ≡ cheapestOf best work n (s - bitAnd s (s - 1)) (bitAnd s (s - 1)) → t ≡ 2 ^ ones (bitAnd s (s - 1)) - 1
       → _≡_ {A = Entry} (record { cost = c .cost; part = c .part; tried = t }) (entryOf best work n limit s)
   unfolding entryOf
   entry-searched h k c t e f = rw (ne-eqb (bitAnd s (s - 1)) 0 h, k) (λ i. record { cost = e i .cost; part = e i .part; tried = f i })

@@ -17,6 +17,7 @@ use Rattle.laws.specs.Masks.{submasks, Down, Under, down-under, submasks-first,
 use Rattle.bits.specs.Digits.{digit}
 use Rattle.slots.specs.Slots.{held}
 use Rattle.slots.specs.Weigh.{weighed-ext}
+use Rattle.masks.specs.Tables.{workAt, Tables}
 use Rattle.subset.specs.Walk.{
   infinite,
   considered,
@@ -27,10 +28,8 @@ use Rattle.subset.specs.Walk.{
   triedOf,
   sumBelow,
   Filled,
-  workAt,
   bestAt,
   splitAt,
-  Tables,
 }
 use Rattle.subset.specs.Walking.{own-bits}
 use Rattle.subset.specs.Entries.{few-ones}
@@ -51,19 +50,19 @@ module _ (B C : ℕ → ℕ) (work : ℕ → ℕ → ℕ) (s : ℕ) (agree : (l 
       ap (λ c. scanMasks B work low rest c l) (considered-same low rest sub c (omega (arith, u .0)) (omega arith))
       ∙ scan-same low rest h k (considered C work low rest sub c) l (u .1)
 
-  cheapest-same : (low rest : ℕ) → 1 ≤ low → rest + low ≤ s → cheapestOf B work low rest ≡ cheapestOf C work low rest
+  cheapest-same : (n low rest : ℕ) → 1 ≤ low → rest + low ≤ s → rest < n → cheapestOf B work n low rest ≡ cheapestOf C work n low rest
   unfolding cheapestOf
-  cheapest-same low rest h k =
-      let (l, e) = submasks-first rest rest (own-bits rest) in
-      let d : Down rest (rest ∷ l) = subst (Down rest) e (submasks-down rest rest) in
+  cheapest-same n low rest h k b =
+      let (l, e) = submasks-first n rest (omega (arith, own-bits n)) in
+      let d : Down rest (rest ∷ l) = subst (Down rest) e (submasks-down n rest) in
       subst (λ x. scanMasks B work low rest (record { cost = infinite; part = 0 }) (drop 1 x) ≡ scanMasks C work low rest (record { cost = infinite; part = 0 }) (drop 1 x))
       (sym e) (scan-same low rest h k (record { cost = infinite; part = 0 }) l (down-under rest rest l d))
 
-  pub entry-same : (n limit : ℕ) → 1 ≤ s → entryOf B work n limit s ≡ entryOf C work n limit s
+  pub entry-same : (n limit : ℕ) → 1 ≤ s → s < n → entryOf B work n limit s ≡ entryOf C work n limit s
   unfolding entryOf passedOver
-  entry-same n limit a =
+  entry-same n limit a b =
       let le : bitAnd s (s - 1) ≤ s - 1 = and-le-r s (s - 1) in
-      rw (cheapest-same (s - bitAnd s (s - 1)) (bitAnd s (s - 1)) (omega arith) (omega arith))
+      rw (cheapest-same n (s - bitAnd s (s - 1)) (bitAnd s (s - 1)) (omega arith) (omega arith) (omega arith))
 
 -- ---- counts ----
 
@@ -103,11 +102,11 @@ fill-start B S work n limit =
     record { costs = λ s a b. absurd (omega arith); parts = λ s a b. absurd (omega arith); count = refl }
 
 -- one mask more: the new tables differ from the old at s alone
-module _ (B S B′ S′ : ℕ → ℕ) (work : ℕ → ℕ → ℕ) (n limit s tried : ℕ) (e : Entry) (some : 1 ≤ s) (same : (l : ℕ) → l < s → B′ l ≡ B l)
+module _ (B S B′ S′ : ℕ → ℕ) (work : ℕ → ℕ → ℕ) (n limit s tried : ℕ) (e : Entry) (some : 1 ≤ s) (less : s < n) (same : (l : ℕ) → l < s → B′ l ≡ B l)
     (parted : (l : ℕ) → l < s → S′ l ≡ S l) (found : e ≡ entryOf B work n limit s)
   where
     at : (i : ℕ) → 1 ≤ i → i ≤ s → entryOf B work n limit i ≡ entryOf B′ work n limit i
-    at i a b = entry-same B B′ work i (λ l h. sym (same l (omega arith))) n limit a
+    at i a b = entry-same B B′ work i (λ l h. sym (same l (omega arith))) n limit a (omega arith)
 
     pub fill-step : B′ s ≡ e .cost → S′ s ≡ e .part → Filled B S work n limit s tried → Filled B′ S′ work n limit (s + 1) (tried + e .tried)
     fill-step hB hS f =
@@ -188,7 +187,7 @@ module _ (was ws wt : List ℕ) (n limit s tried : ℕ) (e : Entry) (same : Same
   pub fill-next : e ≡ entryOf (bestAt ws) (workAt ws wt n) n limit s → Filled (bestAt ws) (splitAt ws n) (workAt was wt n) n limit s tried
       → Filled (bestAt next) (splitAt next n) (workAt was wt n) n limit (s + 1) (tried + e .tried)
   fill-next h f =
-      fill-step (bestAt ws) (splitAt ws n) (bestAt next) (splitAt next n) (workAt was wt n) n limit s tried e some
+      fill-step (bestAt ws) (splitAt ws n) (bestAt next) (splitAt next n) (workAt was wt n) n limit s tried e some less
       (λ l b. getD-set-other (set ws s (e .cost)) (n + s) l (e .part) 0 (λ q. omega arith) ∙ getD-set-other ws s l (e .cost) 0 (λ q. omega arith))
       (λ l b. getD-set-other (set ws s (e .cost)) (n + s) (n + l) (e .part) 0 (λ q. omega arith) ∙ getD-set-other ws s (n + l) (e .cost) 0 (λ q. omega arith))
       (h ∙ ap (λ w. entryOf (bestAt ws) w n limit s) (work-same was ws wt n same)) at-cost at-part f

@@ -1,5 +1,4 @@
 -- The search over subsets on tables: weighing, the walk over the splits of a mask, and what the tables stand for. Assumes nothing.
-pub mod Weights
 pub mod Walk
 pub mod Considers
 pub mod Walking

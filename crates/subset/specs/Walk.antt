@@ -7,9 +7,8 @@ use Prim.Native.Nat.{ℕ, zero, suc, _+_, _-_, _*_, _^_, _≤_, _<_}
 use lib.Bits.{bitAnd}
 use lib.Count.{ones}
 use lib.Dec.{eqb, ltb}
-use lib.ListN.{length, getD, drop}
+use lib.ListN.{getD, drop}
 use Rattle.laws.specs.Masks.{submasks}
-use Rattle.slots.specs.Weigh.{Light, weighed, either}
 use Rattle.subset.specs.declared.Choice.{Choice}
 use Rattle.subset.specs.declared.Entry.{Entry}
 
@@ -35,9 +34,9 @@ module _ (best : ℕ → ℕ) (work : ℕ → ℕ → ℕ) where
   scanMasks low rest c [] = c
   scanMasks low rest c (sub ∷ l) = scanMasks low rest (considered low rest sub c) l
 
-  -- the first cheapest split of the mask rest + low whose part holds low
-  unfoldable pub cheapestOf : ℕ → ℕ → Choice
-  cheapestOf low rest = scanMasks low rest (record { cost = infinite; part = 0 }) (drop 1 (submasks rest rest))
+  -- the first cheapest split of the mask rest + low, of n bits, whose part holds low
+  unfoldable pub cheapestOf : ℕ → ℕ → ℕ → Choice
+  cheapestOf n low rest = scanMasks low rest (record { cost = infinite; part = 0 }) (drop 1 (submasks n rest))
 
   -- ---- one mask, of n in all, with the limit on its table's bits ----
   module _ (n limit : ℕ) where
@@ -49,7 +48,7 @@ module _ (best : ℕ → ℕ) (work : ℕ → ℕ → ℕ) where
     unfoldable pub entryOf : ℕ → Entry
     entryOf s =
         let rest = bitAnd s (s - 1) in
-        let c = cheapestOf (s - rest) rest in
+        let c = cheapestOf n (s - rest) rest in
         let searched : Entry = record { cost = c .cost; part = c .part; tried = 2 ^ ones rest - 1 } in
         cond (eqb rest 0) (record { cost = 0; part = 0; tried = 0 })
         (cond (passedOver s) (record { cost = infinite; part = 0; tried = 0 }) searched)
@@ -73,20 +72,8 @@ pub record Filled (best split : ℕ → ℕ) (work : ℕ → ℕ → ℕ) (n lim
 
 -- ---- the tables ----
 
--- the work bits of the step that joins the tables of the masks l and r: slot 2 n + s has the indices that mask s keeps
-unfoldable pub workAt : List ℕ → List ℕ → ℕ → ℕ → ℕ → ℕ
-workAt ws wt n l r = weighed wt [] (either ws 2 (2 * n + l) (2 * n + r)) 128
-
 abbrev pub bestAt : List ℕ → ℕ → ℕ
 bestAt ws s = getD ws s 0
 
 abbrev pub splitAt : List ℕ → ℕ → ℕ → ℕ
 splitAt ws n s = getD ws (n + s) 0
-
--- the tables have their room, and the bits of each mask's table stand in their place
-pub record Tables (ws wt : List ℕ) (n : ℕ) : Type 0 where
-  pub few : n ≤ 4096
-  pub room : 7 * n ≤ length ws
-  pub weights : 128 ≤ length wt
-  pub light : Light wt
-  pub sized : (s : ℕ) → 1 ≤ s → s < n → getD ws (6 * n + s) 0 ≡ workAt ws wt n s s

@@ -17,7 +17,7 @@ pub own-bits : (x : ℕ) → x < 2 ^ x
 own-bits zero = omega arith
 own-bits (suc x) = omega (arith, own-bits x, two-pow-succ x)
 
-module _ (best : ℕ → ℕ) (work : ℕ → ℕ → ℕ) (low rest : ℕ) where
+module _ (best : ℕ → ℕ) (work : ℕ → ℕ → ℕ) (n low rest : ℕ) where
   -- no choice costs more than the one before it
   pub no-dearer : (sub : ℕ) (c d : Choice) → d ≡ considered best work low rest sub c → d .cost ≤ c .cost
   unfolding considered
@@ -32,16 +32,16 @@ module _ (best : ℕ → ℕ) (work : ℕ → ℕ → ℕ) (low rest : ℕ) wher
     pub below : c .cost ≤ infinite
     pub left : List ℕ
     pub down : Down rest (sub ∷ left)
-    pub leads : scanMasks best work low rest c left ≡ cheapestOf best work low rest
+    pub leads : scanMasks best work low rest c left ≡ cheapestOf best work n low rest
 
-  pub walk-start : Walking (record { cost = infinite; part = 0 }) rest
+  pub walk-start : rest < n → Walking (record { cost = infinite; part = 0 }) rest
   unfolding cheapestOf
-  walk-start =
-      let (l, e) = submasks-first rest rest (own-bits rest) in
+  walk-start h =
+      let (l, e) = submasks-first n rest (omega (arith, own-bits n)) in
       record {
         below = omega arith;
         left = l;
-        down = subst (Down rest) e (submasks-down rest rest);
+        down = subst (Down rest) e (submasks-down n rest);
         leads = ap (λ l. scanMasks best work low rest (record { cost = infinite; part = 0 }) (drop 1 l)) (sym e);
       }
 
@@ -49,7 +49,7 @@ module _ (best : ℕ → ℕ) (work : ℕ → ℕ → ℕ) (low rest : ℕ) wher
       → Walking d (bitAnd (sub - 1) rest)
   walk-step c d sub w h q = go (w .left) (w .down) (w .leads)
     where
-      go : (l : List ℕ) → Down rest (sub ∷ l) → scanMasks best work low rest c l ≡ cheapestOf best work low rest → Walking d (bitAnd (sub - 1) rest)
+      go : (l : List ℕ) → Down rest (sub ∷ l) → scanMasks best work low rest c l ≡ cheapestOf best work n low rest → Walking d (bitAnd (sub - 1) rest)
       go [] y e = absurd (h y)
       go (x ∷ l) y e =
           record {
@@ -59,9 +59,9 @@ module _ (best : ℕ → ℕ) (work : ℕ → ℕ → ℕ) (low rest : ℕ) wher
             leads = ap (λ f. scanMasks best work low rest f l) q ∙ ap (λ s. scanMasks best work low rest (considered best work low rest s c) l) (sym (y .1)) ∙ e;
           }
 
-  pub walk-end : (c : Choice) (sub : ℕ) → Walking c sub → sub ≡ 0 → c ≡ cheapestOf best work low rest
+  pub walk-end : (c : Choice) (sub : ℕ) → Walking c sub → sub ≡ 0 → c ≡ cheapestOf best work n low rest
   walk-end c sub w z = go (w .left) (w .down) (w .leads)
     where
-      go : (l : List ℕ) → Down rest (sub ∷ l) → scanMasks best work low rest c l ≡ cheapestOf best work low rest → c ≡ cheapestOf best work low rest
+      go : (l : List ℕ) → Down rest (sub ∷ l) → scanMasks best work low rest c l ≡ cheapestOf best work n low rest → c ≡ cheapestOf best work n low rest
       go [] d e = e
       go (x ∷ l) d e = absurd (omega (arith, d .0))

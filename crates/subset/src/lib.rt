@@ -1,42 +1,13 @@
-// The search over the subsets of up to 12 members, as masks, in one lent list of words. With n = 2^m for m members, and slots of two words:
-// word s has the least cost of the mask s, word n + s the part that a split of that cost has, slot n + s the members' sets united,
-// slot 2 n + s the indices that the mask's table keeps, and word 6 n + s how many bits those are.
-
-ghost use mathlib.Core.List.{[]};
+// The search over the subsets of up to 12 members, as masks. With n masks, word s of the lent list has the least cost of the mask s, and word
+// n + s the part of the first split that has it. What crate `masks` says of the masks' sets stands from word 2 n on.
 ghost use mathlib.Core.Path.{_≡_};
-ghost use Prim.Native.Nat.{_+_, _*_, _^_, _<_, _≤_};
+ghost use Prim.Native.Nat.{_+_, _^_, _<_, _≤_};
 ghost use lib.Dec.{ltb};
-ghost use lib.ListN.{length};
-ghost use Rattle.slots.specs.Weigh.{Light, weighed, either};
-ghost use Rattle.subset.specs.Weights.{weightBelow};
-ghost use Rattle.subset.specs.Walk.{infinite, stepCost, considered, cheapestOf, entryOf, Filled, workAt, bestAt, splitAt, Tables};
+ghost use Rattle.masks.specs.Tables.{workAt, Tables};
+ghost use Rattle.subset.specs.Walk.{infinite, stepCost, considered, cheapestOf, entryOf, Filled, bestAt, splitAt};
 
 // From 2^53 on a cost counts as infinite.
 const INFINITE: u64 = 9007199254740992;
-
-// The summed weights of the indices `base` + i for each set digit i of `x`, place by place.
-fn weigh_word(x: u64, base: usize, weights: &[u8]) -> usize
-    requires { ⌜ (base + 64 ≤ length (now weights)) × Light (now weights) ⌝ }
-    ensures { λ r. ⌜ (r ≡ weightBelow (now (weights .entry)) base 64 x) × (r ≤ 512) ⌝ }
-{
-    let mut sum: usize = 0;
-    for i in 0..64 {
-        sum += ((x >> i) % 2) as usize * weights[base + i] as usize;
-    }
-    sum
-}
-
-// The summed weights of the indices in slot `a` or slot `b`, of two words each.
-pub fn weigh(words: &[u64], a: usize, b: usize, weights: &[u8]) -> usize
-    requires { ⌜ (a * 2 + 2 ≤ length (now words)) × (b * 2 + 2 ≤ length (now words)) × (128 ≤ length (now weights)) × Light (now weights) ⌝ }
-    ensures { λ r. ⌜ (r ≡ weighed (now (weights .entry)) [] (either (now (words .entry)) 2 a b) 128) × (r ≤ 1024) ⌝ }
-{
-    let p = a * 2;
-    let q = b * 2;
-    let low = weigh_word(words[p] | words[q], 0, weights);
-    let high = weigh_word(words[p + 1] | words[q + 1], 64, weights);
-    low + high
-}
 
 // A cost, and the part of the split that has it.
 pub struct Choice {
@@ -72,7 +43,7 @@ fn step_cost<'a>(
     if !below(words[6 * n + r], room) {
         return 0;
     }
-    let work = weigh(words, 2 * n + l, 2 * n + r, weights) as u64;
+    let work = masks::weigh(words, 2 * n + l, 2 * n + r, weights) as u64;
     if below(work, room) { 1 << work } else { 0 }
 }
 
@@ -122,7 +93,7 @@ fn cheapest_split<'a>(
 ) -> Choice
     requires { ⌜ Tables (now words) (now weights) n ⌝ }
     requires { ⌜ (1 ≤ low) × (low + rest < n) ⌝ }
-    ensures { λ c. ⌜ c ≡ cheapestOf (bestAt (now (words .entry))) (workAt (now (words .entry)) (now (weights .entry)) n) low rest ⌝ }
+    ensures { λ c. ⌜ c ≡ cheapestOf (bestAt (now (words .entry))) (workAt (now (words .entry)) (now (weights .entry)) n) n low rest ⌝ }
 {
     let mut found = Choice {
         cost: INFINITE,

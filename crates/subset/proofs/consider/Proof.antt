@@ -1,7 +1,8 @@
 -- Assumes nothing.
 use borrow.Author.Needs.{needs}
 use Rattle.subset.specs.Considers.{stays, gains, step-not, step-is}
-use Rattle.subset.specs.Walk.{workAt, bestAt}
+use Rattle.masks.specs.Tables.{workAt}
+use Rattle.subset.specs.Walk.{bestAt}
 use native.Mathlib.Omega.{arith}
 use Prim.Native.Nat.{ℕ, _+_, _-_, _*_, _<_, _≤_}
 use mathlib.Core.Path.{_≡_, refl, sym, ap, _∙_, subst}

@@ -1,7 +1,8 @@
 -- Assumes nothing.
 use borrow.Author.Needs.{needs}
 use Rattle.subset.specs.Fills.{SameSets, same-self, tables-same, next-same, found-few, fill-start, fill-next, fill-end}
-use Rattle.subset.specs.Walk.{Filled, workAt, bestAt, splitAt}
+use Rattle.masks.specs.Tables.{workAt}
+use Rattle.subset.specs.Walk.{Filled, bestAt, splitAt}
 use native.Mathlib.Omega.{arith}
 use Prim.Native.Nat.{ℕ, _+_, _-_, _*_, _<_, _≤_}
 use mathlib.Core.Path.{_≡_, refl, sym, ap, _∙_, subst}

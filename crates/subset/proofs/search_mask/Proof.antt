@@ -2,7 +2,8 @@
 use borrow.Author.Needs.{needs}
 use lib.Count.{ones}
 use Rattle.subset.specs.Entries.{entry-single, entry-passed, entry-searched, over, within, full, few-ones, tried-is}
-use Rattle.subset.specs.Walk.{workAt, bestAt}
+use Rattle.masks.specs.Tables.{workAt}
+use Rattle.subset.specs.Walk.{bestAt}
 use lib.Pow.{pow-pos}
 use lib.Bits.{bitAnd, and-le-l, and-le-r}
 use mathlib.Core.Logic.{⊎-elim}

@@ -1,7 +1,8 @@
 -- Assumes nothing.
 use borrow.Author.Needs.{needs}
 use Rattle.subset.specs.Considers.{work-left, work-right, not-below, step-none, step-some, small-power}
-use Rattle.subset.specs.Walk.{workAt, stepCost}
+use Rattle.masks.specs.Tables.{workAt}
+use Rattle.subset.specs.Walk.{stepCost}
 use Rattle.bits.specs.Bit.{one-shl}
 use native.Mathlib.Omega.{arith}
 use Prim.Native.Nat.{ℕ, _+_, _-_, _*_, _<_, _≤_}

@@ -1,12 +1,12 @@
 -- Assumes nothing.
 use borrow.Author.Needs.{needs}
-use Rattle.subset.specs.Weights.{two-words}
+use Rattle.masks.specs.Weights.{two-words}
 use native.Mathlib.Omega.{arith}
 use Prim.Native.Nat.{ℕ, _+_, _-_, _*_, _<_, _≤_}
 use mathlib.Core.Path.{_≡_, refl, sym, ap, _∙_, subst}
 use lib.ListN.{length, getD, set, length-set}
-use Rattle.subset.proofs.weigh.Statement.{statement}
-use Rattle.subset.proofs.weigh.Tie as tie
+use Rattle.masks.proofs.weigh.Statement.{statement}
+use Rattle.masks.proofs.weigh.Tie as tie
 
 mul-p : tie.Need-mul-p
 mul-p c = search needs

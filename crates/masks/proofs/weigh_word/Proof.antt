@@ -1,13 +1,13 @@
 -- Assumes nothing.
 use borrow.Author.Needs.{needs}
-use Rattle.subset.specs.Weights.{weightBelow, below-none, below-next, digit-weight}
+use Rattle.masks.specs.Weights.{weightBelow, below-none, below-next, digit-weight}
 use Rattle.bits.specs.Bit.{bit}
 use native.Mathlib.Omega.{arith}
 use Prim.Native.Nat.{ℕ, _+_, _-_, _*_, _<_, _≤_}
 use mathlib.Core.Path.{_≡_, refl, sym, ap, _∙_, subst}
 use lib.ListN.{length, getD, set, length-set}
-use Rattle.subset.proofs.weigh_word.Statement.{statement}
-use Rattle.subset.proofs.weigh_word.Tie as tie
+use Rattle.masks.proofs.weigh_word.Statement.{statement}
+use Rattle.masks.proofs.weigh_word.Tie as tie
 
 abbrev Inv-loop : tie.InvT-loop
 Inv-loop x base weights sum₀ i₀ sum i = (i ≤ 64) × (sum ≡ weightBelow weights base i x) × (sum ≤ i * 8)

@@ -1,0 +1,3 @@
+-- The index sets of masks of members: how they are weighed, united and kept. Assumes nothing.
+pub mod Weights
+pub mod Tables

@@ -1,0 +1,33 @@
+// The index sets of masks of members, in a lent list of words. With n masks, and slots of two words: slot n + s has the united sets of the
+// members of the mask s (slot n, of the mask of none, has the region's root's), slot 2 n + s has the indices that the mask's table keeps,
+// and word 6 n + s has how many bits these are.
+ghost use mathlib.Core.List.{[]};
+ghost use mathlib.Core.Path.{_≡_};
+ghost use Prim.Native.Nat.{_+_, _*_, _^_, _<_, _≤_};
+ghost use lib.ListN.{length};
+ghost use Rattle.slots.specs.Weigh.{Light, weighed, either};
+ghost use Rattle.masks.specs.Weights.{weightBelow};
+
+// The summed weights of the indices `base` + i for each set digit i of `x`, place by place.
+fn weigh_word(x: u64, base: usize, weights: &[u8]) -> usize
+    requires { ⌜ (base + 64 ≤ length (now weights)) × Light (now weights) ⌝ }
+    ensures { λ r. ⌜ (r ≡ weightBelow (now (weights .entry)) base 64 x) × (r ≤ 512) ⌝ }
+{
+    let mut sum: usize = 0;
+    for i in 0..64 {
+        sum += ((x >> i) % 2) as usize * weights[base + i] as usize;
+    }
+    sum
+}
+
+// The summed weights of the indices in slot `a` or slot `b`, of two words each.
+pub fn weigh(words: &[u64], a: usize, b: usize, weights: &[u8]) -> usize
+    requires { ⌜ (a * 2 + 2 ≤ length (now words)) × (b * 2 + 2 ≤ length (now words)) × (128 ≤ length (now weights)) × Light (now weights) ⌝ }
+    ensures { λ r. ⌜ (r ≡ weighed (now (weights .entry)) [] (either (now (words .entry)) 2 a b) 128) × (r ≤ 1024) ⌝ }
+{
+    let p = a * 2;
+    let q = b * 2;
+    let low = weigh_word(words[p] | words[q], 0, weights);
+    let high = weigh_word(words[p + 1] | words[q + 1], 64, weights);
+    low + high
+}
