@@ -6,6 +6,7 @@ ghost use mathlib.Core.Path.{_≡_};
 ghost use Prim.Native.Nat.{_+_, _*_, _^_, _<_, _≤_};
 ghost use lib.ListN.{length};
 ghost use Rattle.slots.specs.Weigh.{Light, weighed, either};
+ghost use Rattle.masks.specs.Tables.{United};
 ghost use Rattle.masks.specs.Weights.{weightBelow};
 
 // The summed weights of the indices `base` + i for each set digit i of `x`, place by place.
@@ -30,4 +31,17 @@ pub fn weigh(words: &[u64], a: usize, b: usize, weights: &[u8]) -> usize
     let low = weigh_word(words[p] | words[q], 0, weights);
     let high = weigh_word(words[p + 1] | words[q + 1], 64, weights);
     low + high
+}
+
+// Unites the members' sets of each mask, from the lowest mask up. Those of the masks of one member stand there already.
+pub fn unions(words: &mut [u64], n: usize)
+    requires { ⌜ (1 ≤ n) × (n ≤ 4096) × (7 * n ≤ length (now words)) ⌝ }
+    ensures { λ _. ⌜ United (now (words .entry)) (now (words .exit)) n n ⌝ }
+{
+    for s in 1..n {
+        let rest = s & (s - 1);
+        if rest != 0 {
+            slots::unite(words, 2, n + rest, n + (s - rest), n + s);
+        }
+    }
 }
