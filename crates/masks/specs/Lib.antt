@@ -3,3 +3,4 @@ pub mod Weights
 pub mod Tables
 pub mod Singles
 pub mod Unions
+pub mod Keeps

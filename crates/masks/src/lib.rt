@@ -6,7 +6,8 @@ ghost use mathlib.Core.Path.{_≡_};
 ghost use Prim.Native.Nat.{_+_, _*_, _^_, _<_, _≤_};
 ghost use lib.ListN.{length};
 ghost use Rattle.slots.specs.Weigh.{Light, weighed, either};
-ghost use Rattle.masks.specs.Tables.{United};
+ghost use Rattle.masks.specs.Keeps.{withKept};
+ghost use Rattle.masks.specs.Tables.{United, KeptBelow};
 ghost use Rattle.masks.specs.Weights.{weightBelow};
 
 // The summed weights of the indices `base` + i for each set digit i of `x`, place by place.
@@ -43,5 +44,27 @@ pub fn unions(words: &mut [u64], n: usize)
         if rest != 0 {
             slots::unite(words, 2, n + rest, n + (s - rest), n + s);
         }
+    }
+}
+
+// What the mask `s` keeps: of its members' indices those that the region's root or a member outside lists.
+fn keep_set(words: &mut [u64], weights: &[u8], n: usize, s: usize)
+    requires { ⌜ (n ≤ 4096) × (7 * n ≤ length (now words)) × (s < n) × (128 ≤ length (now weights)) × Light (now weights) ⌝ }
+    ensures { λ _. ⌜ now (words .exit) ≡ withKept (now (words .entry)) (now (weights .entry)) n s ⌝ }
+{
+    let slot = 2 * n + s;
+    slots::unite(words, 2, n, n + (n - 1 - s), slot);
+    slots::meet(words, 2, n + s, slot, slot);
+    let bits = weigh(words, slot, slot, weights);
+    words[6 * n + s] = bits as u64;
+}
+
+// What each mask keeps, and its bits.
+pub fn keep_sets(words: &mut [u64], weights: &[u8], n: usize)
+    requires { ⌜ (1 ≤ n) × (n ≤ 4096) × (7 * n ≤ length (now words)) × (128 ≤ length (now weights)) × Light (now weights) ⌝ }
+    ensures { λ _. ⌜ KeptBelow (now (words .entry)) (now (words .exit)) (now (weights .entry)) n n ⌝ }
+{
+    for s in 1..n {
+        keep_set(words, weights, n, s);
     }
 }
