@@ -4,3 +4,5 @@ pub mod Considers
 pub mod Walking
 pub mod Entries
 pub mod Fills
+pub mod Regions
+pub mod Stands
