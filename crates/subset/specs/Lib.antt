@@ -6,3 +6,5 @@ pub mod Entries
 pub mod Fills
 pub mod Regions
 pub mod Stands
+pub mod Whole
+pub mod Counts
