@@ -8,3 +8,4 @@ pub mod Regions
 pub mod Stands
 pub mod Whole
 pub mod Counts
+pub mod Sets
