@@ -9,3 +9,5 @@ pub mod Stands
 pub mod Whole
 pub mod Counts
 pub mod Sets
+pub mod Search
+pub mod Searched

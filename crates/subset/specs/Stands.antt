@@ -54,8 +54,7 @@ module _ (best : ℕ → ℕ) (tree : ℕ → Region) (work : ℕ → ℕ → �
           → Chosen tree s (some (record { cost = f .cost + g .cost + 2 ^ w; tree = join (f .tree) (g .tree) })) (considered best work low rest sub c)
       taken e z k =
           subst (λ x. Chosen tree s (some (record { cost = f .cost + g .cost + 2 ^ w; tree = join (f .tree) (g .tree) })) x)
-          (gains best work low rest sub c (2 ^ work (sub + low) (rest - sub)) refl (omega arith))
-          (
+          (gains best work low rest sub c (2 ^ work (sub + low) (rest - sub)) refl (omega arith)) (
             e,
             z,
             omega arith,

@@ -69,8 +69,7 @@ module _ (n m : ℕ) (has : ℕ → ℕ → Bool) (ext : ℕ → Bool) (weigh : 
         let one-place : placesFrom 0 n s ≡ low .place ∷ [] = low .all ∙ ap (λ x. low .place ∷ placesFrom 0 n x) z ∙ ap (λ l. low .place ∷ l) (no-bits 0 n) in
         let e : _≡_ {A = Entry} (record { cost = 0; part = 0; tried = 0 }) (entryOf best work n limit s) = entry-single best work n limit s z in
         let place : trailingZeros 64 s ≡ low .place = sym (lowest-same n s low a (omega (arith, own-bits n)) (omega arith)) in
-        subst (λ l. Stands best tree s (cheapest m has ext weigh limited (suc n) l)) (sym one-place)
-        (
+        subst (λ l. Stands best tree s (cheapest m has ext weigh limited (suc n) l)) (sym one-place) (
           filled .costs s a b ∙ sym (ap (λ (x : Entry). x .cost) e),
           omega arith,
           sym (region-whole split s (whole-is split s (filled .parts s a b ∙ sym (ap (λ (x : Entry). x .part) e))) ∙ ap one place),

@@ -1,9 +1,12 @@
 // The search over the subsets of up to 12 members, as masks. With n masks, word s of the lent list has the least cost of the mask s, and word
 // n + s the part of the first split that has it. What crate `masks` says of the masks' sets stands from word 2 n on.
 ghost use mathlib.Core.Path.{_≡_};
-ghost use Prim.Native.Nat.{_+_, _^_, _<_, _≤_};
+ghost use Prim.Native.Nat.{_+_, _*_, _^_, _<_, _≤_};
 ghost use lib.Dec.{ltb};
+ghost use lib.ListN.{length};
+ghost use Rattle.slots.specs.Weigh.{Light};
 ghost use Rattle.masks.specs.Tables.{workAt, Tables};
+ghost use Rattle.subset.specs.Search.{foundAt, searchedIn, triedIn};
 ghost use Rattle.subset.specs.Walk.{infinite, stepCost, considered, cheapestOf, entryOf, Filled, bestAt, splitAt};
 
 // From 2^53 on a cost counts as infinite.
@@ -162,4 +165,34 @@ fn fill(words: &mut [u64], weights: &[u8], limit: u64, n: usize) -> u64
         tried += e.tried;
     }
     tried
+}
+
+// The least cost of a tree over all members, 2^53 for none below that, and how many splits were tried.
+pub struct Searched {
+    pub cost: u64,
+    pub tried: u64,
+}
+
+// How many masks `m` members have.
+pub fn mask_count(m: usize) -> usize
+    requires { ⌜ m ≤ 12 ⌝ }
+    ensures { λ r. ⌜ (r ≡ 2 ^ m) × (1 ≤ r) × (r ≤ 4096) ⌝ }
+{
+    1 << m
+}
+
+// The search over `m` members. Slot 2^m + 2^p has the local indices of member p, slot 2^m those of the region's root; `limit` is of whole bits,
+// and none from 65,536 on. The splits of the tree of that cost are left in the list.
+pub fn search(words: &mut [u64], weights: &[u8], limit: u64, m: usize) -> Searched
+    requires { ⌜ (1 ≤ m) × (m ≤ 12) × (7 * 2 ^ m ≤ length (now words)) × (128 ≤ length (now weights)) × Light (now weights) ⌝ }
+    ensures { λ r. ⌜ (foundAt (now (words .exit)) (2 ^ m) (r .cost) ≡ searchedIn (now (words .entry)) (now (weights .entry)) limit m) × (r .tried ≡ triedIn (now (words .entry)) (now (weights .entry)) limit m) ⌝ }
+{
+    let n = mask_count(m);
+    masks::unions(words, n);
+    masks::keep_sets(words, weights, n);
+    let tried = fill(words, weights, limit, n);
+    Searched {
+        cost: words[n - 1],
+        tried,
+    }
 }
