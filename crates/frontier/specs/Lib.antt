@@ -3,3 +3,5 @@ pub mod Opens
 pub mod Costs
 pub mod Ranks
 pub mod Turns
+pub mod Swaps
+pub mod Fronts

@@ -55,3 +55,8 @@ openMost kids works n s =
 unfoldable pub openings : List ℕ → List ℕ → ℕ → ℕ → State → State
 openings kids works n zero s = s
 openings kids works n (suc times) s = openMost kids works n (openings kids works n times s)
+
+-- the first c numbers of a list, from the last of them down
+unfoldable pub freed : List ℕ → ℕ → List ℕ
+freed l zero = []
+freed l (suc c) = getD l c 0 ∷ freed l c
