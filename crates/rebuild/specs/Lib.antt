@@ -1,0 +1,2 @@
+-- What a rebuild writes into a flat list of children. Assumes nothing.
+pub mod Writes
