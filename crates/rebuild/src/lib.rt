@@ -63,3 +63,29 @@ fn part_of(words: &[u64], masks: usize, s: usize) -> usize
     let l = cells::get64(words, masks + s) as usize;
     if l < s { l } else { 0 }
 }
+
+// Builds the tree over the members of the mask `s` that the table of splits describes: its left part first, then its right part, then the node over both. It
+// falls with the mask.
+pub fn build(
+    words: &[u64],
+    masks: usize,
+    s: usize,
+    members: &[u16],
+    opened: &[u16],
+    left: usize,
+    kids: &mut [u16],
+    n: usize,
+) -> Built
+    requires { ⌜ (masks ≤ 4096) × (1 ≤ s) × (s < 4096) ⌝ }
+    ensures { λ r. ⌜ wrote (now (kids .exit)) (now (opened .entry)) (r .top) (r .left) ≡ buildArray n (now (members .entry)) (regionOf (splitAt (now (words .entry)) masks) s) (freed (now (opened .entry)) left) (pairsOf (now (kids .entry))) ⌝ }
+{
+    let part = part_of(words, masks, s);
+    if part == 0 {
+        let top = cells::get16(members, bits::low(s as u64));
+        return Built { top, left };
+    }
+    let first = build(words, masks, part, members, opened, left, kids, n);
+    let rest = first.left;
+    let second = build(words, masks, s - part, members, opened, rest, kids, n);
+    join_node(opened, second.left, kids, n, first.top, second.top)
+}
