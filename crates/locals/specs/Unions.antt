@@ -1,5 +1,5 @@
 -- The loops that make the set of flagged indices, and the union of the members' sets. Assumes nothing.
-use mathlib.Core.Bool.{Bool, true, false, not, _&&_, _||_, or-false, or-comm}
+use mathlib.Core.Bool.{Bool, true, false, not, _&&_, _||_, or-false, and-false}
 use mathlib.Core.List.{List}
 use mathlib.Core.Path.{_≡_, refl, sym, ap, ap₂, _∙_}
 use Prim.Native.Nat.{ℕ, zero, suc, _+_, _*_, _/_, _≤_, _<_}
@@ -9,29 +9,29 @@ use lib.Dec.{eqb, ltb}
 use lib.ListN.{length, getD, List·getD-eq-default}
 use borrow.Author.Tests.{eq-eqb, ne-eqb, lt-ltb, le-ltb, eqb-true, eqb-false, ltb-true, ltb-false}
 use Rattle.spec.specs.Calls.{flagAt}
-use Rattle.laws.specs.Booleans.{by-cases, bool-ext, and-right}
-use Rattle.slots.specs.Slots.{held, withSet, held-in, held-with-other, withSet-ext, withSet-ext-in, withSet-again, withSet-then}
+use Rattle.laws.specs.Booleans.{by-cases}
+use Rattle.slots.specs.Slots.{held, withSet, held-with-other, withSet-ext, withSet-again, withSet-then}
 use Rattle.locals.specs.Locals.{memberHave}
 
--- ---- flags ----
+-- ---- a set that a test gives, one index after the other ----
 
--- the flags below j
-abbrev flagBelow : List ℕ → ℕ → ℕ → Bool
-flagBelow flags k j = ltb j k && flagAt flags j
+abbrev below : (ℕ → Bool) → ℕ → ℕ → Bool
+below t k j = ltb j k && t j
 
-module _ (ws : List ℕ) (W s : ℕ) (flags : List ℕ) where
-  abbrev pub Flags : ℕ → List ℕ → Type 0
-  Flags k now = now ≡ withSet ws W s (flagBelow flags k)
+-- the test's indices below k are in slot s, and no other
+abbrev pub Tested : List ℕ → ℕ → ℕ → (ℕ → Bool) → ℕ → List ℕ → Type 0
+Tested ws W s t k now = now ≡ withSet ws W s (below t k)
 
-  step : (k j : ℕ) → flagAt flags k ≡ true → (flagBelow flags k j || eqb j k) ≡ flagBelow flags (k + 1) j
-  step k j t =
+module _ (ws : List ℕ) (W s : ℕ) (t : ℕ → Bool) where
+  step : (k j : ℕ) → t k ≡ true → (below t k j || eqb j k) ≡ below t (k + 1) j
+  step k j h =
       by-cases (eqb j k)
-      (λ e. let z : j ≡ k = eqb-true j k e in rw (e, lt-ltb j (k + 1) (omega arith)) (sym-or (flagBelow flags k j) (flagAt flags j) (ap (flagAt flags) z ∙ t)))
-      (λ e. let f : j ≡ k → ⊥ = eqb-false j k e in rw e (or-false (flagBelow flags k j) ∙ ap (λ x. x && flagAt flags j) (same-less j f)))
+      (λ e. let z : j ≡ k = eqb-true j k e in rw (e, lt-ltb j (k + 1) (omega arith)) (or-true (below t k j) (t j) (ap t z ∙ h)))
+      (λ e. let f : j ≡ k → ⊥ = eqb-false j k e in rw e (or-false (below t k j) ∙ ap (λ x. x && t j) (same-less j f)))
     where
-      sym-or : (a b : Bool) → b ≡ true → (a || true) ≡ b
-      sym-or true b h = sym h
-      sym-or false b h = sym h
+      or-true : (a b : Bool) → b ≡ true → (a || true) ≡ b
+      or-true true b h = sym h
+      or-true false b h = sym h
 
       same-less : (j : ℕ) → (j ≡ k → ⊥) → ltb j k ≡ ltb j (k + 1)
       same-less j f =
@@ -39,47 +39,52 @@ module _ (ws : List ℕ) (W s : ℕ) (flags : List ℕ) where
           (λ e. e ∙ sym (lt-ltb j (k + 1) (omega (arith, ltb-true j k e))))
           (λ e. e ∙ sym (le-ltb j (k + 1) (omega (arith, f, ltb-false j k e))))
 
-  still : (k j : ℕ) → flagAt flags k ≡ false → flagBelow flags k j ≡ flagBelow flags (k + 1) j
-  still k j t =
+  still : (k j : ℕ) → t k ≡ false → below t k j ≡ below t (k + 1) j
+  still k j h =
       by-cases (eqb j k)
       (λ e. let z : j ≡ k = eqb-true j k e in
-      let u : flagAt flags j ≡ false = ap (flagAt flags) z ∙ t in rw u (both (ltb j k) (ltb j (k + 1))))
+      let u : t j ≡ false = ap t z ∙ h in rw u (and-false (ltb j k) ∙ sym (and-false (ltb j (k + 1)))))
       (λ e. let f : j ≡ k → ⊥ = eqb-false j k e in
       by-cases (ltb j k)
       (λ q. rw (q, lt-ltb j (k + 1) (omega (arith, ltb-true j k q))))
       (λ q. rw (q, le-ltb j (k + 1) (omega (arith, f, ltb-false j k q)))))
-    where
-      both : (a b : Bool) → (a && false) ≡ (b && false)
-      both true true = refl
-      both true false = refl
-      both false true = refl
-      both false false = refl
 
-  -- one flag more, set or clear
-  pub flags-set : (k : ℕ) (a b : List ℕ) → (getD flags k 0 ≡ 0 → ⊥) → Flags k a → b ≡ withSet a W s (λ j. held a W s j || eqb j k) → Flags (k + 1) b
-  flags-set k a b f e h =
-      h
+  -- one index more, that passes or not
+  pub tested-yes : (k : ℕ) (a b : List ℕ) → t k ≡ true → Tested ws W s t k a → b ≡ withSet a W s (λ j. held a W s j || eqb j k) → Tested ws W s t (k + 1) b
+  tested-yes k a b h e f =
+      f
       ∙ ap (λ l. withSet l W s (λ j. held l W s j || eqb j k)) e
-      ∙ withSet-then ws W s (flagBelow flags k) (λ j x. x || eqb j k)
-      ∙ withSet-ext ws W s _ _ (λ j b. step k j (ap not (ne-eqb (getD flags k 0) 0 f)))
+      ∙ withSet-then ws W s (below t k) (λ j x. x || eqb j k)
+      ∙ withSet-ext ws W s _ _ (λ j q. step k j h)
 
-  pub flags-clear : (k : ℕ) (a : List ℕ) → getD flags k 0 ≡ 0 → Flags k a → Flags (k + 1) a
-  flags-clear k a z e = e ∙ withSet-ext ws W s _ _ (λ j b. still k j (ap not (eq-eqb (getD flags k 0) 0 z)))
+  pub tested-no : (k : ℕ) (a : List ℕ) → t k ≡ false → Tested ws W s t k a → Tested ws W s t (k + 1) a
+  tested-no k a h e = e ∙ withSet-ext ws W s _ _ (λ j q. still k j h)
 
 -- from the emptied slot to the end
-module _ (ws : List ℕ) (W s : ℕ) (flags zeros : List ℕ) (e : zeros ≡ withSet ws W s (λ j. false)) where
+module _ (ws : List ℕ) (W s : ℕ) (t : ℕ → Bool) (zeros : List ℕ) (e : zeros ≡ withSet ws W s (λ j. false)) where
   again : (p : ℕ → Bool) → withSet zeros W s p ≡ withSet ws W s p
   again p = ap (λ l. withSet l W s p) e ∙ withSet-again ws W s (λ j. false) p
 
-  pub flags-none : Flags zeros W s flags 0 zeros
-  flags-none = e ∙ withSet-ext ws W s (λ j. false) (flagBelow flags 0) (λ j h. rw (le-ltb j 0 (omega arith))) ∙ sym (again (flagBelow flags 0))
+  pub tested-none : Tested zeros W s t 0 zeros
+  tested-none = e ∙ withSet-ext ws W s (λ j. false) (below t 0) (λ j h. rw (le-ltb j 0 (omega arith))) ∙ sym (again (below t 0))
 
-  pub flags-end : (k : ℕ) (a : List ℕ) → length flags ≤ k → Flags zeros W s flags k a → a ≡ withSet ws W s (flagAt flags)
-  flags-end k a h q =
-      q ∙ again (flagBelow flags k) ∙ withSet-ext ws W s _ _ (λ j b.
-      by-cases (ltb j k)
-      (λ q. rw q)
-      (λ q. let z : getD flags j 0 ≡ 0 = List·getD-eq-default flags 0 (omega (arith, ltb-false j k q)) in rw (q, z)))
+  pub tested-end : (k c : ℕ) (a : List ℕ) → k ≡ c → Tested zeros W s t k a → a ≡ withSet ws W s (λ j. ltb j c && t j)
+  tested-end k c a h q = q ∙ again (below t k) ∙ ap (λ x. withSet ws W s (below t x)) h
+
+-- ---- flags ----
+
+pub flag-yes : (flags : List ℕ) (j : ℕ) → (getD flags j 0 ≡ 0 → ⊥) → flagAt flags j ≡ true
+flag-yes flags j f = ap not (ne-eqb (getD flags j 0) 0 f)
+
+pub flag-no : (flags : List ℕ) (j : ℕ) → getD flags j 0 ≡ 0 → flagAt flags j ≡ false
+flag-no flags j z = ap not (eq-eqb (getD flags j 0) 0 z)
+
+pub flags-all : (ws a : List ℕ) (W s : ℕ) (flags : List ℕ) → a ≡ withSet ws W s (λ j. ltb j (length flags) && flagAt flags j) → a ≡ withSet ws W s (flagAt flags)
+flags-all ws a W s flags e =
+    e ∙ withSet-ext ws W s _ _ (λ j b.
+    by-cases (ltb j (length flags))
+    (λ q. rw q)
+    (λ q. let z : getD flags j 0 ≡ 0 = List·getD-eq-default flags 0 (ltb-false j (length flags) q) in rw (q, z)))
 
 -- ---- members ----
 

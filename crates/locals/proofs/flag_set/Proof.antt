@@ -1,6 +1,7 @@
 -- Assumes nothing.
 use borrow.Author.Needs.{needs}
-use Rattle.locals.specs.Unions.{Flags, flags-none, flags-set, flags-clear, flags-end}
+use Rattle.locals.specs.Unions.{Tested, tested-none, tested-yes, tested-no, tested-end, flag-yes, flag-no, flags-all}
+use Rattle.spec.specs.Calls.{flagAt}
 use Rattle.slots.specs.Slots.{withSet-length}
 use mathlib.Core.Logic.{⊎-elim}
 use mathlib.Core.List.{List}
@@ -12,7 +13,7 @@ use Rattle.locals.proofs.flag_set.Statement.{statement}
 use Rattle.locals.proofs.flag_set.Tie as tie
 
 abbrev Inv-loop : tie.InvT-loop
-Inv-loop words₀ w s flags j₀ j-end words j = (j ≤ length flags) × (length words ≡ length words₀) × Flags words₀ w s flags j words
+Inv-loop words₀ w s flags j₀ j-end words j = (j ≤ length flags) × (length words ≡ length words₀) × Tested words₀ w s (flagAt flags) j words
 
 abbrev μ-loop : tie.MeasureT-loop
 μ-loop words₀ w s flags j₀ j-end words j = length flags - j
@@ -21,7 +22,7 @@ empty-requires : tie.Need-empty-requires Inv-loop μ-loop
 empty-requires c κs = search needs
 
 loop-holds : tie.Need-loop-holds Inv-loop μ-loop
-loop-holds c = let a = c .before .before .before .before .before .before .args in (omega arith, refl, flags-none (a .words .now) (a .w) (a .s) (a .flags .now) (c .before .before .empty .last .0) (c .before .before .empty .ensures))
+loop-holds c = let a = c .before .before .before .before .before .before .args in (omega arith, refl, tested-none (a .words .now) (a .w) (a .s) (flagAt (a .flags .now)) (c .before .before .empty .last .0) (c .before .before .empty .ensures))
 
 shared-slice-read-if1 : tie.Need-shared-slice-read-if1 Inv-loop μ-loop
 shared-slice-read-if1 c = search needs
@@ -40,8 +41,8 @@ loop-again c = let a = c .before .before .before .before .before .before .before
   omega arith,
   ⊎-elim (λ k. omega (arith, ap length (k .5), k .2 .kept, l .inv .1)) (λ k. omega (arith, ap length (k .1), l .inv .1)) (c .if1 .came),
   ⊎-elim
-      (λ k. flags-set z (a .w) (a .s) (a .flags .now) (l .j) (l .words) (c .if1 .words) (k .0 .taken) (l .inv .2) (k .5 ∙ k .2 .ensures))
-      (λ k. k .1 ∙ flags-clear z (a .w) (a .s) (a .flags .now) (l .j) (l .words) (k .0 .left) (l .inv .2))
+      (λ k. tested-yes z (a .w) (a .s) (flagAt (a .flags .now)) (l .j) (l .words) (c .if1 .words) (flag-yes (a .flags .now) (l .j) (k .0 .taken)) (l .inv .2) (k .5 ∙ k .2 .ensures))
+      (λ k. k .1 ∙ tested-no z (a .w) (a .s) (flagAt (a .flags .now)) (l .j) (l .words) (flag-no (a .flags .now) (l .j) (k .0 .left)) (l .inv .2))
       (c .if1 .came),
 )
 
@@ -49,7 +50,8 @@ same-length : tie.Need-same-length Inv-loop μ-loop
 same-length c = search needs
 
 returns : tie.Need-returns Inv-loop μ-loop
-returns c = let a = c .before .before .before .before .before .before .before .before .args in let l = c .before .loop in flags-end (a .words .now) (a .w) (a .s) (a .flags .now) (c .before .before .before .before .empty .last .0) (c .before .before .before .before .empty .ensures) (l .j) (l .words) (omega arith) (l .inv .2)
+returns c = let a = c .before .before .before .before .before .before .before .before .args in let l = c .before .loop in
+    flags-all (a .words .now) (l .words) (a .w) (a .s) (a .flags .now) (tested-end (a .words .now) (a .w) (a .s) (flagAt (a .flags .now)) (c .before .before .before .before .empty .last .0) (c .before .before .before .before .empty .ensures) (l .j) (length (a .flags .now)) (l .words) (omega arith) (l .inv .2))
 
 pub flag-set-spec : {M : Type 1} → statement M
 flag-set-spec =
