@@ -1,0 +1,63 @@
+-- Assumes nothing.
+use borrow.Author.Needs.{needs}
+use Rattle.locals.specs.Unions.{Uniting, uniting-none, uniting-next, uniting-end}
+use Rattle.slots.specs.Slots.{withSet-length}
+use native.Mathlib.Omega.{arith}
+use Prim.Native.Nat.{ℕ, _+_, _-_, _*_, _<_, _≤_}
+use mathlib.Core.Path.{_≡_, refl, sym, ap, _∙_, subst}
+use lib.ListN.{length, getD, set, length-set}
+use Rattle.locals.proofs.unite_members.Statement.{statement}
+use Rattle.locals.proofs.unite_members.Tie as tie
+
+abbrev Inv-loop : tie.InvT-loop
+Inv-loop words₀ w u members m p₀ words p = (p ≤ m) × (length words ≡ length words₀) × Uniting words₀ w u members p words
+
+abbrev μ-loop : tie.MeasureT-loop
+μ-loop words₀ w u members m p₀ words p = m - p
+
+empty-requires : tie.Need-empty-requires Inv-loop μ-loop
+empty-requires c κs = search needs
+
+loop-holds : tie.Need-loop-holds Inv-loop μ-loop
+loop-holds c = let a = c .before .before .before .before .before .before .args in (omega arith, refl, uniting-none (a .words .now) (a .w) (a .u) (a .members .now) (c .before .before .empty .last .0) (c .before .before .empty .ensures))
+
+at16-requires : tie.Need-at16-requires Inv-loop μ-loop
+at16-requires c κs = search needs
+
+unite-requires : tie.Need-unite-requires Inv-loop μ-loop
+unite-requires c κs = let d = c .before .before .before .before .before .before .before .before .before .before in let l = c .before .before .before .loop in (omega arith, omega arith, omega (arith, c .at16 .ensures .0, d .pre .2 (l .p) (omega arith)), omega arith)
+
+add-p : tie.Need-add-p Inv-loop μ-loop
+add-p c = search needs
+
+loop-less : tie.Need-loop-less Inv-loop μ-loop
+loop-less c = search needs
+
+loop-again : tie.Need-loop-again Inv-loop μ-loop
+loop-again c = let d = c .before .before .before .before .before .before .before .before .before .before .before .before .before in let a = d .args in let l = c .before .before .before .before .before .before .loop in (
+  omega arith,
+  search needs,
+  uniting-next (c .before .before .before .before .before .before .before .before .before .empty .last .0) (a .w) (a .u) (a .members .now) (l .p) (c .before .before .before .at16 .result) (l .words) _ (omega (arith, c .before .before .before .at16 .ensures .0, d .pre .2 (l .p) (omega arith))) (c .before .before .before .at16 .ensures .0) (l .inv .2) (c .before .before .unite .ensures),
+)
+
+same-length : tie.Need-same-length Inv-loop μ-loop
+same-length c = search needs
+
+returns : tie.Need-returns Inv-loop μ-loop
+returns c = let d = c .before .before .before .before .before .before .before .before in let a = d .args in let l = c .before .loop in uniting-end (a .words .now) (a .w) (a .u) (a .members .now) (c .before .before .before .before .empty .last .0) (c .before .before .before .before .empty .ensures) (a .m) (l .p) (l .words) (omega arith) (d .pre .2) (l .inv .2)
+
+pub unite-members-spec : {M : Type 1} → statement M
+unite-members-spec =
+    tie.close
+    (tie.spec
+    Inv-loop
+    μ-loop
+    empty-requires
+    loop-holds
+    at16-requires
+    unite-requires
+    add-p
+    loop-less
+    loop-again
+    same-length
+    returns)

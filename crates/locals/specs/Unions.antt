@@ -1,0 +1,126 @@
+-- The loops that make the set of flagged indices, and the union of the members' sets. Assumes nothing.
+use mathlib.Core.Bool.{Bool, true, false, not, _&&_, _||_, or-false, and-false}
+use mathlib.Core.List.{List}
+use mathlib.Core.Path.{_≡_, refl, sym, ap, ap₂, _∙_}
+use Prim.Native.Nat.{ℕ, zero, suc, _+_, _*_, _/_, _≤_, _<_}
+use native.Mathlib.Numerals.{add-one}
+use native.Mathlib.Omega.{arith}
+use lib.Dec.{eqb, ltb}
+use lib.ListN.{length, getD, List·getD-eq-default}
+use borrow.Author.Tests.{eq-eqb, ne-eqb, lt-ltb, le-ltb, eqb-true, eqb-false, ltb-true, ltb-false}
+use Rattle.spec.specs.Calls.{flagAt}
+use Rattle.laws.specs.Booleans.{by-cases}
+use Rattle.slots.specs.Slots.{held, withSet, held-with-other, withSet-ext, withSet-again, withSet-then}
+use Rattle.locals.specs.Locals.{memberHave}
+
+-- ---- a set that a test gives, one index after the other ----
+
+abbrev below : (ℕ → Bool) → ℕ → ℕ → Bool
+below t k j = ltb j k && t j
+
+-- the test's indices below k are in slot s, and no other
+abbrev pub Tested : List ℕ → ℕ → ℕ → (ℕ → Bool) → ℕ → List ℕ → Type 0
+Tested ws W s t k now = now ≡ withSet ws W s (below t k)
+
+module _ (ws : List ℕ) (W s : ℕ) (t : ℕ → Bool) where
+  step : (k j : ℕ) → t k ≡ true → (below t k j || eqb j k) ≡ below t (k + 1) j
+  step k j h =
+      by-cases (eqb j k)
+      (λ e. let z : j ≡ k = eqb-true j k e in rw (e, lt-ltb j (k + 1) (omega arith)) (or-true (below t k j) (t j) (ap t z ∙ h)))
+      (λ e. let f : j ≡ k → ⊥ = eqb-false j k e in rw e (or-false (below t k j) ∙ ap (λ x. x && t j) (same-less j f)))
+    where
+      or-true : (a b : Bool) → b ≡ true → (a || true) ≡ b
+      or-true true b h = sym h
+      or-true false b h = sym h
+
+      same-less : (j : ℕ) → (j ≡ k → ⊥) → ltb j k ≡ ltb j (k + 1)
+      same-less j f =
+          by-cases (ltb j k)
+          (λ e. e ∙ sym (lt-ltb j (k + 1) (omega (arith, ltb-true j k e))))
+          (λ e. e ∙ sym (le-ltb j (k + 1) (omega (arith, f, ltb-false j k e))))
+
+  still : (k j : ℕ) → t k ≡ false → below t k j ≡ below t (k + 1) j
+  still k j h =
+      by-cases (eqb j k)
+      (λ e. let z : j ≡ k = eqb-true j k e in
+      let u : t j ≡ false = ap t z ∙ h in rw u (and-false (ltb j k) ∙ sym (and-false (ltb j (k + 1)))))
+      (λ e. let f : j ≡ k → ⊥ = eqb-false j k e in
+      by-cases (ltb j k)
+      (λ q. rw (q, lt-ltb j (k + 1) (omega (arith, ltb-true j k q))))
+      (λ q. rw (q, le-ltb j (k + 1) (omega (arith, f, ltb-false j k q)))))
+
+  -- one index more, that passes or not
+  pub tested-yes : (k : ℕ) (a b : List ℕ) → t k ≡ true → Tested ws W s t k a → b ≡ withSet a W s (λ j. held a W s j || eqb j k) → Tested ws W s t (k + 1) b
+  tested-yes k a b h e f =
+      f
+      ∙ ap (λ l. withSet l W s (λ j. held l W s j || eqb j k)) e
+      ∙ withSet-then ws W s (below t k) (λ j x. x || eqb j k)
+      ∙ withSet-ext ws W s _ _ (λ j q. step k j h)
+
+  pub tested-no : (k : ℕ) (a : List ℕ) → t k ≡ false → Tested ws W s t k a → Tested ws W s t (k + 1) a
+  tested-no k a h e = e ∙ withSet-ext ws W s _ _ (λ j q. still k j h)
+
+-- from the emptied slot to the end
+module _ (ws : List ℕ) (W s : ℕ) (t : ℕ → Bool) (zeros : List ℕ) (e : zeros ≡ withSet ws W s (λ j. false)) where
+  again : (p : ℕ → Bool) → withSet zeros W s p ≡ withSet ws W s p
+  again p = ap (λ l. withSet l W s p) e ∙ withSet-again ws W s (λ j. false) p
+
+  pub tested-none : Tested zeros W s t 0 zeros
+  tested-none = e ∙ withSet-ext ws W s (λ j. false) (below t 0) (λ j h. rw (le-ltb j 0 (omega arith))) ∙ sym (again (below t 0))
+
+  pub tested-end : (k c : ℕ) (a : List ℕ) → k ≡ c → Tested zeros W s t k a → a ≡ withSet ws W s (λ j. ltb j c && t j)
+  tested-end k c a h q = q ∙ again (below t k) ∙ ap (λ x. withSet ws W s (below t x)) h
+
+-- ---- flags ----
+
+pub flag-yes : (flags : List ℕ) (j : ℕ) → (getD flags j 0 ≡ 0 → ⊥) → flagAt flags j ≡ true
+flag-yes flags j f = ap not (ne-eqb (getD flags j 0) 0 f)
+
+pub flag-no : (flags : List ℕ) (j : ℕ) → getD flags j 0 ≡ 0 → flagAt flags j ≡ false
+flag-no flags j z = ap not (eq-eqb (getD flags j 0) 0 z)
+
+pub flags-all : (ws a : List ℕ) (W s : ℕ) (flags : List ℕ) → a ≡ withSet ws W s (λ j. ltb j (length flags) && flagAt flags j) → a ≡ withSet ws W s (flagAt flags)
+flags-all ws a W s flags e =
+    e ∙ withSet-ext ws W s _ _ (λ j b.
+    by-cases (ltb j (length flags))
+    (λ q. rw q)
+    (λ q. let z : getD flags j 0 ≡ 0 = List·getD-eq-default flags 0 (ltb-false j (length flags) q) in rw (q, z)))
+
+-- ---- members ----
+
+module _ (ws : List ℕ) (W u : ℕ) (members : List ℕ) where
+  abbrev pub Uniting : ℕ → List ℕ → Type 0
+  Uniting p now = now ≡ withSet ws W u (memberHave ws W members p)
+
+  pub uniting-next : (p v : ℕ) (a b : List ℕ) → v < u → v ≡ getD members p 0 → Uniting p a
+      → b ≡ withSet a W u (λ j. held a W u j || held a W v j) → Uniting (p + 1) b
+  unfolding memberHave
+  uniting-next p v a b h ev e f =
+      f
+      ∙ ap (λ l. withSet l W u (λ j. held l W u j || held l W v j)) e
+      ∙ withSet-ext (withSet ws W u (memberHave ws W members p)) W u _ (λ j. held (withSet ws W u (memberHave ws W members p)) W u j || held ws W v j)
+      (λ j q. ap (λ x. held (withSet ws W u (memberHave ws W members p)) W u j || x) (held-with-other ws W u (memberHave ws W members p) v j q (λ z. omega arith)))
+      ∙ withSet-then ws W u (memberHave ws W members p) (λ j x. x || held ws W v j)
+      ∙ withSet-ext ws W u _ (memberHave ws W members (p + 1)) (λ j q.
+      ap (λ x. memberHave ws W members p j || held ws W x j) ev ∙ sym (ap (λ k. memberHave ws W members k j) (add-one p)))
+
+module _ (ws : List ℕ) (W u : ℕ) (members zeros : List ℕ) (e : zeros ≡ withSet ws W u (λ j. false)) where
+  pub uniting-none : Uniting zeros W u members 0 zeros
+  unfolding memberHave
+  uniting-none = e ∙ sym (ap (λ l. withSet l W u (λ j. false)) e ∙ withSet-again ws W u (λ j. false) (λ j. false))
+
+  have-same : (m j : ℕ) → ((p : ℕ) → p < m → getD members p 0 < u) → j < W * 64 → memberHave zeros W members m j ≡ memberHave ws W members m j
+  unfolding memberHave
+  have-same zero j h b = refl
+  have-same (suc m) j h b =
+      ap₂ (λ x y. x || y) (have-same m j (λ p q. h p (omega arith)) b)
+      (ap (λ l. held l W (getD members m 0) j) e ∙ held-with-other ws W u (λ j. false) (getD members m 0) j b (λ z. omega (arith, h m (omega arith))))
+
+  pub uniting-end : (m p : ℕ) (a : List ℕ) → p ≡ m → ((p : ℕ) → p < m → getD members p 0 < u) → Uniting zeros W u members p a
+      → a ≡ withSet ws W u (memberHave ws W members m)
+  uniting-end m p a z h q =
+      q
+      ∙ ap (λ k. withSet zeros W u (memberHave zeros W members k)) z
+      ∙ ap (λ l. withSet l W u (memberHave zeros W members m)) e
+      ∙ withSet-again ws W u (λ j. false) (memberHave zeros W members m)
+      ∙ withSet-ext ws W u (memberHave zeros W members m) (memberHave ws W members m) (λ j b. have-same m j h b)

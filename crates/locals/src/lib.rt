@@ -1,0 +1,108 @@
+// The local indices of a frontier: the unsliced ones that its members list, numbered in rising order; its sets and weights in these numbers.
+ghost use mathlib.Core.Bool.{not, _&&_, _||_};
+ghost use mathlib.Core.Path.{_≡_};
+ghost use Prim.Native.Nat.{ℕ, _+_, _*_, _^_, _<_, _≤_};
+ghost use lib.Dec.{ltb};
+ghost use lib.ListN.{length, getD};
+ghost use lib.Seq.{sets};
+ghost use Rattle.spec.specs.Calls.{flagAt};
+ghost use Rattle.slots.specs.Slots.{held, withSet};
+ghost use Rattle.locals.specs.Locals.{memberHave, isLocal, localList, localTest, localWeight, LocalSets};
+
+// Makes slot `s` the set of the flagged indices.
+pub fn flag_set(words: &mut [u64], w: usize, s: usize, flags: &[u8])
+    requires { ⌜ (w ≤ 16) × (s < 1048576) ⌝ }
+    ensures { λ _. ⌜ now (words .exit) ≡ withSet (now (words .entry)) w s (flagAt (now (flags .entry))) ⌝ }
+{
+    slots::empty(words, w, s);
+    for j in 0..flags.len() {
+        if flags[j] != 0 {
+            slots::insert(words, w, s, j);
+        }
+    }
+}
+
+// Makes slot `u` the union of the `m` members' slots.
+fn unite_members(words: &mut [u64], w: usize, u: usize, members: &[u16], m: usize)
+    requires { ⌜ (w ≤ 16) × (u < 1048576) × ((p : ℕ) → p < m → getD (now members) p 0 < u) ⌝ }
+    ensures { λ _. ⌜ now (words .exit) ≡ withSet (now (words .entry)) w u (memberHave (now (words .entry)) w (now (members .entry)) m) ⌝ }
+{
+    slots::empty(words, w, u);
+    for p in 0..m {
+        slots::unite(words, w, u, cells::at16(members, p), u);
+    }
+}
+
+// Writes the indices that one of the `m` members lists and that are not in slot `f` to the front of `local`, rising, and returns how many they are.
+// Slot `u` is worked in.
+pub fn local_indices(
+    words: &mut [u64],
+    w: usize,
+    u: usize,
+    f: usize,
+    members: &[u16],
+    m: usize,
+    local: &mut [u16],
+) -> usize
+    requires { ⌜ (w ≤ 16) × (u < 1048576) × (u * w + w ≤ length (now words)) × (f < u) × ((p : ℕ) → p < m → getD (now members) p 0 < u) ⌝ }
+    ensures { λ r. ⌜ (r ≡ length (localList (now (words .entry)) w (now (members .entry)) m f)) × (now (local .exit) ≡ sets (now (local .entry)) 0 (localList (now (words .entry)) w (now (members .entry)) m f)) × (now (words .exit) ≡ withSet (now (words .entry)) w u (isLocal (now (words .entry)) w (now (members .entry)) m f)) ⌝ }
+{
+    unite_members(words, w, u, members, m);
+    slots::subtract(words, w, u, f, u);
+    slots::members(words, w, u, local, 0)
+}
+
+// Makes slot `s` of `words` the local indices, of `c`, that slot `node` of `sets` has.
+fn local_set(
+    words: &mut [u64],
+    s: usize,
+    sets: &[u64],
+    w: usize,
+    node: usize,
+    local: &[u16],
+    c: usize,
+)
+    requires { ⌜ (w ≤ 16) × (s < 1048576) × (node < 1048576) ⌝ }
+    ensures { λ _. ⌜ now (words .exit) ≡ withSet (now (words .entry)) 2 s (localTest (now (sets .entry)) w node (now (local .entry)) c) ⌝ }
+{
+    slots::empty(words, 2, s);
+    for i in 0..c {
+        if slots::has(sets, w, node, cells::at16(local, i)) {
+            slots::insert(words, 2, s, i);
+        }
+    }
+}
+
+// The local indices of the node `v`, and of the `m` members, each in its slot.
+pub fn local_sets(
+    words: &mut [u64],
+    sets: &[u64],
+    w: usize,
+    v: usize,
+    members: &[u16],
+    m: usize,
+    local: &[u16],
+    c: usize,
+)
+    requires { ⌜ (w ≤ 16) × (v < 1048576) × (1 ≤ m) × (m ≤ 12) × (7 * 2 ^ m ≤ length (now words)) ⌝ }
+    ensures { λ _. ⌜ LocalSets (now (sets .entry)) w v (now (members .entry)) m (now (local .entry)) c (2 ^ m) (now (words .exit)) ⌝ }
+{
+    let n = subset::mask_count(m);
+    local_set(words, n, sets, w, v, local, c);
+    for p in 0..m {
+        let s = n + subset::mask_count(p);
+        let member = cells::at16(members, p);
+        local_set(words, s, sets, w, member, local, c);
+    }
+}
+
+// The weights of the `c` local indices, and 0 past them.
+pub fn local_weights(out: &mut [u8], weights: &[u8], local: &[u16], c: usize)
+    ensures { λ _. ⌜ ((i : ℕ) → i < length (now (out .entry)) → getD (now (out .exit)) i 0 ≡ localWeight (now (weights .entry)) (now (local .entry)) c i) ⌝ }
+{
+    cells::fill8(out, 0);
+    for i in 0..c {
+        let x = cells::get8(weights, cells::at16(local, i));
+        cells::put8(out, i, x);
+    }
+}
