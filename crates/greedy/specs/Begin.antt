@@ -201,27 +201,27 @@ module _ (N : Network) (a : List Pair) (W n made : ℕ) (weights counts cells ou
         begins =
             record {
               holds =
-                record {
-                  sound = subst (Sound N (λ v. count v leaves) (leafCount N + length a) (length a + tables)) (sym state-is)
-                      (start-sound N (λ v. count v leaves) (leafCount N + length a) (length a + tables) a (leavesOf leaves)
-                      (leaves-forest (leafCount N) a leaves (λ v m. omega (arith, asks .leaf v m, asks .lends .leaves))));
-                  sets = sets;
-                  size = size;
-                  numbers = λ u h. ap (λ (l : List ℕ). getD l u 0) en ∙ copied-at nodes₀ leaves tables u 0 h (omega (arith, bn, few)) h;
-                  outside = outside;
-                  kept = kept;
-                  lived = λ i h.
-                      let b : i < tables = omega (arith, range-length 0 tables) in
-                      ap (λ (l : List ℕ). getD l i 0) el ∙ put-at (λ i. i) live₀ tables i b (omega (arith, bl, few)) ∙ sym (range-at 0 tables i b ∙ omega arith);
-                  few = omega (arith, range-length 0 tables, few);
-                  wide = omega (arith, room, long₁, leaves-length W counts cells leaves words₁ tables);
-                  places = (
-                    omega (arith, bn, ap length en, copied-length nodes₀ leaves tables),
-                    sizes-long,
-                    omega (arith, bl, ap length el, put-length (λ i. i) live₀ tables),
-                    omega (arith, br, ap length er, filled-length {A = ℕ} (length rows₀) 258),
-                  );
-                };
+                  record {
+                    sound = subst (Sound N (λ v. count v leaves) (leafCount N + length a) (length a + tables)) (sym state-is)
+                        (start-sound N (λ v. count v leaves) (leafCount N + length a) (length a + tables) a (leavesOf leaves)
+                        (leaves-forest (leafCount N) a leaves (λ v m. omega (arith, asks .leaf v m, asks .lends .leaves))));
+                    sets = sets;
+                    size = size;
+                    numbers = λ u h. ap (λ (l : List ℕ). getD l u 0) en ∙ copied-at nodes₀ leaves tables u 0 h (omega (arith, bn, few)) h;
+                    outside = outside;
+                    kept = kept;
+                    lived = λ i h.
+                        let b : i < tables = omega (arith, range-length 0 tables) in
+                        ap (λ (l : List ℕ). getD l i 0) el ∙ put-at (λ i. i) live₀ tables i b (omega (arith, bl, few)) ∙ sym (range-at 0 tables i b ∙ omega arith);
+                    few = omega (arith, range-length 0 tables, few);
+                    wide = omega (arith, room, long₁, leaves-length W counts cells leaves words₁ tables);
+                    places = (
+                      omega (arith, bn, ap length en, copied-length nodes₀ leaves tables),
+                      sizes-long,
+                      omega (arith, bl, ap length el, put-length (λ i. i) live₀ tables),
+                      omega (arith, br, ap length er, filled-length {A = ℕ} (length rows₀) 258),
+                    );
+                  };
               width = refl;
               leaves = asks .lends .leaves;
               tables = refl;
