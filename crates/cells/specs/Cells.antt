@@ -6,7 +6,7 @@ use native.Mathlib.Nat.{zero-min, suc-min-suc, zero-add, suc-add}
 use native.Mathlib.Numerals.{add-one}
 use native.Mathlib.Omega.{arith}
 use native.Mathlib.Decide.{decLe}
-use lib.ListN.{length, getD, set, take, drop, replicate, length-append, length-take, length-drop, length-replicate, getD-replicate, drop-of-length-le, List·getD-eq-default}
+use lib.ListN.{length, getD, set, take, drop, replicate, length-append, length-take, length-drop, length-replicate, getD-replicate, drop-of-length-le, take-append-drop, List·getD-eq-default}
 use lib.Seq.{take-nil, take-all, take-length, take-suc, drop-drop, ext-getD, length-take-le, getD-take}
 use Rattle.spec.specs.Memory.{filled, over, copied, placed, cleared}
 
@@ -216,6 +216,10 @@ module _ {A : Type 0} where
   pub placed-fits : (d s : List A) (at : ℕ) → at + length s ≤ length d → placed d at s ≡ take at d ++ (s ++ drop (at + length s) d)
   unfolding placed
   placed-fits d s at h = ap (λ (l : List A). take at d ++ l) (over-fits (drop at d) s (simp length-drop (omega arith)) ∙ ap (λ (l : List A). s ++ l) (drop-drop (length s) at d))
+
+  pub placed-none : (d : List A) (at : ℕ) → placed d at [] ≡ d
+  unfolding placed
+  placed-none d at = ap (λ (l : List A). take at d ++ l) (over-nil (drop at d)) ∙ take-append-drop at d
 
   pub placed-out : (d s : List A) (at : ℕ) → length d ≤ at → placed d at s ≡ d
   unfolding placed over

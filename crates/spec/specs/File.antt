@@ -23,6 +23,17 @@ pub record Contents : Type 0 where
   pub tree : Option (List ℕ)
   pub ask : Ask
 
+-- the given flags; those that no field gives are clear
+abbrev pub flagBytes : Ask → List ℕ
+flagBytes plain = []
+flagBytes (flagged l) = l
+flagBytes (target w) = []
+
+-- the given tree: none is a tree with no node
+abbrev pub treeBytes : Option (List ℕ) → List ℕ
+treeBytes none = []
+treeBytes (some kids) = kids
+
 -- ---- the file of some contents ----
 
 -- "fields of a tag byte, a two-byte length (high byte first), a payload"

@@ -11,6 +11,7 @@ use lib.Dec.{eqb}
 use borrow.Author.Tests.{eqb-true}
 use Rattle.spec.specs.Lists.{memb}
 use Rattle.spec.specs.Memory.{over, placed}
+use Rattle.cells.specs.Cells.{placed-none}
 use Rattle.spec.specs.Tree.{Tree, leaf, node, number, numbers, inner, innerOf, Pair, treeAt, root, valid, pairsOf, stepOrder}
 use Rattle.spec.specs.Calls.{wrongTree}
 use Rattle.laws.specs.Booleans.{clash}
@@ -57,13 +58,6 @@ no-length [] e = refl
 no-length (x ∷ l) e = absurd (omega arith)
 
 -- ---- the list that is filled from its end ----
-
-placed-none : (d : List ℕ) (at : ℕ) → placed d at [] ≡ d
-unfolding placed over
-placed-none [] zero = refl
-placed-none (x ∷ d) zero = refl
-placed-none [] (suc at) = refl
-placed-none (x ∷ d) (suc at) = ap (λ (l : List ℕ). x ∷ l) (placed-none d at)
 
 placed-before : (d s : List ℕ) (at x : ℕ) → at < length d → set (placed d (suc at) s) at x ≡ placed d at (x ∷ s)
 unfolding placed over

@@ -1,0 +1,109 @@
+// Pricing for a C host: file bytes in, listing bytes and the number of a refusal out.
+ghost use mathlib.Core.Path.{_≡_};
+ghost use Prim.Native.Nat.{_≤_};
+ghost use lib.ListN.{length, take};
+ghost use Rattle.spec.specs.Host.{listingCall, hostCall, Answered, lentNetwork};
+ghost use Rattle.network.specs.Record.{netOf};
+ghost use Rattle.host.specs.Reading.{placesOf, countOf};
+ghost use Rattle.host.specs.Sound.{HandsOut};
+ghost use Rattle.memory.specs.Promise.{MemoryCost};
+use netfile::Answer;
+use netfile::Ask;
+use netfile::Found;
+use netfile::Tree;
+use network::Network;
+
+// How many places of the list the tree fills.
+fn tree_places(tree: Tree) -> usize
+    ensures { λ r. ⌜ r ≡ placesOf tree ⌝ }
+{
+    match tree {
+        Tree::Absent => 0,
+        Tree::Present(places) => places,
+    }
+}
+
+// How many flags there are.
+fn flag_count(ask: Ask) -> usize
+    ensures { λ r. ⌜ r ≡ countOf ask ⌝ }
+{
+    match ask {
+        Ask::Plain => 0,
+        Ask::Flagged(count) => count,
+        Ask::Target(_) => 0,
+    }
+}
+
+// Lists a network with the tree and the flags that were found.
+fn price_found(network: Network, found: Found, tree: &[u16], flags: &[u8], out: &mut [u8]) -> u8
+    requires { ⌜ (network .«leaf_count» ≤ 128) × (placesOf (found .tree) ≤ length (now tree)) × (countOf (found .ask) ≤ length (now flags)) ⌝ }
+    ensures { λ r. ⌜ Answered (listingCall (length (now (out .entry))) (netOf network) (take (countOf (found .ask)) (now (flags .entry))) (take (placesOf (found .tree)) (now (tree .entry)))) r (now (out .entry)) (now (out .exit)) ⌝ }
+{
+    let found_tree = found.tree;
+    let found_ask = found.ask;
+    let places = tree_places(found_tree);
+    let count = flag_count(found_ask);
+    listing::list(network, &flags[..count], &tree[..places], out)
+}
+
+// Reads the file, and lists its network with its own tree and flags.
+pub fn price(file: &[u8], out: &mut [u8]) -> u8
+    ensures { λ r. ⌜ Answered (hostCall (length (now (out .entry))) (now (file .entry))) r (now (out .entry)) (now (out .exit)) ⌝ }
+{
+    let mut tree = [0u16; 254];
+    let mut flags = [0u8; 256];
+    let reading = netfile::read(file, &mut tree, &mut flags);
+    let answer = reading.answer;
+    match answer {
+        Answer::Refused(number) => number,
+        Answer::Done(found) => {
+            let network = reading.network;
+            price_found(network, found, &tree, &flags, out)
+        }
+    }
+}
+
+#[no_mangle]
+pub extern "C" fn loqshyber_price(file: &[u8], out: &mut [u8]) -> u32
+    ensures { λ r. ⌜
+        Answered (hostCall (length (now (out .entry))) (now (file .entry))) r (now (out .entry)) (now (out .exit))
+        × (r ≡ 0 → HandsOut (now (file .entry)) (now (out .entry)) (now (out .exit)))
+        ⌝ }
+{
+    price(file, out) as u32
+}
+
+#[no_mangle]
+pub extern "C" fn loqshyber_tree_cost(
+    weights: &[u8],
+    leg_counts: &[u8],
+    legs: &[u16],
+    outputs: &[u16],
+    flags: &[u8],
+    tree: &[u16],
+    ws: &mut [u64],
+    sets: &mut [u64],
+    sizes: &mut [u16],
+    works: &mut [u16],
+    steps: &mut [u16],
+    answer: &mut [u64],
+) -> u32
+    ensures { λ r. ⌜ MemoryCost (lentNetwork (now (weights .entry)) (now («leg_counts» .entry)) (now (legs .entry)) (now (outputs .entry))) (now (flags .entry)) (now (tree .entry))
+        (now (ws .entry)) (now (sets .entry)) (now (sizes .entry)) (now (works .entry)) (now (steps .entry)) (now (answer .entry))
+        (now (ws .exit)) (now (sets .exit)) (now (sizes .exit)) (now (works .exit)) (now (steps .exit)) (now (answer .exit)) r ⌝ }
+{
+    memory::tree_cost(
+        weights,
+        leg_counts,
+        legs,
+        outputs,
+        flags,
+        tree,
+        ws,
+        sets,
+        sizes,
+        works,
+        steps,
+        answer,
+    ) as u32
+}

@@ -1,0 +1,56 @@
+-- The C host's pricing by computation: the listing's bytes of a small plan, and refusals. Assumes nothing.
+use mathlib.Core.List.{List, [], _∷_, _++_, map}
+use mathlib.Core.Option.{none, some}
+use mathlib.Core.Path.{_≡_, refl}
+use Prim.Native.Nat.{ℕ}
+use Rattle.spec.specs.Memory.{filled, over}
+use Rattle.spec.specs.Refusal.{codeOf, Result, done}
+use Rattle.spec.specs.Tree.{valid, treeAt, pairsOf}
+use Rattle.spec.specs.Price.{kept, listing, flatSteps, Prices}
+use Rattle.spec.specs.Network.{Network, named}
+use Rattle.spec.specs.Layout.{firsts, networkOf}
+use Rattle.spec.specs.Calls.{priceCall}
+use Rattle.spec.specs.File.{plain, flagged, Contents, fileOf, readOf}
+use Rattle.spec.specs.FileClaims.{refusalIn}
+use Rattle.spec.specs.Host.{fullRoom, listingCall, hostCall, lentNetwork, memoryCall, answerAfter}
+use Rattle.laws.specs.Samples.{sample}
+
+abbrev contents : Contents
+contents = record { network = sample; tree = some (2 ∷ 1 ∷ 3 ∷ 0 ∷ []); ask = flagged (0 ∷ 1 ∷ []) }
+
+-- two steps, total 4, widest 1, slice bits 2; then the steps of document 01's sample, index 1 being flagged
+priced : hostCall 36 (fileOf contents)
+    ≡ done (0 ∷ 2 ∷ 0 ∷ 0 ∷ 0 ∷ 0 ∷ 0 ∷ 0 ∷ 0 ∷ 0 ∷ 4 ∷ 1 ∷ 0 ∷ 1 ∷ 0 ∷ 2
+    ∷ 0 ∷ 3 ∷ 0 ∷ 2 ∷ 0 ∷ 1 ∷ 0 ∷ 1 ∷ 0 ∷ 0
+    ∷ 0 ∷ 4 ∷ 0 ∷ 3 ∷ 0 ∷ 0 ∷ 0 ∷ 1 ∷ 0 ∷ 1 ∷ [])
+unfolding hostCall listingCall readOf fileOf priceCall listing flatSteps valid treeAt pairsOf kept named
+priced = refl
+
+-- one byte too few; no tree; too few bytes before the missing tree; half a file
+abbrev bare : Contents
+bare = record { network = sample; tree = none; ask = plain }
+
+refusals : map codeOf (
+    refusalIn (hostCall 35 (fileOf contents)) ∷ refusalIn (hostCall 36 (fileOf bare)) ∷ refusalIn (hostCall 35 (fileOf bare)) ∷ refusalIn (hostCall 36 []) ∷ [])
+    ≡ 7 ∷ 8 ∷ 7 ∷ 1 ∷ []
+unfolding hostCall listingCall readOf fileOf priceCall listing valid treeAt pairsOf kept named
+refusals = refl
+
+-- a network in memory: its lists stand for the same network, and its prices are the four numbers; then three places for them, and a weight of 9
+abbrev rows : List ℕ
+rows = (0 ∷ 1 ∷ []) ++ filled 30 0 ++ ((1 ∷ 2 ∷ []) ++ filled 30 0 ++ (2 ∷ []))
+
+lent-sample : lentNetwork (1 ∷ 2 ∷ 1 ∷ []) (2 ∷ 2 ∷ 1 ∷ []) rows (0 ∷ []) ≡ sample
+unfolding networkOf firsts filled
+lent-sample = refl
+
+abbrev inMemory : ℕ → Network → Result Prices
+inMemory places N = memoryCall places N 4096 fullRoom (0 ∷ 1 ∷ []) (2 ∷ 1 ∷ 3 ∷ 0 ∷ [])
+
+memory : answerAfter (inMemory 5 sample) (9 ∷ 9 ∷ 9 ∷ 9 ∷ 9 ∷ []) ≡ 0 ∷ 4 ∷ 2 ∷ 2 ∷ 9 ∷ []
+unfolding memoryCall over priceCall listing valid treeAt pairsOf kept named
+memory = refl
+
+memory-refused : map (λ r. codeOf (refusalIn r)) (inMemory 3 sample ∷ inMemory 3 (record { leaves = []; outputs = []; weights = 9 ∷ [] }) ∷ []) ≡ 7 ∷ 4 ∷ []
+unfolding memoryCall priceCall listing valid treeAt pairsOf kept named
+memory-refused = refl

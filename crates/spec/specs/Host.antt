@@ -1,0 +1,102 @@
+-- Pricing for a C host: from a file's bytes to the listing's bytes, and from a network in memory to prices, or a refusal.
+-- Definitions only. Assumes nothing.
+use mathlib.Core.Bool.{Bool, false}
+use mathlib.Core.List.{List, [], _∷_, _++_}
+use mathlib.Core.Option.{Option, none, some}
+use mathlib.Core.Path.{_≡_}
+use Prim.Native.Nat.{ℕ, zero, suc, _+_, _*_, _/_, _%_}
+use lib.ListN.{length}
+use Rattle.spec.specs.Network.{Network, networkChecks}
+use Rattle.spec.specs.Layout.{networkOf}
+use Rattle.spec.specs.Tree.{Pair, pairsOf}
+use Rattle.spec.specs.Price.{listing, flatSteps, Total, exact, beyond, Prices, priceOf}
+use Rattle.spec.specs.Refusal.{codeOf, Result, done, andThen, checked}
+use Rattle.spec.specs.Calls.{lent, lengthCheck, plainWords, stepPlaces, PriceRoom, priceCall, flagAt, listAfter}
+use Rattle.spec.specs.File.{flagBytes, treeBytes, readOf}
+use Rattle.spec.specs.FileClaims.{refusalIn}
+
+-- ---- the listing's bytes ----
+
+-- a number in n bytes, high byte first
+abbrev pub bytesOf : ℕ → ℕ → List ℕ
+bytesOf zero x = []
+bytesOf (suc n) x = bytesOf n (x / 256) ++ (x % 256 ∷ [])
+
+-- two bytes each
+abbrev pub twoEach : List ℕ → List ℕ
+twoEach [] = []
+twoEach (x ∷ l) = bytesOf 2 x ++ twoEach l
+
+-- 0 and the total, or 1 and 0
+abbrev pub totalBytes : Total → List ℕ
+totalBytes (exact x) = 0 ∷ bytesOf 8 x
+totalBytes beyond = 1 ∷ bytesOf 8 0
+
+-- 1 and the size bits, or 0 and 0
+abbrev pub widestBytes : Option ℕ → List ℕ
+widestBytes none = 0 ∷ bytesOf 2 0
+widestBytes (some x) = 1 ∷ bytesOf 2 x
+
+-- the head: how many steps, total, widest, slice bits
+abbrev pub headBytes : ℕ → Prices → List ℕ
+headBytes steps p = bytesOf 2 steps ++ (totalBytes (p .total) ++ (widestBytes (p .widest) ++ bytesOf 2 (p .sliceBits)))
+
+-- the head, and ten bytes a step: node, left, right, work bits, size bits
+abbrev pub listingBytes : Network → (ℕ → Bool) → List Pair → List ℕ
+listingBytes N flag a =
+    headBytes (length (listing N flag a)) (priceOf N flag a) ++ twoEach (flatSteps (listing N flag a))
+
+abbrev pub listingLength : Network → ℕ
+listingLength N = 16 + stepPlaces N * 10
+
+-- ---- the call ----
+
+-- room for the price list of every network: 255 nodes and 127 steps
+abbrev pub fullRoom : PriceRoom
+fullRoom = record { sets = 1020; sizes = 255; works = 255; steps = 635 }
+
+-- ask for room for the listing, then price with the given flags and tree
+unfoldable pub listingCall : ℕ → Network → List ℕ → List ℕ → Result (List ℕ)
+listingCall size N flags kids =
+    checked (lengthCheck (lent size (listingLength N) ∷ []) ∷ [])
+    (andThen (priceCall N plainWords fullRoom flags kids) λ p. done (listingBytes N (flagAt flags) (pairsOf kids)))
+
+-- read the file, then price its network with its own flags and tree
+unfoldable pub hostCall : ℕ → List ℕ → Result (List ℕ)
+hostCall size file =
+    andThen (readOf 254 256 file) λ c. listingCall size (c .network) (flagBytes (c .ask)) (treeBytes (c .tree))
+
+-- the lent buffer afterwards
+abbrev pub hostAfter : Result (List ℕ) → List ℕ → List ℕ
+hostAfter r out = listAfter r (λ bytes. bytes) out
+
+-- what a host gets: the number of the refusal, or 0, and the lent buffer afterwards
+abbrev pub Answered : Result (List ℕ) → ℕ → List ℕ → List ℕ → Type 0
+Answered r number out after = (number ≡ codeOf (refusalIn r)) × (after ≡ hostAfter r out)
+
+-- ---- a network in memory ----
+
+-- the network of lists that are lent whole: a weight an index, a count a leaf; the indices of leaf i stand from place 32 i on
+abbrev pub lentNetwork : (weights counts legs outputs : List ℕ) → Network
+lentNetwork weights counts legs outputs = networkOf (length weights) (length counts) (length outputs) weights counts legs outputs
+
+-- what pricing answers, as four numbers: 0 and the total, or 1 and 0; 0 for no widest, or its size bits and one more; the slice bits
+abbrev pub totalNumbers : Total → List ℕ
+totalNumbers (exact x) = 0 ∷ x ∷ []
+totalNumbers beyond = 1 ∷ 0 ∷ []
+
+abbrev pub widestNumber : Option ℕ → ℕ
+widestNumber none = 0
+widestNumber (some x) = x + 1
+
+abbrev pub priceNumbers : Prices → List ℕ
+priceNumbers p = totalNumbers (p .total) ++ (widestNumber (p .widest) ∷ p .sliceBits ∷ [])
+
+-- by number: the network's conditions, then 7 for the list of the answer, then pricing's own. `places` is that list's length.
+unfoldable pub memoryCall : ℕ → Network → ℕ → PriceRoom → List ℕ → List ℕ → Result Prices
+memoryCall places N words room flags kids =
+    checked (networkChecks false N ++ (lengthCheck (lent places 4 ∷ []) ∷ [])) (priceCall N words room flags kids)
+
+-- the list of the answer afterwards
+abbrev pub answerAfter : Result Prices → List ℕ → List ℕ
+answerAfter r l = listAfter r priceNumbers l

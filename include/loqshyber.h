@@ -1,0 +1,55 @@
+/* Loqshyber for a C host: the prices of a contraction plan.
+ *
+ * Each function returns 0, or the number of the refusal (1 to 9). Each list is a pointer that is not null and a length in its own units,
+ * and no list that is written overlaps another. */
+#ifndef LOQSHYBER_H
+#define LOQSHYBER_H
+
+#include <stddef.h>
+#include <stdint.h>
+
+/* loqshyber_price reads a network file with its tree, and flags if it has them, and writes the plan's listing to `out`.
+ * After a refusal `out` is as it was.
+ *
+ * The listing, every number high byte first:
+ *   steps        2 bytes
+ *   total        1 byte (0: exact, 1: beyond), 8 bytes (the total; 0 if beyond)
+ *   widest       1 byte (0: none, 1: bits), 2 bytes (size bits; 0 if none)
+ *   slice bits   2 bytes
+ *   each step    10 bytes: node, left, right, work bits, size bits, 2 bytes each
+ * that is LOQSHYBER_HEAD + LOQSHYBER_STEP * steps bytes, and LOQSHYBER_MOST at most. Bytes of `out` past them stay as they were. */
+#define LOQSHYBER_HEAD 16
+#define LOQSHYBER_STEP 10
+#define LOQSHYBER_MOST (LOQSHYBER_HEAD + LOQSHYBER_STEP * 127)
+
+uint32_t loqshyber_price(const uint8_t *file, size_t file_length, uint8_t *out, size_t out_length);
+
+/* loqshyber_tree_cost prices a tree of a network in memory. With n leaves there are n - 1 steps and 2n - 1 nodes (none without leaves).
+ *
+ * What is read:
+ *   weights      the weight of each index
+ *   leg_counts   how many indices each leaf has
+ *   legs         LOQSHYBER_LEGS places a leaf, of which the leaf's indices are the first
+ *   outputs      the output indices
+ *   flags        1 for each index that is sliced; an index past the end is not
+ *   tree         the left and the right child of each inner node
+ * What is written, from the front, after an answer; after a refusal all but `ws` is as it was:
+ *   ws           LOQSHYBER_WORDS words, 0 afterwards; after refusals 3 to 7 as they were
+ *   sets         LOQSHYBER_SET words a node: the indices that it lists, as digits
+ *   sizes        the size bits of each node
+ *   works        the work bits of each node, 0 for a leaf
+ *   steps        5 numbers a step: node, left, right, work bits, size bits
+ *   answer       LOQSHYBER_ANSWER numbers: 0 and the total, or 1 and 0 if it is beyond; 0 without leaves, else one more than the widest
+ *                table's size bits; the slice bits */
+#define LOQSHYBER_LEGS 32
+#define LOQSHYBER_WORDS 4096
+#define LOQSHYBER_SET 4
+#define LOQSHYBER_ANSWER 4
+
+uint32_t loqshyber_tree_cost(const uint8_t *weights, size_t weights_length, const uint8_t *leg_counts, size_t leg_counts_length,
+    const uint16_t *legs, size_t legs_length, const uint16_t *outputs, size_t outputs_length, const uint8_t *flags, size_t flags_length,
+    const uint16_t *tree, size_t tree_length, uint64_t *ws, size_t ws_length, uint64_t *sets, size_t sets_length,
+    uint16_t *sizes, size_t sizes_length, uint16_t *works, size_t works_length, uint16_t *steps, size_t steps_length,
+    uint64_t *answer, size_t answer_length);
+
+#endif
