@@ -1,28 +1,27 @@
 -- The lent lists at greedy's start hold the state that the definition starts from. Assumes nothing.
-use mathlib.Core.Bool.{Bool, true, false, not, _&&_, _||_, cond}
+use mathlib.Core.Bool.{Bool, true, _||_}
 use mathlib.Core.Path.{_≡_, refl, sym, _∙_, ap, ap₂, subst}
 use mathlib.Core.List.{List, [], _∷_}
-use Prim.Native.Nat.{ℕ, zero, suc, _+_, _-_, _*_, _≤_, _<_}
+use Prim.Native.Nat.{ℕ, zero, suc, _+_, _*_, _≤_, _<_}
 use native.Mathlib.Omega.{arith}
 use lib.Dec.{eqb, ltb}
-use lib.ListN.{length, getD, drop, length-map}
-use borrow.Author.Tests.{le-ltb, ltb-true, ltb-false}
+use lib.ListN.{length, getD, length-map}
+use borrow.Author.Tests.{le-ltb, ltb-false}
 use Rattle.spec.specs.Lists.{memb, count, from, range, sumOf}
 use Rattle.spec.specs.Members.{All}
 use Rattle.spec.specs.Memory.{filled, over, copied}
 use Rattle.spec.specs.Network.{Network, leafCount, indexCount, legs}
 use Rattle.spec.specs.NetworkClaims.{Accepted}
-use Rattle.spec.specs.Tree.{Tree, leaf, number, numbers, Pair, flatOf, Describes}
+use Rattle.spec.specs.Tree.{Tree, leaf, numbers, Pair, flatOf, Describes}
 use Rattle.spec.specs.Price.{lists}
-use Rattle.spec.specs.Greedy.{Live, State, sizeOf, trees, slots, startOf, leavesOf}
+use Rattle.spec.specs.Greedy.{Live, sizeOf, trees, slots, startOf, leavesOf}
 use Rattle.laws.specs.Booleans.{by-cases, clash, or-intror}
 use Rattle.laws.specs.ListLaws.{memb-head, memb-one, memb-range, from-memb, count-not-memb, range-length}
 use Rattle.laws.specs.Walks.{inners}
 use Rattle.laws.specs.GreedyForest.{Forest, Topped, fresh}
 use Rattle.laws.specs.GreedyMerging.{Sound, trees-slots, start-sound}
-use Rattle.laws.specs.GreedySlots.{entry}
-use Rattle.cells.specs.Cells.{copied-length, copied-at, filled-length, filled-at, over-length}
-use Rattle.slots.specs.Slots.{held, withSet, withSet-length, held-with, held-with-other, next-slot}
+use Rattle.cells.specs.Cells.{copied-length, copied-at, filled-length, filled-at}
+use Rattle.slots.specs.Slots.{held, withSet-length, held-with, next-slot}
 use Rattle.slots.specs.Writes.{among}
 use Rattle.slots.specs.Weigh.{weighed, either}
 use Rattle.network.specs.Layouts.{firsts-all}
@@ -30,14 +29,14 @@ use Rattle.rows.specs.Known.{at-member}
 use Rattle.rows.specs.Renewed.{Kept, stale}
 use Rattle.merging.specs.Listed.{listed, stateAt}
 use Rattle.merging.specs.Ruled.{outer}
-use Rattle.merging.specs.Holds.{Given, Ghost, stateOf, Lists, listsOf, Holds}
+use Rattle.merging.specs.Holds.{Given, Ghost, listsOf}
 use Rattle.merging.specs.Connect.{Start}
-use Rattle.start.specs.Leaves.{leafSet, withLeaves, leaves-length, leaves-held, leaves-other, withInside, outsideSet, withOutside, withSizes, putAll, put-length, put-at, others}
+use Rattle.start.specs.Leaves.{withLeaves, leaves-length, leaves-held, leaves-other, withInside, outsideSet, withOutside, withSizes, putAll, put-length, put-at}
 use Rattle.greedy.specs.Lends.{Lends, among-memb, leaf-size, others-named}
 
 -- ---- lists ----
 
-range-at : (k n i : ℕ) → i < n → getD (from k n) i 0 ≡ k + i
+pub range-at : (k n i : ℕ) → i < n → getD (from k n) i 0 ≡ k + i
 range-at k zero i h = absurd (omega arith)
 range-at k (suc n) zero h = omega arith
 range-at k (suc n) (suc i) h = range-at (suc k) n i (omega arith) ∙ omega arith
@@ -86,6 +85,20 @@ leaves-forest n a l low =
     }
 
 -- ---- the start ----
+
+-- the words of the start: what stays, and the leaves' sets
+unfoldable pub startWords : ℕ → ℕ → List ℕ → List ℕ → List ℕ → List ℕ → List ℕ → List ℕ
+startWords W n counts legs outputs leaves ws = withLeaves W counts legs leaves (withOutside W counts legs leaves ws outputs n) (length leaves)
+
+-- what the code asks of the lengths
+pub record Fits (w n made : ℕ) (weights outputs leaves ws : List ℕ) : Type 0 where
+  pub width : w ≤ 16
+  pub indices : length weights ≤ w * 64
+  pub leafSets : n ≤ w * 64
+  pub few : length leaves ≤ 128
+  pub outputsFit : length outputs ≤ 4294967296
+  pub words : 258 * w + w ≤ length ws
+  pub array : made < 8192
 
 -- what greedy over a list of leaves is given: the leaves are some of the network's, each once; the array so far has `made` nodes
 pub record Asks (N : Network) (a : List Pair) (n made : ℕ) (weights counts legs outputs leaves kids : List ℕ) : Type 0 where
@@ -197,7 +210,7 @@ module _ (N : Network) (a : List Pair) (W n made : ℕ) (weights counts cells ou
         unfolding withSizes
         sizes-long = omega (arith, bs, ap length es, put-length (λ i. weighed weights [] (either words₂ W i i) (W * 64)) sizes₀ tables)
 
-        pub begins : Start given ghost (listsOf words₂ nodes sizes live rows) W n tables made weights kids
+        begins : Start given ghost (listsOf words₂ nodes sizes live rows) W n tables made weights kids
         begins =
             record {
               holds =
@@ -214,7 +227,7 @@ module _ (N : Network) (a : List Pair) (W n made : ℕ) (weights counts cells ou
                         let b : i < tables = omega (arith, range-length 0 tables) in
                         ap (λ (l : List ℕ). getD l i 0) el ∙ put-at (λ i. i) live₀ tables i b (omega (arith, bl, few)) ∙ sym (range-at 0 tables i b ∙ omega arith);
                     few = omega (arith, range-length 0 tables, few);
-                    wide = omega (arith, room, long₁, leaves-length W counts cells leaves words₁ tables);
+                    enough = omega (arith, room, long₁, leaves-length W counts cells leaves words₁ tables);
                     places = (
                       omega (arith, bn, ap length en, copied-length nodes₀ leaves tables),
                       sizes-long,
@@ -231,3 +244,13 @@ module _ (N : Network) (a : List Pair) (W n made : ℕ) (weights counts cells ou
               made = asks .array;
               written = asks .written;
             }
+
+    -- the lists that the code prepares
+    pub prepared : (nodes₀ sizes₀ live₀ rows₀ : List ℕ) → 256 ≤ length nodes₀ → 256 ≤ length sizes₀ → 256 ≤ length live₀ → 256 ≤ length rows₀
+        → (words nodes sizes live rows : List ℕ) → words ≡ startWords W n counts cells outputs leaves ws₀ → nodes ≡ copied nodes₀ leaves tables
+        → sizes ≡ withSizes words W weights sizes₀ tables → live ≡ putAll (λ i. i) live₀ tables → rows ≡ filled (length rows₀) 258
+        → Start given ghost (listsOf words nodes sizes live rows) W n tables made weights kids
+    unfolding startWords
+    prepared nodes₀ sizes₀ live₀ rows₀ bn bs bl br words nodes sizes live rows ew en es el er =
+        subst (λ (l : List ℕ). Start given ghost (listsOf l nodes sizes live rows) W n tables made weights kids) (sym ew)
+        (begins nodes₀ sizes₀ live₀ rows₀ bn bs bl br nodes sizes live rows en (es ∙ ap (λ (l : List ℕ). withSizes l W weights sizes₀ tables) ew) el er)

@@ -1,17 +1,15 @@
 -- From the merging and the rest to greedy's answer. Assumes nothing.
-use mathlib.Core.Bool.{true}
 use mathlib.Core.Path.{_≡_, refl, sym, _∙_, ap, ap₂}
 use mathlib.Core.List.{List, [], _∷_}
 use Prim.Native.Nat.{ℕ, _+_, _-_, _*_, _≤_, _<_}
 use native.Mathlib.Omega.{arith}
 use native.Mathlib.Decide.{decLe}
 use lib.ListN.{length, length-map}
-use Rattle.spec.specs.Lists.{range}
 use Rattle.spec.specs.Memory.{over}
 use Rattle.spec.specs.Network.{Network}
 use Rattle.spec.specs.Tree.{Tree, leaf, number, Pair, flatOf}
-use Rattle.spec.specs.Refusal.{tableTooWide, Result, refused, done}
-use Rattle.spec.specs.Greedy.{State, connect, Built, finish, startOf, leavesOf, greedyFrom}
+use Rattle.spec.specs.Refusal.{tableTooWide, refused, done}
+use Rattle.spec.specs.Greedy.{State, connect, Built, finish, leavesOf, greedyFrom}
 use Rattle.laws.specs.GreedyMerging.{connect-some}
 use Rattle.laws.specs.ListLaws.{range-length}
 use Rattle.merging.specs.Holds.{Given, Ghost, stateOf, count-trees, used-slots}
@@ -44,8 +42,8 @@ module _ (N : Network) (a : List Pair) (W n made : ℕ) (weights counts cells ou
         (sym (state-is N a W n made weights counts cells outputs leaves kids asks fits fewLeaves few ws₀ room))
 
     -- refused
-    pub answer-refused : (nodes sizes live kids₁ kids₂ : List ℕ) (r : ℕ) → r ≡ 65536 → Connected G S kids nodes sizes live kids₁ r → Greedied N a leaves kids kids₂ r
-    answer-refused nodes sizes live kids₁ kids₂ r e (tooWide z q) = isRefused e (from-is ∙ ap (finish N) q)
+    pub answer-refused : (nodes sizes live kids₁ kids₂ : List ℕ) (r : ℕ) → r ≡ 65536 → Connected G S kids nodes sizes live kids₁ r → Greedied N a leaves kids kids₂ 65536
+    answer-refused nodes sizes live kids₁ kids₂ r e (tooWide z q) = isRefused refl (from-is ∙ ap (finish N) q)
     answer-refused nodes sizes live kids₁ kids₂ r e (ended F) = absurd (omega (arith, F .left, few))
 
     module _ (nodes sizes live kids₁ : List ℕ) (t : ℕ) (n₁ : t ≡ 65536 → ⊥) where

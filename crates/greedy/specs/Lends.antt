@@ -1,30 +1,28 @@
 -- Lent lists that stand for a network; the size of a leaf's table by its set. Assumes nothing.
 use mathlib.Core.Bool.{Bool, true, false, not, _&&_, _||_, cond, or-false, or-assoc}
-use mathlib.Core.Path.{_≡_, refl, sym, _∙_, ap, ap₂, subst}
-use mathlib.Core.List.{List, [], _∷_, _++_}
+use mathlib.Core.Path.{_≡_, refl, sym, _∙_, ap, ap₂}
+use mathlib.Core.List.{List, [], _∷_}
 use Prim.Native.Nat.{ℕ, zero, suc, _+_, _*_, _≤_, _<_}
 use native.Mathlib.Omega.{arith}
-use native.Mathlib.Nat.{lt-of-not-le}
 use native.Mathlib.Numerals.{add-one}
-use native.Mathlib.Decide.{decLe}
 use lib.Dec.{eqb, ltb}
-use lib.ListN.{length, getD, take, drop, length-take}
-use lib.Seq.{getD-drop, length-take-le}
+use lib.ListN.{length, getD, take, drop}
+use lib.Seq.{getD-drop}
 use borrow.Author.Tests.{lt-ltb, ltb-true, ltb-false, eqb-true}
 use Rattle.spec.specs.Lists.{memb, count, keep, from, range, anyb, sumOf}
-use Rattle.spec.specs.Layout.{firsts, rowAt, networkOf}
+use Rattle.spec.specs.Layout.{firsts, networkOf}
 use Rattle.spec.specs.Network.{Network, leafCount, indexCount, weight, legs, named}
 use Rattle.spec.specs.NetworkClaims.{Accepted}
-use Rattle.spec.specs.Tree.{Tree, leaf, below}
+use Rattle.spec.specs.Tree.{leaf, below}
 use Rattle.spec.specs.Price.{lists, bits}
 use Rattle.spec.specs.Greedy.{sizeOf, leavesOf}
 use Rattle.laws.specs.Booleans.{by-cases, and-right, eqb-sym}
 use Rattle.laws.specs.ListLaws.{memb-append, memb-keep, any-ext, from-memb, count-memb, count-not-memb}
 use Rattle.laws.specs.Counts.{count-in, count-out, sum-same}
-use Rattle.network.specs.Layouts.{firsts-none, firsts-more, firsts-take, firsts-all, firsts-length, layout-leaf-count, layout-weights, layout-outputs, layout-legs}
+use Rattle.network.specs.Layouts.{firsts-none, firsts-more, firsts-take, firsts-all, layout-leaf-count, layout-weights, layout-outputs, layout-legs}
 use Rattle.slots.specs.Slots.{held}
 use Rattle.slots.specs.Writes.{among}
-use Rattle.slots.specs.Weigh.{openWeight, weighed, either, weighed-ext, weighed-past}
+use Rattle.slots.specs.Weigh.{weighed, either}
 use Rattle.merging.specs.Tables.{weighed-bits}
 use Rattle.start.specs.Leaves.{leafSet, others}
 

@@ -1,17 +1,16 @@
 -- Have two slots an index in common: word by word, up to the first word that has one. Assumes nothing.
 use mathlib.Core.Bool.{Bool, true, false, _&&_}
-use mathlib.Core.Path.{_≡_, refl, sym, _∙_, ap, ap₂}
+use mathlib.Core.Path.{_≡_, sym, _∙_, ap, ap₂}
 use mathlib.Core.List.{List, [], _∷_, _++_}
-use Prim.Native.Nat.{ℕ, zero, suc, _+_, _-_, _*_, _^_, _≤_, _<_}
+use Prim.Native.Nat.{ℕ, suc, _+_, _-_, _*_, _^_, _<_}
 use native.Mathlib.Omega.{arith}
 use native.Mathlib.Nat.{mul-le-mul-right, suc-mul}
-use native.Mathlib.Numerals.{add-one}
 use lib.Bits.{bitAnd}
 use lib.Count.{trailingZeros}
 use lib.ListN.{getD}
 use Rattle.spec.specs.Lists.{memb, keep, range, anyb}
 use Rattle.laws.specs.Booleans.{by-cases, clash}
-use Rattle.laws.specs.ListLaws.{memb-head, memb-keep, memb-append, memb-range, keep-passes, any-intro, any-elim}
+use Rattle.laws.specs.ListLaws.{memb-head, memb-keep, memb-range, keep-passes, any-intro, any-elim}
 use Rattle.bits.specs.Digits.{and-digits}
 use Rattle.bits.specs.Lowest.{Tests, places, places-step, places-none, tz-small}
 use Rattle.slots.specs.Slots.{held, held-digit}
@@ -39,10 +38,7 @@ module _ (ws : List ℕ) (W x y : ℕ) where
       → both ((k + 1) * 64) ≡ both (k * 64) ++ places (k * 64) 64 (bitAnd a b)
   both-next k a b p q = rw (p, q) (word-more 64 (common ws W x y) k _ (common-tests k))
 
-  -- no word yet, a word with nothing in common, and the end
-  pub share-none : both (0 * 64) ≡ []
-  share-none = refl
-
+  -- a word with nothing in common, and the end
   pub share-next : (k a b : ℕ) → a ≡ getD ws (x * W + k) 0 → b ≡ getD ws (y * W + k) 0 → bitAnd a b ≡ 0
       → both (k * 64) ≡ [] → both ((k + 1) * 64) ≡ []
   share-next k a b p q z h = both-next k a b p q ∙ rw (h, z) (places-none (k * 64) 64)

@@ -3,7 +3,7 @@
 use mathlib.Core.Bool.{Bool, true, false, not, _&&_, _||_, cond}
 use mathlib.Core.Path.{_≡_, refl, sym, _∙_, ap, ap₂}
 use mathlib.Core.List.{List, []}
-use Prim.Native.Nat.{ℕ, zero, suc, _+_, _*_, _^_, _≤_, _<_}
+use Prim.Native.Nat.{ℕ, _+_, _*_, _^_, _<_}
 use native.Mathlib.Omega.{arith}
 use lib.Bits.{bitAnd, bitOr, bitXor, or-lt, and-lt, xor-lt}
 use lib.ListN.{getD, set}
@@ -11,7 +11,7 @@ use Rattle.spec.specs.Lists.{keep, range, sumOf}
 use Rattle.laws.specs.ListLaws.{sum-append}
 use Rattle.bits.specs.Digits.{digit, or-digits, and-digits, xor-digits}
 use Rattle.bits.specs.Lowest.{Tests, places}
-use Rattle.slots.specs.Slots.{held, wordOf, written, withSet, Words, held-digit, word-is, written-other, written-next, place-eq}
+use Rattle.slots.specs.Slots.{held, wordOf, written, Words, held-digit, word-is, written-other, written-next, place-eq}
 use Rattle.slots.specs.Rising.{word-more}
 use Rattle.slots.specs.Weigh.{openWeight, weighed, wordWeight}
 

@@ -1,40 +1,39 @@
 -- The lent lists after the two tables of the least pair were merged hold greedy's next state. Assumes nothing.
-use mathlib.Core.Bool.{Bool, true, false, not, _&&_, _||_, cond, or-false, or-assoc}
+use mathlib.Core.Bool.{Bool, true, false, not, _&&_, _||_, or-false, or-assoc}
 use mathlib.Core.Path.{_≡_, refl, sym, _∙_, ap, ap₂, subst}
 use mathlib.Core.List.{List, [], _∷_, _++_}
-use Prim.Native.Nat.{ℕ, zero, suc, _+_, _*_, _/_, _%_, _≤_, _<_}
+use Prim.Native.Nat.{ℕ, zero, suc, _+_, _*_, _/_, _≤_, _<_}
 use native.Mathlib.Omega.{arith}
 use native.Mathlib.Decide.{ℕ-discrete}
 use lib.Dec.{eqb, ltb}
-use lib.ListN.{length, getD, set, take, length-append, length-set}
-use lib.Seq.{getD-set-same, getD-set-other, ext-getD, getD-take, length-take-le}
+use lib.ListN.{length, getD, set, length-append, length-set}
+use lib.Seq.{getD-set-same, getD-set-other}
 use borrow.Author.Tests.{eqb-true, eqb-false, ne-eqb, not-true}
 use Rattle.spec.specs.Lists.{memb, anyb}
 use Rattle.spec.specs.Memory.{over}
-use Rattle.spec.specs.Network.{Network, leafCount, indexCount, named, InRange}
+use Rattle.spec.specs.Network.{Network, leafCount, named}
 use Rattle.spec.specs.Tree.{Tree, number, below, Pair}
 use Rattle.spec.specs.Price.{lists}
-use Rattle.spec.specs.Refusal.{done}
 use Rattle.spec.specs.Greedy.{Live, Cand, State, share, inOrder, before, tooWide, sizeOf, mergedSize, off, plus, joined, merge, connect, trees}
 use Rattle.spec.specs.GreedyClaims.{others}
-use Rattle.laws.specs.Booleans.{by-cases, or-cases, or-none, or-introl, or-intror, and-left, and-right, and-both, clash, eqb-self}
+use Rattle.laws.specs.Booleans.{by-cases, or-cases, or-none, and-left, and-right, and-both, clash}
 use Rattle.laws.specs.ListLaws.{memb-append}
 use Rattle.laws.specs.GreedyMerging.{Sound, connect-sound}
 use Rattle.laws.specs.GreedyLists.{merged-size}
 use Rattle.laws.specs.GreedySlots.{entry, pairAt, treeAfter}
-use Rattle.cells.specs.Cells.{over-length, over-at, over-snoc}
+use Rattle.cells.specs.Cells.{over-length, over-at}
 use Rattle.slots.specs.Slots.{held, withSet, withSet-length, held-with, held-with-other, next-slot}
 use Rattle.live.specs.Holders.{holders-length}
 use Rattle.live.specs.Merged.{mergedSet}
 use Rattle.scores.specs.Scores.{firstOf, secondOf, codeOf}
-use Rattle.rows.specs.Rows.{renewedAll, all-length}
-use Rattle.rows.specs.Known.{member-at, code-bits, Share, Wide, NotBefore, codeFor, Known, alone, least, known-fewer}
+use Rattle.rows.specs.Rows.{all-length}
+use Rattle.rows.specs.Known.{member-at, code-bits, Share, Known, alone, least, known-fewer}
 use Rattle.rows.specs.Renewed.{Entry, stale, known, Kept, rows-gone}
-use Rattle.merging.specs.Listed.{listed, stateAt, other, remaining, remaining-memb, merge-listed}
+use Rattle.merging.specs.Listed.{listed, other, remaining, remaining-memb, merge-listed}
 use Rattle.merging.specs.Tables.{HoldsList}
 use Rattle.merging.specs.Ruled.{outer, held-same, merged-is, outside-is}
-use Rattle.merging.specs.Holds.{Given, Ghost, stateOf, Lists, Holds, count-trees, used-slots, tree-new, tree-old, row-known}
-use Rattle.merging.specs.Turn.{words₁, rows₁, rises, used, small, hold, sized, said, entries, Chosen, chosen-merges}
+use Rattle.merging.specs.Holds.{Given, Ghost, stateOf, Lists, Holds, count-trees, tree-new, tree-old, row-known}
+use Rattle.merging.specs.Turn.{words₁, rows₁, rises, used, small, hold, said, entries, Chosen, chosen-merges}
 
 -- ---- what an entry says does not depend on higher slots ----
 
@@ -171,12 +170,12 @@ module _ (G : Given) (S : Ghost) (M : Lists) (H : Holds G S M) (y : ℕ) (c : Ch
   words₂ = withSet words W next (mergedSet words W f g)
 
   long : 258 * W + W ≤ length words
-  long = omega (arith, H .wide, holders-length (M .words) W L (length L))
+  long = omega (arith, H .enough, holders-length (M .words) W L (length L))
 
   still : (u j : ℕ) → u < 257 → (u ≡ next → ⊥) → j < W * 64 → held words₂ W u j ≡ held (M .words) W u j
   still u j h n b =
       held-with-other words W next (mergedSet words W f g) u j b n
-      ∙ held-same N (G .inRange) W (G .fits) (G .base) (G .lo) (G .all) (G .single) a tree L next (H .sound) (M .words) (H .wide)
+      ∙ held-same N (G .inRange) W (G .fits) (G .base) (G .lo) (G .all) (G .single) a tree L next (H .sound) (M .words) (H .enough)
       (small G S M H) (hold G S M H) (H .outside) u j h b
 
   sets′ : (u : ℕ) → u < suc next → HoldsList N words₂ W u (tree′ u)
@@ -184,7 +183,7 @@ module _ (G : Given) (S : Ghost) (M : Lists) (H : Holds G S M) (y : ℕ) (c : Ch
       elim (ℕ-discrete u next) [
         | yes e ↦ rw e
             (held-with words W next (mergedSet words W f g) j (omega (arith, long, next-slot next 258 W (omega (arith, high)))) b
-            ∙ merged-is N (G .inRange) W (G .fits) (G .base) (G .lo) (G .all) (G .single) a tree L next (H .sound) (M .words) (H .wide)
+            ∙ merged-is N (G .inRange) W (G .fits) (G .base) (G .lo) (G .all) (G .single) a tree L next (H .sound) (M .words) (H .enough)
             (small G S M H) (hold G S M H) (H .outside) f g inF inG apart j b
             ∙ ap (λ (t : Tree). memb j (lists N t)) (sym (tree-new N a tree next f g)))
         | no n ↦ still u j (omega (arith, high)) n b ∙ H .sets u (omega (arith, n)) j b
@@ -200,7 +199,7 @@ module _ (G : Given) (S : Ghost) (M : Lists) (H : Holds G S M) (y : ℕ) (c : Ch
     where
       same : (i : ℕ) → anyb (λ t. below t i) (trees (listed tree L)) ≡ anyb (λ t. below t i) (trees ((merge N (record { first = entry tree f; second = entry tree g }) s) .live))
       same i =
-          outside-is N (G .inRange) W (G .fits) (G .base) (G .lo) (G .all) (G .single) a tree L next (H .sound) (M .words) (H .wide)
+          outside-is N (G .inRange) W (G .fits) (G .base) (G .lo) (G .all) (G .single) a tree L next (H .sound) (M .words) (H .enough)
           (small G S M H) (hold G S M H) (H .outside) f g inF inG apart i
           ∙ or-back (below (tree f) i) (below (tree g) i) (anyb (λ w. below w i) (others s (record { first = entry tree f; second = entry tree g })))
           ∙ sym (any-last (λ t. below t i) (off g (off f (listed tree L))) (record { slot = next; tree = joined N a (tree f) (tree g) }))
@@ -318,7 +317,7 @@ module _ (G : Given) (S : Ghost) (M : Lists) (H : Holds G S M) (y : ℕ) (c : Ch
         kept = kept′;
         lived = λ i b. over-at (M .live) L′ i 0 (omega (arith, count′, H .few, H .places .2)) b;
         few = omega (arith, count′, H .few);
-        wide = omega (arith, long, withSet-length words W next (mergedSet words W f g));
+        enough = omega (arith, long, withSet-length words W next (mergedSet words W f g));
         places = (
           simp length-set (H .places .0),
           simp length-set (H .places .1),

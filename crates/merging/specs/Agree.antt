@@ -1,13 +1,13 @@
 -- A scan reads of the list of live slots only its front: two lists with the same front are scanned alike. Assumes nothing.
-use mathlib.Core.Bool.{Bool, _||_, cond}
-use mathlib.Core.Path.{_≡_, refl, sym, _∙_, ap, ap₂}
+use mathlib.Core.Bool.{_||_, cond}
+use mathlib.Core.Path.{_≡_, refl, _∙_, ap, ap₂}
 use mathlib.Core.List.{List}
 use Prim.Native.Nat.{ℕ, zero, suc, _+_, _≤_, _<_}
 use native.Mathlib.Omega.{arith}
 use lib.Dec.{leb}
 use lib.ListN.{length, getD, set, take}
 use lib.Seq.{ext-getD, getD-take, length-take-le}
-use Rattle.cells.specs.Loop.{turns, turns-ext}
+use Rattle.cells.specs.Loop.{turns-ext}
 use Rattle.slots.specs.Slots.{held, withSet}
 use Rattle.live.specs.Holders.{holders, withHolders}
 use Rattle.scores.specs.Scores.{considered, rowOf}

@@ -1,16 +1,16 @@
 -- Greedy's merging over the lent lists: from a state that they hold, turn after turn, to the state in which merging ends, or to its
 -- refusal. Assumes nothing.
-use mathlib.Core.Bool.{Bool, true, false}
+use mathlib.Core.Bool.{true}
 use mathlib.Core.Path.{_≡_, refl, sym, _∙_, ap, ap₂, subst}
 use mathlib.Core.List.{List, [], _∷_, _++_}
-use Prim.Native.Nat.{ℕ, zero, suc, _+_, _-_, _*_, _/_, _%_, _≤_, _<_}
+use Prim.Native.Nat.{ℕ, suc, _+_, _-_, _/_, _%_, _≤_, _<_}
 use native.Mathlib.Omega.{arith}
 use native.Mathlib.Numerals.{add-one}
 use lib.ListN.{length, getD, set, take, length-append}
 use Rattle.spec.specs.Lists.{memb}
 use Rattle.spec.specs.Memory.{over}
 use Rattle.spec.specs.Network.{Network, leafCount}
-use Rattle.spec.specs.Tree.{Tree, number, Pair, flatOf}
+use Rattle.spec.specs.Tree.{number, flatOf}
 use Rattle.spec.specs.Refusal.{tableTooWide, refused, done}
 use Rattle.spec.specs.Greedy.{sizeOf, mergedSize, connect}
 use Rattle.laws.specs.GreedyMerging.{Sound}

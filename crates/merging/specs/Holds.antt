@@ -1,25 +1,23 @@
 -- What the lent lists hold between two turns of greedy: the trees are for the proof alone. Assumes nothing.
-use mathlib.Core.Bool.{Bool, true, false, _||_, cond}
-use mathlib.Core.Path.{_≡_, refl, sym, _∙_, ap, ap₂, subst}
-use mathlib.Core.List.{List, [], _∷_, _++_}
-use Prim.Native.Nat.{ℕ, zero, suc, _+_, _*_, _≤_, _<_}
+use mathlib.Core.Bool.{true, false, cond}
+use mathlib.Core.Path.{_≡_, sym, _∙_, ap, subst}
+use mathlib.Core.List.{List}
+use Prim.Native.Nat.{ℕ, _+_, _*_, _≤_, _<_}
 use native.Mathlib.Omega.{arith}
-use lib.Dec.{eqb, ltb}
-use lib.ListN.{length, getD, length-map, length-append}
+use lib.ListN.{length, getD, length-map}
 use borrow.Author.Tests.{ne-eqb}
-use Rattle.spec.specs.Lists.{memb, anyb, keep}
-use Rattle.spec.specs.Members.{All}
+use Rattle.spec.specs.Lists.{memb}
 use Rattle.spec.specs.Network.{Network, indexCount, InRange}
-use Rattle.spec.specs.Tree.{Tree, number, Pair, flatOf}
+use Rattle.spec.specs.Tree.{Tree, number, Pair}
 use Rattle.spec.specs.Greedy.{Live, State, sizeOf, joined, trees}
-use Rattle.laws.specs.Booleans.{by-cases, clash, eqb-self}
+use Rattle.laws.specs.Booleans.{clash, eqb-self}
 use Rattle.laws.specs.MemberLaws.{all-in}
 use Rattle.laws.specs.GreedyMerging.{Sound}
 use Rattle.laws.specs.GreedySlots.{entry, treeAfter}
 use Rattle.slots.specs.Slots.{held}
-use Rattle.rows.specs.Known.{Rises, at-member, places-of, same-place, Share, Wide, NotBefore, Known, alone, least, RowTo, none, wide, pair}
+use Rattle.rows.specs.Known.{Rises, at-member, places-of, same-place, Share, TooWide, NotBefore, Known, alone, least, RowTo, none, over, pair}
 use Rattle.rows.specs.Renewed.{Kept}
-use Rattle.merging.specs.Listed.{listed, stateAt, listed-has, rising-rises}
+use Rattle.merging.specs.Listed.{listed, stateAt, listed-has}
 use Rattle.merging.specs.Tables.{HoldsList}
 use Rattle.merging.specs.Ruled.{outer}
 
@@ -66,7 +64,7 @@ pub record Holds (G : Given) (S : Ghost) (M : Lists) : Type 0 where
   pub kept : Kept (G .net) (G .start) (S .tree) (S .slots) (S .next) (M .rows)
   pub lived : (i : ℕ) → i < length (S .slots) → getD (M .live) i 0 ≡ getD (S .slots) i 0
   pub few : S .next + length (S .slots) ≤ 256
-  pub wide : 258 * G .width + G .width ≤ length (M .words)
+  pub enough : 258 * G .width + G .width ≤ length (M .words)
   pub places : (256 ≤ length (M .nodes)) × (256 ≤ length (M .sizes)) × (256 ≤ length (M .live)) × (256 ≤ length (M .rows))
 
 pub count-trees : (tree : ℕ → Tree) (L : List ℕ) → length (trees (listed tree L)) ≡ length L
@@ -90,12 +88,12 @@ module _ (N : Network) (a : List Pair) (tree : ℕ → Tree) (next f g : ℕ) wh
 
 -- an entry of a table none of whose pairs is too wide
 pub row-known : (N : Network) (n₀ : ℕ) (tree : ℕ → Tree) (L : List ℕ) → Rises L → (q c : ℕ) → q < length L
-    → ((j : ℕ) → j < q → Share N n₀ tree (getD L j 0) (getD L q 0) ≡ true → Wide N n₀ tree (getD L j 0) (getD L q 0) ≡ false)
+    → ((j : ℕ) → j < q → Share N n₀ tree (getD L j 0) (getD L q 0) ≡ true → TooWide N n₀ tree (getD L j 0) (getD L q 0) ≡ false)
     → RowTo N n₀ tree L q q c → Known N n₀ tree L (getD L q 0) c
 row-known N n₀ tree L r q c b f (none e h) =
     alone e (λ u m l. places-of L r u (getD L q 0) m (at-member L q b) l λ i k d t ei ek.
     ap (λ (v : ℕ). Share N n₀ tree v (getD L q 0)) ei ∙ h i (omega (arith, d, same-place L r k q t b (sym ek))))
-row-known N n₀ tree L r q c b f (wide e i l s w) = clash w (f i l s)
+row-known N n₀ tree L r q c b f (over e i l s w) = clash w (f i l s)
 row-known N n₀ tree L r q c b f (pair i e l s w h) =
     least (getD L i 0) e (r i q l b) s w (λ u m t. places-of L r u (getD L q 0) m (at-member L q b) t λ j k d v ej ek.
     subst (λ (v : ℕ). NotBefore N n₀ tree (getD L q 0) (getD L i 0) v) (sym ej) (h j (omega (arith, d, same-place L r k q v b (sym ek)))))

@@ -1,8 +1,8 @@
 -- Greedy's state by a rising list of the live slots and a tree for each slot, and a turn of greedy in these words. Assumes nothing.
-use mathlib.Core.Bool.{Bool, true, false, not, _&&_, _||_, cond}
-use mathlib.Core.Path.{_≡_, refl, sym, _∙_, ap, ap₂, subst}
+use mathlib.Core.Bool.{Bool, true, false, not, _&&_, cond}
+use mathlib.Core.Path.{_≡_, refl, sym, _∙_, ap, ap₂}
 use mathlib.Core.List.{List, [], _∷_, _++_, map}
-use Prim.Native.Nat.{ℕ, zero, suc, _+_, _≤_, _<_}
+use Prim.Native.Nat.{ℕ, zero, suc, _≤_, _<_}
 use native.Mathlib.Omega.{arith}
 use lib.Dec.{eqb}
 use lib.ListN.{length, getD}
@@ -12,7 +12,7 @@ use Rattle.spec.specs.Members.{In, here, there, All}
 use Rattle.spec.specs.Network.{Network}
 use Rattle.spec.specs.Tree.{Tree, Pair}
 use Rattle.spec.specs.Refusal.{tableTooWide, refused, done}
-use Rattle.spec.specs.Greedy.{Live, Cand, share, inOrder, sharingPairs, before, tooWide, State, off, plus, joined, merge, connect, trees}
+use Rattle.spec.specs.Greedy.{Live, Cand, share, inOrder, sharingPairs, before, tooWide, State, off, plus, joined, merge, connect}
 use Rattle.laws.specs.Booleans.{by-cases, or-cases, or-introl, or-intror, and-right, clash, eqb-self}
 use Rattle.laws.specs.ListLaws.{memb-keep}
 use Rattle.laws.specs.MemberLaws.{all-in}

@@ -1,5 +1,4 @@
 -- What a merge writes into the lent lists. Assumes nothing.
-use mathlib.Core.Path.{_≡_, _∙_, ap}
 use mathlib.Core.List.{List}
 use Prim.Native.Nat.{ℕ, _+_, _*_, _%_, _<_}
 use lib.Dec.{ltb}

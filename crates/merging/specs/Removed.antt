@@ -1,8 +1,8 @@
 -- The front of a list without two numbers, in place; and the array as a flat list with one node more. Assumes nothing.
-use mathlib.Core.Bool.{Bool, true, false, cond}
+use mathlib.Core.Bool.{Bool, cond}
 use mathlib.Core.Path.{_≡_, refl, sym, _∙_, ap, ap₂}
-use mathlib.Core.List.{List, [], _∷_, _++_, append-nil, append-assoc}
-use Prim.Native.Nat.{ℕ, zero, suc, _+_, _*_, _≤_, _<_}
+use mathlib.Core.List.{List, [], _∷_, _++_, append-nil}
+use Prim.Native.Nat.{ℕ, _+_, _*_, _≤_, _<_}
 use native.Mathlib.Omega.{arith}
 use native.Mathlib.Numerals.{add-one}
 use lib.ListN.{length, getD, set, take, length-append}
@@ -51,8 +51,8 @@ module _ (x y : ℕ) (l₀ : List ℕ) where
   abbrev pub Removing : ℕ → ℕ → List ℕ → Type 0
   Removing i t l = (l ≡ over l₀ (left i)) × (t ≡ length (left i))
 
-  pub left-short : (i : ℕ) → i ≤ length l₀ → length (left i) ≤ i
-  left-short i h = omega (arith, keep-length (other x y) (take i l₀), length-take-le i l₀ h)
+  pub left-few : (i : ℕ) → i ≤ length l₀ → length (left i) ≤ i
+  left-few i h = omega (arith, keep-length (other x y) (take i l₀), length-take-le i l₀ h)
 
   pub remove-none : Removing 0 0 l₀
   unfolding over
@@ -65,7 +65,7 @@ module _ (x y : ℕ) (l₀ : List ℕ) where
   pub remove-next : (i t : ℕ) (l r : List ℕ) (v t′ : ℕ) → i < length l₀ → Removing i t l → v ≡ getD l i 0
       → t′ ≡ placeAfter x y t v → r ≡ keptAt x y l t v → Removing (i + 1) t′ r
   remove-next i t l r v t′ h (el, et) ev e′ er =
-      let z : v ≡ getD l₀ i 0 = ev ∙ ap (λ (k : List ℕ). getD k i 0) el ∙ over-past l₀ (left i) i 0 (left-short i (omega arith)) in
+      let z : v ≡ getD l₀ i 0 = ev ∙ ap (λ (k : List ℕ). getD k i 0) el ∙ over-past l₀ (left i) i 0 (left-few i (omega arith)) in
       let k : left (i + 1) ≡ left i ++ cond (other x y v) (v ∷ []) [] =
       ap (λ (n : ℕ). left n) (add-one i) ∙ ap (remaining x y) (take-suc l₀ i 0 h) ∙ keep-snoc (other x y) (take i l₀) (getD l₀ i 0)
       ∙ ap (λ (u : ℕ). left i ++ cond (other x y u) (u ∷ []) []) (sym z) in

@@ -2,19 +2,19 @@
 -- words say what a scan reads. Assumes nothing.
 use mathlib.Core.Bool.{Bool, true, false, not, _&&_, _||_, cond}
 use mathlib.Mathlib.Data.Bool.Basic.{eq-false-of-not-eq-true}
-use mathlib.Core.Path.{_≡_, refl, sym, _∙_, ap, ap₂, subst}
-use mathlib.Core.List.{List, [], _∷_}
+use mathlib.Core.Path.{_≡_, refl, sym, _∙_, ap, ap₂}
+use mathlib.Core.List.{List, []}
 use Prim.Native.Nat.{ℕ, _+_, _*_, _≤_, _<_}
 use native.Mathlib.Omega.{arith}
 use native.Mathlib.Decide.{decLe}
 use lib.Dec.{leb, ltb}
 use lib.ListN.{length, getD}
 use borrow.Author.Tests.{le-leb, lt-leb}
-use Rattle.spec.specs.Lists.{memb, keep, range, anyb, sumOf}
+use Rattle.spec.specs.Lists.{memb, anyb, sumOf}
 use Rattle.spec.specs.Network.{Network, indexCount, named, InRange}
 use Rattle.spec.specs.Tree.{Tree, node, below, Pair}
 use Rattle.spec.specs.Price.{kept, lists}
-use Rattle.spec.specs.Greedy.{Cand, State, off, joined, sizeOf, mergedSize, share, trees}
+use Rattle.spec.specs.Greedy.{Cand, State, off, joined, sizeOf, mergedSize, trees}
 use Rattle.spec.specs.GreedyClaims.{others}
 use Rattle.laws.specs.Booleans.{by-cases}
 use Rattle.laws.specs.ListLaws.{memb-keep-range}
@@ -22,8 +22,8 @@ use Rattle.laws.specs.GreedyForest.{Takes}
 use Rattle.laws.specs.GreedyMerging.{Sound, Fine, takes₁, takes₂}
 use Rattle.laws.specs.GreedyLists.{live-rule}
 use Rattle.laws.specs.GreedySlots.{entry, pairAt}
-use Rattle.slots.specs.Slots.{held, withSet, withSet-length, held-with, held-with-other}
-use Rattle.slots.specs.Weigh.{weighed, weighed-ext}
+use Rattle.slots.specs.Slots.{held, withSet-length, held-with, held-with-other}
+use Rattle.slots.specs.Weigh.{weighed-ext}
 use Rattle.live.specs.Holders.{holders, staying, withHolders}
 use Rattle.live.specs.Merged.{stays, mergedSet, pairBits}
 use Rattle.rows.specs.Pairs.{Says}

@@ -1,7 +1,7 @@
 -- What live tables in slots say: sharing, sizes, and in how many an index is. Assumes nothing.
-use mathlib.Core.Bool.{Bool, true, false, _&&_, _||_, cond}
+use mathlib.Core.Bool.{Bool, true, false, _&&_, cond}
 use mathlib.Core.Path.{_≡_, refl, sym, _∙_, ap, ap₂}
-use mathlib.Core.List.{List, [], _∷_, _++_, append-nil}
+use mathlib.Core.List.{List, [], _∷_}
 use Prim.Native.Nat.{ℕ, zero, suc, _+_, _*_, _≤_, _<_}
 use native.Mathlib.Omega.{arith}
 use lib.Dec.{eqb, leb}
@@ -9,7 +9,7 @@ use lib.ListN.{length, getD, take}
 use lib.Seq.{take-suc, take-all}
 use borrow.Author.Tests.{le-leb}
 use Rattle.spec.specs.Lists.{memb, keep, range, anyb, sumOf}
-use Rattle.spec.specs.Network.{Network, indexCount, legs, weight, InRange}
+use Rattle.spec.specs.Network.{Network, indexCount, weight, InRange}
 use Rattle.spec.specs.Tree.{Tree, leaf, node}
 use Rattle.spec.specs.Price.{kept, lists, bits}
 use Rattle.spec.specs.Greedy.{share, trees}
@@ -17,7 +17,7 @@ use Rattle.laws.specs.Booleans.{by-cases, bool-ext, and-left, and-right, and-bo
 use Rattle.laws.specs.ListLaws.{memb-keep, memb-range, from-memb, any-intro, any-elim, any-member, keep-ext, sum-append}
 use Rattle.laws.specs.Naming.{legs-in}
 use Rattle.slots.specs.Slots.{held}
-use Rattle.slots.specs.Weigh.{openWeight, weighed, weighed-ext, weighed-past}
+use Rattle.slots.specs.Weigh.{openWeight, weighed, weighed-past}
 use Rattle.live.specs.Common.{shares}
 use Rattle.live.specs.Holders.{holders}
 use Rattle.merging.specs.Listed.{listed}

@@ -1,20 +1,20 @@
 -- One turn of greedy over the lent lists, up to the least pair: merging ends, is refused, or goes on with that pair. Assumes nothing.
-use mathlib.Core.Bool.{Bool, true, false}
-use mathlib.Core.Path.{_≡_, refl, sym, _∙_, ap, ap₂, subst}
+use mathlib.Core.Bool.{true, false}
+use mathlib.Core.Path.{_≡_, sym, subst}
 use mathlib.Core.List.{List}
-use Prim.Native.Nat.{ℕ, suc, _+_, _*_, _≤_, _<_}
+use Prim.Native.Nat.{ℕ, suc, _<_}
 use native.Mathlib.Omega.{arith}
 use lib.ListN.{length, getD}
 use Rattle.spec.specs.Lists.{memb}
 use Rattle.spec.specs.Network.{Network}
-use Rattle.spec.specs.Tree.{Tree, Pair}
+use Rattle.spec.specs.Tree.{Tree}
 use Rattle.spec.specs.Refusal.{tableTooWide, refused, done}
 use Rattle.spec.specs.Greedy.{sizeOf, connect, merge}
 use Rattle.laws.specs.GreedySlots.{pairAt}
 use Rattle.live.specs.Holders.{withHolders}
 use Rattle.rows.specs.Rows.{renewedAll, leastOf}
 use Rattle.rows.specs.Pairs.{Says}
-use Rattle.rows.specs.Known.{Rises, at-member, Share, Wide, Before, codeFor, RowTo}
+use Rattle.rows.specs.Known.{Rises, at-member, Share, TooWide, Before, codeFor, RowTo}
 use Rattle.rows.specs.Renewed.{rows-are}
 use Rattle.rows.specs.LeastRow.{LeastTo, nothing, tooBroad, at, least-is}
 use Rattle.merging.specs.Listed.{rising-rises, listed-ends, listed-refuses, listed-merges}
@@ -59,7 +59,7 @@ module _ (G : Given) (S : Ghost) (M : Lists) (H : Holds G S M) where
 
   pub said : Says N n₀ tree L words₁ (G .width) (N .weights) (M .sizes)
   said =
-      says N (G .inRange) (G .width) (G .fits) (G .base) (G .lo) (G .all) (G .single) (S .array) tree L (S .next) (H .sound) (M .words) (H .wide)
+      says N (G .inRange) (G .width) (G .fits) (G .base) (G .lo) (G .all) (G .single) (S .array) tree L (S .next) (H .sound) (M .words) (H .enough)
       small hold (H .outside) n₀ (M .sizes) sized
 
   pub entries : (q : ℕ) → q < length L → RowTo N n₀ tree L q q (getD rows₁ (getD L q 0) 0)
@@ -74,7 +74,7 @@ module _ (G : Given) (S : Ghost) (M : Lists) (H : Holds G S M) where
     pub code : getD rows₁ y 0 ≡ codeFor N n₀ tree x y
     pub shared : Share N n₀ tree x y ≡ true
     pub first : (p : ℕ) → p < length L → (j : ℕ) → j < p → Share N n₀ tree (getD L j 0) (getD L p 0) ≡ true
-        → (Wide N n₀ tree (getD L j 0) (getD L p 0) ≡ false) × (Before N n₀ tree (getD L j 0) (getD L p 0) x y ≡ false)
+        → (TooWide N n₀ tree (getD L j 0) (getD L p 0) ≡ false) × (Before N n₀ tree (getD L j 0) (getD L p 0) x y ≡ false)
 
   -- what the scan answers
   pub data Scanned (fuel c : ℕ) : Type 0 where

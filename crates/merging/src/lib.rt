@@ -18,7 +18,7 @@ ghost use Rattle.merging.specs.Merge.{firstAt, secondAt, marked, withNod
 use rows::GONE;
 use rows::STALE;
 use scores::NONE;
-use scores::WIDE;
+use scores::TOO_WIDE;
 
 // What is answered where a pair is too wide.
 pub const REFUSED: usize = 65536;
@@ -115,7 +115,7 @@ fn merge(
     replace(live, m, f, g, z);
 }
 
-// Scans the first `m` live tables for the least pair of all: the table that has it, NONE, or WIDE.
+// Scans the first `m` live tables for the least pair of all: the table that has it, NONE, or TOO_WIDE.
 fn scan(
     ws: &mut [u64],
     w: usize,
@@ -159,7 +159,7 @@ pub fn connect(
     while t < n0 {
         let m = n0 - t;
         let y = scan(ws, w, weights, sizes, n0, live, m, rows);
-        if y == WIDE {
+        if y == TOO_WIDE {
             return REFUSED;
         }
         if y == NONE {

@@ -3,12 +3,12 @@
 use mathlib.Core.Bool.{Bool, true, false, _||_}
 use mathlib.Core.Path.{_≡_, refl, sym, _∙_, ap, ap₂}
 use mathlib.Core.List.{List, [], _∷_}
-use Prim.Native.Nat.{ℕ, zero, suc, _+_, _*_, _/_, _%_, _≤_, _<_}
+use Prim.Native.Nat.{ℕ, zero, suc, _+_, _/_, _%_, _≤_, _<_}
 use native.Mathlib.Omega.{arith}
 use native.Mathlib.Decide.{ℕ-discrete, decLe}
 use lib.Dec.{eqb, ltb}
 use lib.ListN.{length, getD}
-use borrow.Author.Tests.{lt-ltb, ltb-true, ltb-false, eqb-true}
+use borrow.Author.Tests.{ltb-true, ltb-false, eqb-true}
 use Rattle.spec.specs.Lists.{memb}
 use Rattle.spec.specs.Network.{Network}
 use Rattle.spec.specs.Tree.{Tree}
@@ -19,8 +19,8 @@ use Rattle.laws.specs.GreedySlots.{pairAt}
 use Rattle.cells.specs.Loop.{turns}
 use Rattle.live.specs.Common.{shares}
 use Rattle.live.specs.Merged.{pairBits}
-use Rattle.scores.specs.Scores.{keyAt, overForty, codeOf, considered, rowOf, consider-wide, consider-apart, consider-over, consider-table, consider-first, consider-sooner, consider-later}
-use Rattle.rows.specs.Pairs.{Says, wide-is, key-is}
+use Rattle.scores.specs.Scores.{keyAt, overForty, codeOf, considered, rowOf, consider-refused, consider-apart, consider-over, consider-table, consider-first, consider-sooner, consider-later}
+use Rattle.rows.specs.Pairs.{Says, width-is, key-is}
 
 -- ---- places of a list ----
 
@@ -83,8 +83,8 @@ module _ (N : Network) (n₀ : ℕ) (tree : ℕ → Tree) where
   abbrev pub Share : ℕ → ℕ → Bool
   Share u v = share N (tree u) (tree v)
 
-  abbrev pub Wide : ℕ → ℕ → Bool
-  Wide u v = tooWide N (pairAt n₀ tree u v)
+  abbrev pub TooWide : ℕ → ℕ → Bool
+  TooWide u v = tooWide N (pairAt n₀ tree u v)
 
   -- the pair of u and v comes before that of x and y
   abbrev pub Before : ℕ → ℕ → ℕ → ℕ → Bool
@@ -93,14 +93,14 @@ module _ (N : Network) (n₀ : ℕ) (tree : ℕ → Tree) where
   abbrev pub codeFor : ℕ → ℕ → ℕ
   codeFor x y = codeOf (mergedSize N (pairAt n₀ tree x y)) x
 
-  -- the pair of x and y is not too wide, and that of u with y, if they share an index, is not either and does not come before it
+  -- the pair of x and y is not too over, and that of u with y, if they share an index, is not either and does not come before it
   abbrev pub NotBefore : ℕ → ℕ → ℕ → Type 0
-  NotBefore y x u = Share u y ≡ true → (Wide u y ≡ false) × (Before u y x y ≡ false)
+  NotBefore y x u = Share u y ≡ true → (TooWide u y ≡ false) × (Before u y x y ≡ false)
 
   -- what an entry says that was found: of the tables of a list that are lower than y
   pub data Known (L : List ℕ) (y c : ℕ) : Type 0 where
     alone : c ≡ 256 → ((u : ℕ) → memb u L ≡ true → u < y → Share u y ≡ false) → Known L y c
-    least : (x : ℕ) → c ≡ codeFor x y → x < y → Share x y ≡ true → Wide x y ≡ false
+    least : (x : ℕ) → c ≡ codeFor x y → x < y → Share x y ≡ true → TooWide x y ≡ false
         → ((u : ℕ) → memb u L ≡ true → u < y → NotBefore y x u) → Known L y c
 
   -- fewer tables
@@ -111,8 +111,8 @@ module _ (N : Network) (n₀ : ℕ) (tree : ℕ → Tree) where
   -- the least pair of the table at place q with those at the places below k
   pub data RowTo (L : List ℕ) (q k c : ℕ) : Type 0 where
     none : c ≡ 256 → ((i : ℕ) → i < k → Share (getD L i 0) (getD L q 0) ≡ false) → RowTo L q k c
-    wide : c ≡ 257 → (i : ℕ) → i < k → Share (getD L i 0) (getD L q 0) ≡ true → Wide (getD L i 0) (getD L q 0) ≡ true → RowTo L q k c
-    pair : (i : ℕ) → c ≡ codeFor (getD L i 0) (getD L q 0) → i < k → Share (getD L i 0) (getD L q 0) ≡ true → Wide (getD L i 0) (getD L q 0) ≡ false
+    over : c ≡ 257 → (i : ℕ) → i < k → Share (getD L i 0) (getD L q 0) ≡ true → TooWide (getD L i 0) (getD L q 0) ≡ true → RowTo L q k c
+    pair : (i : ℕ) → c ≡ codeFor (getD L i 0) (getD L q 0) → i < k → Share (getD L i 0) (getD L q 0) ≡ true → TooWide (getD L i 0) (getD L q 0) ≡ false
         → ((j : ℕ) → j < k → NotBefore (getD L q 0) (getD L i 0) (getD L j 0)) → RowTo L q k c
 
   module _ (L : List ℕ) (rises : Rises L) (ws : List ℕ) (W : ℕ) (wt sizes : List ℕ) (says : Says N n₀ tree L ws W wt sizes)
@@ -140,25 +140,25 @@ module _ (N : Network) (n₀ : ℕ) (tree : ℕ → Tree) where
         em : pairBits ws W wt x y ≡ mergedSize N (pairAt n₀ tree x y)
         em = says .merged x y inx iny low
 
-        ew : (ltb 40 (pairBits ws W wt x y) || overForty sizes x y) ≡ Wide x y
-        ew = wide-is N n₀ tree sizes x y (says .size x inx) (says .size y iny) (pairBits ws W wt x y) em
+        ew : (ltb 40 (pairBits ws W wt x y) || overForty sizes x y) ≡ TooWide x y
+        ew = width-is N n₀ tree sizes x y (says .size x inx) (says .size y iny) (pairBits ws W wt x y) em
 
-        ek : Wide x y ≡ false → keyAt sizes n₀ x y (pairBits ws W wt x y) ≡ keyOf N (pairAt n₀ tree x y)
+        ek : TooWide x y ≡ false → keyAt sizes n₀ x y (pairBits ws W wt x y) ≡ keyOf N (pairAt n₀ tree x y)
         ek = key-is N n₀ tree sizes x y (says .size x inx) (says .size y iny) (pairBits ws W wt x y) em
 
         abbrev next : ℕ → ℕ
         next best = considered ws W wt sizes n₀ y best x
 
-        -- the pair of place k is too wide
-        step-wide : (best : ℕ) → (best ≡ 257 → ⊥) → Share x y ≡ true → Wide x y ≡ true → RowTo L q (suc k) (next best)
-        step-wide best n s w =
+        -- the pair of place k is too over
+        step-refused : (best : ℕ) → (best ≡ 257 → ⊥) → Share x y ≡ true → TooWide x y ≡ true → RowTo L q (suc k) (next best)
+        step-refused best n s w =
             let c : next best ≡ 257 =
             or-cases (ltb 40 (pairBits ws W wt x y)) (overForty sizes x y) (ew ∙ w)
             (λ h. sym (consider-over ws W wt sizes n₀ y best x n (es ∙ s) (ltb-true 40 _ h)))
             (λ h. sym (consider-table ws W wt sizes n₀ y best x n (es ∙ s) h)) in
-            wide c k (omega arith) s w
+            over c k (omega arith) s w
 
-        module _ (w : Wide x y ≡ false) where
+        module _ (w : TooWide x y ≡ false) where
           narrow : (ltb 40 (pairBits ws W wt x y) ≡ false) × (overForty sizes x y ≡ false)
           narrow = or-none (ltb 40 (pairBits ws W wt x y)) (overForty sizes x y) (ew ∙ w)
 
@@ -171,7 +171,7 @@ module _ (N : Network) (n₀ : ℕ) (tree : ℕ → Tree) where
               (all-more (λ j. NotBefore y x (getD L j 0)) k (λ j b t. clash t (h j b)) (λ t. (w, sooner-self (keyOf N (pairAt n₀ tree x y)))))
 
           -- it comes before the least so far, or it does not
-          step-pair : (best i : ℕ) → best ≡ codeFor (getD L i 0) y → i < k → Share (getD L i 0) y ≡ true → Wide (getD L i 0) y ≡ false
+          step-pair : (best i : ℕ) → best ≡ codeFor (getD L i 0) y → i < k → Share (getD L i 0) y ≡ true → TooWide (getD L i 0) y ≡ false
               → ((j : ℕ) → j < k → NotBefore y (getD L i 0) (getD L j 0)) → Share x y ≡ true → RowTo L q (suc k) (next best)
           step-pair best i e b t v h s =
               let u = getD L i 0 in
@@ -205,13 +205,13 @@ module _ (N : Network) (n₀ : ℕ) (tree : ℕ → Tree) where
         row-step : (best : ℕ) → RowTo L q k best → RowTo L q (suc k) (next best)
         row-step best (none e h) =
             by-cases (Share x y)
-            (λ s. by-cases (Wide x y) (λ w. step-wide best (λ z. omega arith) s w) (λ w. step-first w best e s h))
+            (λ s. by-cases (TooWide x y) (λ w. step-refused best (λ z. omega arith) s w) (λ w. step-first w best e s h))
             (λ s. none (step-apart best (λ z. omega arith) s ∙ e) (all-more (λ i. Share (getD L i 0) y ≡ false) k h s))
-        row-step best (wide e i b s w) = wide (sym (consider-wide ws W wt sizes n₀ y best x e) ∙ e) i (omega arith) s w
+        row-step best (over e i b s w) = over (sym (consider-refused ws W wt sizes n₀ y best x e) ∙ e) i (omega arith) s w
         row-step best (pair i e b t v h) =
             let n : best ≡ 257 → ⊥ = λ z. code-none (mergedSize N (pairAt n₀ tree (getD L i 0) y)) (getD L i 0) (says .small (getD L i 0) (at-member L i (omega arith))) 1 (omega arith) (sym e ∙ z) in
             by-cases (Share x y)
-            (λ s. by-cases (Wide x y) (λ w. step-wide best n s w) (λ w. step-pair w best i e b t v h s))
+            (λ s. by-cases (TooWide x y) (λ w. step-refused best n s w) (λ w. step-pair w best i e b t v h s))
             (λ s. pair i (step-apart best n s ∙ e) (omega arith) t v (all-more (λ j. NotBefore y (getD L i 0) (getD L j 0)) k h (λ r. clash r s)))
 
       row-to : (k : ℕ) → k ≤ q → RowTo L q k (rowOf ws W wt sizes n₀ L k y)

@@ -1,5 +1,5 @@
 -- The least of all pairs, from the least pair of each live table with those before it. Assumes nothing.
-use mathlib.Core.Bool.{Bool, true, false}
+use mathlib.Core.Bool.{true, false}
 use mathlib.Core.Path.{_≡_, refl, sym, _∙_, ap, ap₂}
 use mathlib.Core.List.{List}
 use Prim.Native.Nat.{ℕ, zero, suc, _/_, _%_, _≤_, _<_}
@@ -14,9 +14,9 @@ use Rattle.laws.specs.GreedyOrder.{sooner-asym, later-trans}
 use Rattle.laws.specs.GreedySlots.{pairAt}
 use Rattle.cells.specs.Loop.{turns}
 use Rattle.scores.specs.Scores.{keyAt}
-use Rattle.rows.specs.Rows.{entryKey, bettered, leastOf, better-wide, better-over, better-none, better-first, better-sooner, better-later}
+use Rattle.rows.specs.Rows.{entryKey, bettered, leastOf, better-refused, better-over, better-none, better-first, better-sooner, better-later}
 use Rattle.rows.specs.Pairs.{key-is}
-use Rattle.rows.specs.Known.{at-member, all-more, code-slot, code-bits, code-none, Share, Wide, Before, NotBefore, codeFor, RowTo, none, wide, pair}
+use Rattle.rows.specs.Known.{at-member, all-more, code-slot, code-bits, code-none, Share, TooWide, Before, NotBefore, codeFor, RowTo, none, over, pair}
 
 module _ (N : Network) (n₀ : ℕ) (tree : ℕ → Tree) (L rows sizes : List ℕ)
     (small : (u : ℕ) → memb u L ≡ true → u < 256)
@@ -25,21 +25,21 @@ module _ (N : Network) (n₀ : ℕ) (tree : ℕ → Tree) (L rows sizes : List �
     abbrev slot : ℕ → ℕ
     slot i = getD L i 0
 
-    -- the pair at places j and p, if its tables share an index, is not too wide and does not come before the pair at places i and q
+    -- the pair at places j and p, if its tables share an index, is not too over and does not come before the pair at places i and q
     abbrev pub NoneBefore : ℕ → ℕ → ℕ → ℕ → Type 0
     NoneBefore i q j p = Share N n₀ tree (slot j) (slot p) ≡ true
-        → (Wide N n₀ tree (slot j) (slot p) ≡ false) × (Before N n₀ tree (slot j) (slot p) (slot i) (slot q) ≡ false)
+        → (TooWide N n₀ tree (slot j) (slot p) ≡ false) × (Before N n₀ tree (slot j) (slot p) (slot i) (slot q) ≡ false)
 
     -- the least pair of the tables at the places below k, as the table that has it
     pub data LeastTo (k c : ℕ) : Type 0 where
       nothing : c ≡ 256 → ((p : ℕ) → p < k → (j : ℕ) → j < p → Share N n₀ tree (slot j) (slot p) ≡ false) → LeastTo k c
-      tooBroad : c ≡ 257 → (i q : ℕ) → i < q → q < k → Share N n₀ tree (slot i) (slot q) ≡ true → Wide N n₀ tree (slot i) (slot q) ≡ true → LeastTo k c
+      tooBroad : c ≡ 257 → (i q : ℕ) → i < q → q < k → Share N n₀ tree (slot i) (slot q) ≡ true → TooWide N n₀ tree (slot i) (slot q) ≡ true → LeastTo k c
       at : (i q : ℕ) → c ≡ slot q → i < q → q < k → getD rows (slot q) 0 ≡ codeFor N n₀ tree (slot i) (slot q)
-          → Share N n₀ tree (slot i) (slot q) ≡ true → Wide N n₀ tree (slot i) (slot q) ≡ false
+          → Share N n₀ tree (slot i) (slot q) ≡ true → TooWide N n₀ tree (slot i) (slot q) ≡ false
           → ((p : ℕ) → p < k → (j : ℕ) → j < p → NoneBefore i q j p) → LeastTo k c
 
     -- the key that an entry has
-    entry-is : (i q : ℕ) → i < q → q < length L → getD rows (slot q) 0 ≡ codeFor N n₀ tree (slot i) (slot q) → Wide N n₀ tree (slot i) (slot q) ≡ false
+    entry-is : (i q : ℕ) → i < q → q < length L → getD rows (slot q) 0 ≡ codeFor N n₀ tree (slot i) (slot q) → TooWide N n₀ tree (slot i) (slot q) ≡ false
         → entryKey sizes n₀ rows (slot q) ≡ keyOf N (pairAt n₀ tree (slot i) (slot q))
     entry-is i q l b e w =
         let x = slot i in
@@ -65,7 +65,7 @@ module _ (N : Network) (n₀ : ℕ) (tree : ℕ → Tree) (L rows sizes : List �
           )
 
       module _ (i : ℕ) (e : getD rows y 0 ≡ codeFor N n₀ tree (slot i) y) (l : i < k)
-          (s : Share N n₀ tree (slot i) y ≡ true) (w : Wide N n₀ tree (slot i) y ≡ false)
+          (s : Share N n₀ tree (slot i) y ≡ true) (w : TooWide N n₀ tree (slot i) y ≡ false)
           (h : (j : ℕ) → j < k → NotBefore N n₀ tree y (slot i) (slot j))
         where
           abbrev key : Key
@@ -85,7 +85,7 @@ module _ (N : Network) (n₀ : ℕ) (tree : ℕ → Tree) (L rows sizes : List �
 
           -- it comes before the least so far, or it does not
           step-pair : (best i′ q : ℕ) → best ≡ slot q → i′ < q → q < k → getD rows (slot q) 0 ≡ codeFor N n₀ tree (slot i′) (slot q)
-              → Share N n₀ tree (slot i′) (slot q) ≡ true → Wide N n₀ tree (slot i′) (slot q) ≡ false
+              → Share N n₀ tree (slot i′) (slot q) ≡ true → TooWide N n₀ tree (slot i′) (slot q) ≡ false
               → ((p : ℕ) → p < k → (j : ℕ) → j < p → NoneBefore i′ q j p) → LeastTo (suc k) (next best)
           step-pair best i′ q z l′ c e′ s′ w′ f =
               let other = keyOf N (pairAt n₀ tree (slot i′) (slot q)) in
@@ -102,15 +102,15 @@ module _ (N : Network) (n₀ : ℕ) (tree : ℕ → Tree) (L rows sizes : List �
               (λ j g r. (h j g r .0, later-trans other key (keyOf N (pairAt n₀ tree (slot j) y)) (h j g r .1) t))))
 
       step : (best : ℕ) → LeastTo k best → RowTo N n₀ tree L k k (getD rows y 0) → LeastTo (suc k) (next best)
-      step best (tooBroad e i q l d s w) r = tooBroad (sym (better-wide sizes n₀ rows best y e) ∙ e) i q l (omega arith) s w
+      step best (tooBroad e i q l d s w) r = tooBroad (sym (better-refused sizes n₀ rows best y e) ∙ e) i q l (omega arith) s w
       step best (nothing e f) (none z h) =
           nothing (sym (better-none sizes n₀ rows best y (λ q. omega arith) (λ q. omega arith) z) ∙ e) (all-more (λ p. (j : ℕ) → j < p → Share N n₀ tree (slot j) (slot p) ≡ false) k f h)
-      step best (nothing e f) (wide z i l s w) = tooBroad (sym (better-over sizes n₀ rows best y (λ q. omega arith) z)) i k l (omega arith) s w
+      step best (nothing e f) (over z i l s w) = tooBroad (sym (better-over sizes n₀ rows best y (λ q. omega arith) z)) i k l (omega arith) s w
       step best (nothing e f) (pair i z l s w h) = step-first i z l s w h best e f
       step best (at i q e l d z s w f) (none z′ h) =
           at i q (sym (better-none sizes n₀ rows best y (no-code q (omega arith) best e .1) (λ q. omega arith) z′) ∙ e) l (omega arith) z s w
           (all-more (λ p. (j : ℕ) → j < p → NoneBefore i q j p) k f (λ j g r. clash r (h j g)))
-      step best (at i q e l d z s w f) (wide z′ i′ l′ s′ w′) =
+      step best (at i q e l d z s w f) (over z′ i′ l′ s′ w′) =
           tooBroad (sym (better-over sizes n₀ rows best y (no-code q (omega arith) best e .1) z′)) i′ k l′ (omega arith) s′ w′
       step best (at i q e l d z s w f) (pair i′ z′ l′ s′ w′ h) = step-pair i′ z′ l′ s′ w′ h best i q e l d z s w f
 

@@ -1,9 +1,9 @@
 -- What the words and the sizes in bits say of live tables; then a pair's code, width and key are what greedy's definition says. Assumes
 -- nothing.
-use mathlib.Core.Bool.{Bool, true, false, _||_, cond}
+use mathlib.Core.Bool.{Bool, true, false, _||_}
 use mathlib.Core.Path.{_≡_, refl, sym, _∙_, ap, ap₂}
 use mathlib.Core.List.{List}
-use Prim.Native.Nat.{ℕ, _+_, _*_, _/_, _%_, _^_, _≤_, _<_}
+use Prim.Native.Nat.{ℕ, _+_, _^_, _≤_, _<_}
 use native.Mathlib.Omega.{arith}
 use lib.Dec.{ltb}
 use lib.ListN.{getD}
@@ -11,12 +11,12 @@ use borrow.Author.Tests.{lt-ltb, ltb-false}
 use Rattle.spec.specs.Lists.{memb}
 use Rattle.spec.specs.Network.{Network}
 use Rattle.spec.specs.Tree.{Tree}
-use Rattle.spec.specs.Greedy.{Live, Key, keyOf, tooWide, sizeOf, mergedSize, share}
+use Rattle.spec.specs.Greedy.{keyOf, tooWide, sizeOf, mergedSize, share}
 use Rattle.laws.specs.Booleans.{by-cases, or-none}
 use Rattle.laws.specs.GreedySlots.{entry, pairAt}
 use Rattle.live.specs.Common.{shares}
 use Rattle.live.specs.Merged.{pairBits}
-use Rattle.scores.specs.Scores.{power, firstOf, secondOf, keyAt, overForty}
+use Rattle.scores.specs.Scores.{power, keyAt, overForty}
 
 -- of the slots in a list, in which the trees are
 pub record Says (N : Network) (n₀ : ℕ) (tree : ℕ → Tree) (L : List ℕ) (ws : List ℕ) (W : ℕ) (wt sizes : List ℕ) : Type 0 where
@@ -51,8 +51,8 @@ module _ (N : Network) (n₀ : ℕ) (tree : ℕ → Tree) (sizes : List ℕ) (x 
     (sx : getD sizes x 0 ≡ sizeOf N (tree x)) (sy : getD sizes y 0 ≡ sizeOf N (tree y))
     (m : ℕ) (em : m ≡ mergedSize N (pairAt n₀ tree x y))
   where
-    pub wide-is : (ltb 40 m || overForty sizes x y) ≡ tooWide N (pairAt n₀ tree x y)
-    wide-is =
+    pub width-is : (ltb 40 m || overForty sizes x y) ≡ tooWide N (pairAt n₀ tree x y)
+    width-is =
         rw (em, sx, sy)
         (by-cases (ltb y n₀)
         (λ e. rw e (sym (or-turn (ltb 40 (sizeOf N (tree x))) (ltb 40 (sizeOf N (tree y))) _)))
@@ -62,7 +62,7 @@ module _ (N : Network) (n₀ : ℕ) (tree : ℕ → Tree) (sizes : List ℕ) (x 
     pub key-is : tooWide N (pairAt n₀ tree x y) ≡ false → keyAt sizes n₀ x y m ≡ keyOf N (pairAt n₀ tree x y)
     unfolding keyAt
     key-is w =
-        let (a, b) = or-none (ltb 40 m) (overForty sizes x y) (wide-is ∙ w) in
+        let (a, b) = or-none (ltb 40 m) (overForty sizes x y) (width-is ∙ w) in
         let (c, d) = or-none (ltb 40 (getD sizes x 0)) (ltb 40 (getD sizes y 0)) b in
         let pm : power m ≡ 2 ^ mergedSize N (pairAt n₀ tree x y) = power-is m (ltb-false 40 m a) ∙ ap (λ (k : ℕ). 2 ^ k) em in
         let px : power (getD sizes x 0) ≡ 2 ^ sizeOf N (tree x) = power-is (getD sizes x 0) (ltb-false 40 (getD sizes x 0) c) ∙ ap (λ (k : ℕ). 2 ^ k) sx in

@@ -1,13 +1,13 @@
 -- The list of least pairs after its entries were found anew where they did not stand: each says the least pair of its table with the
 -- live tables before it. Assumes nothing.
-use mathlib.Core.Bool.{Bool, true, false, not, _&&_, cond}
+use mathlib.Core.Bool.{true, false, not}
 use mathlib.Core.Path.{_≡_, refl, sym, _∙_, ap, subst}
 use mathlib.Core.List.{List}
 use Prim.Native.Nat.{ℕ, zero, suc, _%_, _≤_, _<_}
 use native.Mathlib.Omega.{arith}
 use native.Mathlib.Decide.{decLe}
 use lib.Dec.{eqb}
-use lib.ListN.{length, getD, set}
+use lib.ListN.{length, getD}
 use lib.Seq.{getD-set-same, getD-set-other}
 use borrow.Author.Tests.{eqb-false, eq-eqb, not-true}
 use Rattle.spec.specs.Lists.{memb}
@@ -17,10 +17,10 @@ use Rattle.spec.specs.Greedy.{mergedSize}
 use Rattle.laws.specs.Booleans.{by-cases, clash, and-left, and-right}
 use Rattle.laws.specs.GreedySlots.{pairAt}
 use Rattle.cells.specs.Loop.{turns}
-use Rattle.scores.specs.Scores.{rowOf, codeOf}
+use Rattle.scores.specs.Scores.{rowOf}
 use Rattle.rows.specs.Rows.{stands, renewed, renewedAll, all-length}
 use Rattle.rows.specs.Pairs.{Says}
-use Rattle.rows.specs.Known.{at-member, member-at, Rises, code-slot, Share, Wide, NotBefore, codeFor, Known, alone, least, RowTo, none, wide, pair, row-is, all-more}
+use Rattle.rows.specs.Known.{at-member, member-at, Rises, code-slot, Share, TooWide, NotBefore, codeFor, Known, alone, least, RowTo, none, pair, row-is, all-more}
 
 module _ (N : Network) (n₀ : ℕ) (tree : ℕ → Tree) where
   -- an entry is yet to be found, or what it says is so
@@ -50,7 +50,7 @@ module _ (N : Network) (n₀ : ℕ) (tree : ℕ → Tree) where
           let iq : i < q = order i d (subst (λ (u : ℕ). u < y) z l) in
           pair i (subst (λ (u : ℕ). c ≡ codeFor N n₀ tree u y) z e) iq
           (subst (λ (u : ℕ). Share N n₀ tree u y ≡ true) z s)
-          (subst (λ (u : ℕ). Wide N n₀ tree u y ≡ false) z w)
+          (subst (λ (u : ℕ). TooWide N n₀ tree u y ≡ false) z w)
           (λ j t. subst (λ (u : ℕ). NotBefore N n₀ tree y u (getD L j 0)) z (h (getD L j 0) (at-member L j (omega arith)) (rises j q t b)))
         where
           order : (i : ℕ) → i < length L → getD L i 0 < getD L q 0 → i < q

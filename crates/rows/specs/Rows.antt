@@ -4,7 +4,7 @@
 use mathlib.Core.Bool.{Bool, true, false, not, _&&_, _||_, cond}
 use mathlib.Core.Path.{_≡_, refl, sym, _∙_, ap}
 use mathlib.Core.List.{List}
-use Prim.Native.Nat.{ℕ, zero, suc, _+_, _*_, _/_, _%_, _≤_, _<_}
+use Prim.Native.Nat.{ℕ, zero, suc, _/_, _%_}
 use lib.Dec.{eqb}
 use lib.ListN.{length, getD, set, length-set}
 use borrow.Author.Tests.{eq-eqb, ne-eqb}
@@ -78,9 +78,9 @@ module _ (sizes : List ℕ) (n₀ : ℕ) (rows : List ℕ) where
   leastOf live m = turns (λ k best. bettered best (getD live k 0)) 256 m
 
   module _ (best y : ℕ) where
-    pub better-wide : best ≡ 257 → best ≡ bettered best y
+    pub better-refused : best ≡ 257 → best ≡ bettered best y
     unfolding bettered
-    better-wide e = rw (eq-eqb best 257 e)
+    better-refused e = rw (eq-eqb best 257 e)
 
     module _ (n : best ≡ 257 → ⊥) where
       pub better-over : getD rows y 0 ≡ 257 → 257 ≡ bettered best y

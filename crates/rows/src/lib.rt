@@ -1,11 +1,10 @@
 // The least pair of each live table, kept from turn to turn in a list by slot, and the least of all.
 ghost use mathlib.Core.Path.{_≡_};
 ghost use Prim.Native.Nat.{_<_, _≤_};
-ghost use lib.ListN.{getD};
 ghost use Rattle.slots.specs.Weigh.{Light};
 ghost use Rattle.rows.specs.Rows.{stands, renewed, renewedAll, bettered, leastOf};
 use scores::NONE;
-use scores::WIDE;
+use scores::TOO_WIDE;
 
 // What stands in the list for a table whose least pair is yet to be found, and for a table that is gone.
 pub const STALE: usize = 258;
@@ -68,12 +67,12 @@ pub fn renew_all(
 fn better(sizes: &[u64], n0: usize, rows: &[u64], best: usize, y: usize) -> usize
     ensures { λ r. ⌜ r ≡ bettered (now (sizes .entry)) n0 (now (rows .entry)) best y ⌝ }
 {
-    if best == WIDE {
+    if best == TOO_WIDE {
         return best;
     }
     let r = scores::at(rows, y);
-    if r == WIDE {
-        return WIDE;
+    if r == TOO_WIDE {
+        return TOO_WIDE;
     }
     if r == NONE {
         return best;
@@ -88,7 +87,7 @@ fn better(sizes: &[u64], n0: usize, rows: &[u64], best: usize, y: usize) -> usiz
     best
 }
 
-// Of the first `m` live tables, the one with the least pair; NONE; or WIDE where a pair is too wide.
+// Of the first `m` live tables, the one with the least pair; NONE; or TOO_WIDE where a pair is too wide.
 pub fn least(sizes: &[u64], n0: usize, rows: &[u64], live: &[u16], m: usize) -> usize
     ensures { λ r. ⌜ (r ≡ leastOf (now (sizes .entry)) n0 (now (rows .entry)) (now (live .entry)) m) × (r < 65536) ⌝ }
 {

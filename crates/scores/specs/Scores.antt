@@ -1,7 +1,7 @@
 -- Scores of pairs by sizes in bits, which of two pairs comes first, and the least pair of a table with those before it in a list.
 -- Assumes nothing.
 use mathlib.Core.Bool.{Bool, true, false, _||_, cond}
-use mathlib.Core.Path.{_≡_, refl, sym, _∙_, ap}
+use mathlib.Core.Path.{_≡_, refl, _∙_, ap}
 use mathlib.Core.List.{List}
 use Prim.Native.Nat.{ℕ, _+_, _*_, _/_, _%_, _^_, _≤_, _<_}
 use lib.Dec.{eqb, ltb}
@@ -38,7 +38,7 @@ keyAt sizes n₀ x y m =
 abbrev pub overForty : List ℕ → ℕ → ℕ → Bool
 overForty sizes x y = ltb 40 (getD sizes x 0) || ltb 40 (getD sizes y 0)
 
--- The least pair of a table so far, as one number: 256 for none, 257 if a pair is too wide, and else 512 times the merged size bits and the
+-- The least pair of a table so far, as one number: 256 for none, 257 if a pair is too over, and else 512 times the merged size bits and the
 -- other slot.
 abbrev pub codeOf : ℕ → ℕ → ℕ
 codeOf m x = m * 512 + x
@@ -59,24 +59,24 @@ module _ (ws : List ℕ) (W : ℕ) (wt sizes : List ℕ) (n₀ y best x : ℕ) w
 
   -- what is left after the pair was found to count
   abbrev scored : Bool → Bool → Bool → ℕ
-  scored wide none before = cond wide 257 (cond (none || before) (codeOf bits x) best)
+  scored over none before = cond over 257 (cond (none || before) (codeOf bits x) best)
 
-  pub consider-wide : best ≡ 257 → best ≡ considered ws W wt sizes n₀ y best x
+  pub consider-refused : best ≡ 257 → best ≡ considered ws W wt sizes n₀ y best x
   unfolding considered
-  consider-wide e = rw (eq-eqb best 257 e)
+  consider-refused e = rw (eq-eqb best 257 e)
 
   pub consider-apart : (best ≡ 257 → ⊥) → shares ws W x y ≡ false → best ≡ considered ws W wt sizes n₀ y best x
   unfolding considered
   consider-apart n s = rw (ne-eqb best 257 n, s)
 
   module _ (n : best ≡ 257 → ⊥) (s : shares ws W x y ≡ true) where
-    to-scored : (wide none before : Bool) → (ltb 40 bits || overForty sizes x y) ≡ wide → eqb best 256 ≡ none
+    to-scored : (over none before : Bool) → (ltb 40 bits || overForty sizes x y) ≡ over → eqb best 256 ≡ none
         → keyBefore (keyAt sizes n₀ x y bits) (keyAt sizes n₀ (best % 512) y (best / 512)) ≡ before
-        → scored wide none before ≡ considered ws W wt sizes n₀ y best x
+        → scored over none before ≡ considered ws W wt sizes n₀ y best x
     unfolding considered
-    to-scored wide none before p q r = rw (ne-eqb best 257 n, s, ← p, ← q, ← r)
+    to-scored over none before p q r = rw (ne-eqb best 257 n, s, ← p, ← q, ← r)
 
-    -- the merged table, or one of the two, is too wide
+    -- the merged table, or one of the two, is too over
     pub consider-over : 40 < bits → 257 ≡ considered ws W wt sizes n₀ y best x
     consider-over h = to-scored true _ _ (ap (λ (b : Bool). b || overForty sizes x y) (lt-ltb 40 bits h)) refl refl
 

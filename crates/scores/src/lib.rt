@@ -11,7 +11,7 @@ ghost use Rattle.scores.specs.Scores.{power, firstOf, secondOf, keyAt, o
 // What is said of the pairs of a table where none is to be named: there is none, or one is too wide.
 pub const NONE: usize = 256;
 
-pub const WIDE: usize = 257;
+pub const TOO_WIDE: usize = 257;
 
 // The number that stands at `i`, as wide as an index.
 pub fn at(words: &[u64], i: usize) -> usize
@@ -109,7 +109,7 @@ fn consider(
     requires { ⌜ (w ≤ 16) × (x < 1048576) × (y < 1048576) × Light (now weights) ⌝ }
     ensures { λ r. ⌜ r ≡ considered (now (ws .entry)) w (now (weights .entry)) (now (sizes .entry)) n0 y best x ⌝ }
 {
-    if best == WIDE {
+    if best == TOO_WIDE {
         return best;
     }
     if !live::share(ws, w, x, y) {
@@ -117,10 +117,10 @@ fn consider(
     }
     let m = live::merged_size(ws, w, x, y, weights);
     if 40 < m {
-        return WIDE;
+        return TOO_WIDE;
     }
     if too_wide(sizes, x, y) {
-        return WIDE;
+        return TOO_WIDE;
     }
     if best == NONE {
         return m * 512 + x;
@@ -131,7 +131,7 @@ fn consider(
     best
 }
 
-// The least pair of `y` with the first `k` slots of `live`: NONE, WIDE, or 512 times the merged size bits and the other slot.
+// The least pair of `y` with the first `k` slots of `live`: NONE, TOO_WIDE, or 512 times the merged size bits and the other slot.
 pub fn row(
     ws: &[u64],
     w: usize,

@@ -10,7 +10,7 @@ use lib.ListN.{length, getD, set, length-set}
 use lib.Seq.{getD-set-same, getD-set-other}
 use Rattle.laws.specs.Booleans.{by-cases}
 use Rattle.cells.specs.Loop.{turns}
-use Rattle.slots.specs.Slots.{held, withSet, withSet-length, withSet-again, withSet-then, withSet-ext, withSet-held, held-with, held-with-other, Words, next-slot}
+use Rattle.slots.specs.Slots.{held, withSet, withSet-length, withSet-then, held-with, held-with-other}
 use Rattle.slots.specs.Writes.{among}
 use Rattle.slots.specs.Weigh.{weighed, either}
 

@@ -1,7 +1,7 @@
 // Greedy's start: the leaves' tables in slots of lent words, their sizes, and the indices that stay whatever is merged.
 ghost use mathlib.Core.Path.{_≡_};
-ghost use Prim.Native.Nat.{_+_, _*_, _<_, _≤_};
-ghost use lib.ListN.{length, getD};
+ghost use Prim.Native.Nat.{_*_, _<_, _≤_};
+ghost use lib.ListN.{length};
 ghost use Rattle.slots.specs.Slots.{withSet};
 ghost use Rattle.slots.specs.Writes.{among};
 ghost use Rattle.slots.specs.Weigh.{Light};

@@ -3,9 +3,9 @@ use borrow.Author.Needs.{needs}
 use Rattle.live.specs.Holders.{countWord, word-none, word-next, word-first}
 use Rattle.slots.specs.Slots.{slot-small}
 use native.Mathlib.Omega.{arith}
-use Prim.Native.Nat.{ℕ, _+_, _-_, _*_, _<_, _≤_}
-use mathlib.Core.Path.{_≡_, refl, sym, ap, _∙_, subst}
-use lib.ListN.{length, getD, set, length-set}
+use Prim.Native.Nat.{_+_, _-_, _*_, _≤_}
+use mathlib.Core.Path.{_≡_, ap, _∙_}
+use lib.ListN.{getD}
 use Rattle.live.proofs.count_holders.Statement.{statement}
 use Rattle.live.proofs.count_holders.Tie as tie
 

@@ -4,9 +4,8 @@ use mathlib.Core.List.{[]}
 use Rattle.slots.specs.Weigh.{weighed}
 use Rattle.live.specs.Merged.{mergedSet, pairBits, size-none, size-next}
 use native.Mathlib.Omega.{arith}
-use Prim.Native.Nat.{ℕ, _+_, _-_, _*_, _<_, _≤_}
-use mathlib.Core.Path.{_≡_, refl, sym, ap, _∙_, subst}
-use lib.ListN.{length, getD, set, length-set}
+use Prim.Native.Nat.{ℕ, _-_, _*_, _≤_}
+use mathlib.Core.Path.{_≡_, ap, _∙_}
 use Rattle.live.proofs.merged_size.Statement.{statement}
 use Rattle.live.proofs.merged_size.Tie as tie
 

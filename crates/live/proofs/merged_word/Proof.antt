@@ -2,9 +2,6 @@
 use borrow.Author.Needs.{needs}
 use Rattle.slots.specs.Slots.{slot-small}
 use native.Mathlib.Omega.{arith}
-use Prim.Native.Nat.{ℕ, _+_, _-_, _*_, _<_, _≤_}
-use mathlib.Core.Path.{_≡_, refl, sym, ap, _∙_, subst}
-use lib.ListN.{length, getD, set, length-set}
 use Rattle.live.proofs.merged_word.Statement.{statement}
 use Rattle.live.proofs.merged_word.Tie as tie
 

@@ -3,9 +3,9 @@ use borrow.Author.Needs.{needs}
 use Rattle.live.specs.Holders.{sideBySide, side-none, side-next, side-end}
 use Rattle.slots.specs.Slots.{written-length}
 use native.Mathlib.Omega.{arith}
-use Prim.Native.Nat.{ℕ, _+_, _-_, _*_, _<_, _≤_}
-use mathlib.Core.Path.{_≡_, refl, sym, ap, _∙_, subst}
-use lib.ListN.{length, getD, set, length-set}
+use Prim.Native.Nat.{_-_, _≤_}
+use mathlib.Core.Path.{_≡_, ap, _∙_}
+use lib.ListN.{length}
 use Rattle.live.proofs.put_holders.Statement.{statement}
 use Rattle.live.proofs.put_holders.Tie as tie
 

@@ -1,11 +1,11 @@
 -- Assumes nothing.
 use borrow.Author.Needs.{needs}
-use Rattle.live.specs.Merged.{mergedSet, writtenTo, merged-next}
-use Rattle.slots.specs.Slots.{slot-small, written, written-none, written-length, withSet-end}
+use Rattle.live.specs.Merged.{writtenTo, merged-next}
+use Rattle.slots.specs.Slots.{slot-small, written-none, written-length, withSet-end}
 use native.Mathlib.Omega.{arith}
-use Prim.Native.Nat.{ℕ, _+_, _-_, _*_, _<_, _≤_}
-use mathlib.Core.Path.{_≡_, refl, sym, ap, _∙_, subst}
-use lib.ListN.{length, getD, set, length-set}
+use Prim.Native.Nat.{_-_, _≤_}
+use mathlib.Core.Path.{_≡_, ap, _∙_}
+use lib.ListN.{length}
 use Rattle.live.proofs.put_merged.Statement.{statement}
 use Rattle.live.proofs.put_merged.Tie as tie
 

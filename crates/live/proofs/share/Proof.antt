@@ -5,9 +5,8 @@ use mathlib.Core.List.{[]}
 use Rattle.live.specs.Common.{both, share-next, share-end, share-found}
 use Rattle.slots.specs.Slots.{slot-small}
 use native.Mathlib.Omega.{arith}
-use Prim.Native.Nat.{ℕ, _+_, _-_, _*_, _<_, _≤_}
-use mathlib.Core.Path.{_≡_, refl, sym, ap, _∙_, subst}
-use lib.ListN.{length, getD, set, length-set}
+use Prim.Native.Nat.{_-_, _*_, _≤_}
+use mathlib.Core.Path.{_≡_, refl}
 use Rattle.live.proofs.share.Statement.{statement}
 use Rattle.live.proofs.share.Tie as tie
 

@@ -3,9 +3,9 @@ use borrow.Author.Needs.{needs}
 use Rattle.merging.specs.Connect.{Start, Reached, reached-start, reached-end, turn-ends, turn-refused, turn-merges}
 use Rattle.merging.specs.Holds.{Given, Ghost, listsOf}
 use native.Mathlib.Omega.{arith}
-use Prim.Native.Nat.{ℕ, _+_, _-_, _*_, _<_, _≤_}
-use mathlib.Core.Path.{_≡_, refl, sym, ap, _∙_, subst}
-use lib.ListN.{length, getD, set, length-set}
+use Prim.Native.Nat.{_-_, _<_, _≤_}
+use mathlib.Core.Path.{_≡_, refl, _∙_}
+use lib.ListN.{length}
 use Rattle.merging.proofs.connect.Statement.{statement}
 use Rattle.merging.proofs.connect.Tie as tie
 

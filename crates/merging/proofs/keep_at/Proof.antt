@@ -1,10 +1,6 @@
 -- Assumes nothing.
 use borrow.Author.Needs.{needs}
-use Rattle.merging.specs.Removed.{placeAfter, keptAt, kept-not-first, kept-not-second, kept-kept}
-use native.Mathlib.Omega.{arith}
-use Prim.Native.Nat.{ℕ, _+_, _-_, _*_, _<_, _≤_}
-use mathlib.Core.Path.{_≡_, refl, sym, ap, _∙_, subst}
-use lib.ListN.{length, getD, set, length-set}
+use Rattle.merging.specs.Removed.{kept-not-first, kept-not-second, kept-kept}
 use Rattle.merging.proofs.keep_at.Statement.{statement}
 use Rattle.merging.proofs.keep_at.Tie as tie
 

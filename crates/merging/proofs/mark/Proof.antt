@@ -1,9 +1,6 @@
 -- Assumes nothing.
 use borrow.Author.Needs.{needs}
-use native.Mathlib.Omega.{arith}
-use Prim.Native.Nat.{ℕ, _+_, _-_, _*_, _<_, _≤_}
-use mathlib.Core.Path.{_≡_, refl, sym, ap, _∙_, subst}
-use lib.ListN.{length, getD, set, length-set}
+use mathlib.Core.Path.{_∙_}
 use Rattle.merging.proofs.mark.Statement.{statement}
 use Rattle.merging.proofs.mark.Tie as tie
 

@@ -11,9 +11,9 @@ use Rattle.scores.specs.Scores.{firstOf, secondOf}
 use Rattle.merging.specs.Listed.{remaining}
 use Rattle.merging.specs.Merge.{firstAt, secondAt, marked, withNode, first-lt, second-lt}
 use native.Mathlib.Omega.{arith}
-use Prim.Native.Nat.{ℕ, _+_, _-_, _*_, _<_, _≤_}
-use mathlib.Core.Path.{_≡_, refl, sym, ap, _∙_, subst}
-use lib.ListN.{length, getD, set, length-set}
+use Prim.Native.Nat.{ℕ, _<_}
+use mathlib.Core.Path.{_≡_, sym, ap, _∙_, subst}
+use lib.ListN.{getD, set}
 use Rattle.merging.proofs.merge.Statement.{statement}
 use Rattle.merging.proofs.merge.Tie as tie
 

@@ -1,11 +1,11 @@
 -- Assumes nothing.
 use borrow.Author.Needs.{needs}
 use Rattle.cells.specs.Cells.{over-length}
-use Rattle.merging.specs.Removed.{Removing, remove-none, remove-next, remove-end, left-short}
+use Rattle.merging.specs.Removed.{Removing, remove-none, remove-next, remove-end, left-few}
 use native.Mathlib.Omega.{arith}
-use Prim.Native.Nat.{ℕ, _+_, _-_, _*_, _<_, _≤_}
-use mathlib.Core.Path.{_≡_, refl, sym, ap, _∙_, subst}
-use lib.ListN.{length, getD, set, length-set}
+use Prim.Native.Nat.{_-_, _≤_}
+use mathlib.Core.Path.{refl, ap, _∙_}
+use lib.ListN.{length}
 use Rattle.merging.proofs.remove.Statement.{statement}
 use Rattle.merging.proofs.remove.Tie as tie
 
@@ -20,7 +20,7 @@ loop-holds c = let d = c .before .args in (omega arith, remove-none (d .x) (d .y
 
 keep-at-requires : tie.Need-keep-at-requires Inv-loop μ-loop
 keep-at-requires c κs = let d = c .before .before .before .before .args in
-    let l = c .before .before .loop in omega (arith, left-short (d .x) (d .y) (d .live .now) (l .i) (omega (arith, c .before .before .before .before .pre .0)), l .inv .1 .1)
+    let l = c .before .before .loop in omega (arith, left-few (d .x) (d .y) (d .live .now) (l .i) (omega (arith, c .before .before .before .before .pre .0)), l .inv .1 .1)
 
 add-i : tie.Need-add-i Inv-loop μ-loop
 add-i c = search needs

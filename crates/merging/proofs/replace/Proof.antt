@@ -1,11 +1,7 @@
 -- Assumes nothing.
 use borrow.Author.Needs.{needs}
-use Prim.Native.Nat.{_%_}
-use Rattle.cells.specs.Cells.{over-length, over-snoc}
-use native.Mathlib.Omega.{arith}
-use Prim.Native.Nat.{ℕ, _+_, _-_, _*_, _<_, _≤_}
-use mathlib.Core.Path.{_≡_, refl, sym, ap, _∙_, subst}
-use lib.ListN.{length, getD, set, length-set}
+use Rattle.cells.specs.Cells.{over-snoc}
+use mathlib.Core.Path.{_∙_}
 use Rattle.merging.proofs.replace.Statement.{statement}
 use Rattle.merging.proofs.replace.Tie as tie
 

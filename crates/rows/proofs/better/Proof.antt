@@ -1,15 +1,12 @@
 -- Assumes nothing.
 use borrow.Author.Needs.{needs}
-use Rattle.rows.specs.Rows.{better-wide, better-over, better-none, better-first, better-sooner, better-later}
-use native.Mathlib.Omega.{arith}
-use Prim.Native.Nat.{ℕ, _+_, _-_, _*_, _<_, _≤_}
-use mathlib.Core.Path.{_≡_, refl, sym, ap, _∙_, subst}
-use lib.ListN.{length, getD, set, length-set}
+use Rattle.rows.specs.Rows.{better-refused, better-over, better-none, better-first, better-sooner, better-later}
+use mathlib.Core.Path.{sym, _∙_}
 use Rattle.rows.proofs.better.Statement.{statement}
 use Rattle.rows.proofs.better.Tie as tie
 
 returns : tie.Need-returns
-returns c = let d = c .before .before .before .args in better-wide (d .sizes .now) (d .n0) (d .rows .now) (d .best) (d .y) (c .if1 .taken)
+returns c = let d = c .before .before .before .args in better-refused (d .sizes .now) (d .n0) (d .rows .now) (d .best) (d .y) (c .if1 .taken)
 
 at-requires : tie.Need-at-requires
 at-requires c κs = search needs

@@ -2,11 +2,10 @@
 use borrow.Author.Needs.{needs}
 use Rattle.rows.specs.Rows.{bettered-one}
 use Rattle.rows.specs.Rows.{bettered, leastOf}
-use Rattle.cells.specs.Loop.{turns, turns-none, turns-next, turns-end}
+use Rattle.cells.specs.Loop.{turns-none, turns-next, turns-end}
 use native.Mathlib.Omega.{arith}
-use Prim.Native.Nat.{ℕ, _+_, _-_, _*_, _<_, _≤_}
-use mathlib.Core.Path.{_≡_, refl, sym, ap, _∙_, subst}
-use lib.ListN.{length, getD, set, length-set}
+use Prim.Native.Nat.{ℕ, _-_, _<_, _≤_}
+use mathlib.Core.Path.{_≡_, sym, ap, _∙_, subst}
 use Rattle.rows.proofs.least.Statement.{statement}
 use Rattle.rows.proofs.least.Tie as tie
 

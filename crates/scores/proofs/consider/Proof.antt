@@ -2,18 +2,16 @@
 use borrow.Author.Needs.{needs}
 use Prim.Native.Nat.{_/_, _%_}
 use borrow.Author.Tests.{not-true, not-false}
-use Rattle.scores.specs.Scores.{keyAt, codeOf, consider-wide, consider-apart, consider-over, consider-table, consider-first, consider-sooner, consider-later}
+use Rattle.scores.specs.Scores.{keyAt, codeOf, consider-refused, consider-apart, consider-over, consider-table, consider-first, consider-sooner, consider-later}
 use Rattle.spec.specs.Greedy.{keyBefore}
-use Rattle.live.specs.Merged.{pairBits}
 use native.Mathlib.Omega.{arith}
-use Prim.Native.Nat.{ℕ, _+_, _-_, _*_, _<_, _≤_}
-use mathlib.Core.Path.{_≡_, refl, sym, ap, _∙_, subst}
-use lib.ListN.{length, getD, set, length-set}
+use Prim.Native.Nat.{ℕ}
+use mathlib.Core.Path.{sym, ap, _∙_}
 use Rattle.scores.proofs.consider.Statement.{statement}
 use Rattle.scores.proofs.consider.Tie as tie
 
 returns : tie.Need-returns
-returns c = let d = c .before .before .before .before .args in consider-wide (d .ws .now) (d .w) (d .weights .now) (d .sizes .now) (d .n0) (d .y) (d .best) (d .x) (c .if1 .taken)
+returns c = let d = c .before .before .before .before .args in consider-refused (d .ws .now) (d .w) (d .weights .now) (d .sizes .now) (d .n0) (d .y) (d .best) (d .x) (c .if1 .taken)
 
 share-requires : tie.Need-share-requires
 share-requires c κs = search needs

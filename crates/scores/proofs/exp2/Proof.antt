@@ -5,9 +5,7 @@ use borrow.Author.Tests.{lt-ltb, le-ltb}
 use Rattle.scores.specs.Scores.{power}
 use Rattle.bits.specs.Bit.{one-shl}
 use native.Mathlib.Omega.{arith}
-use Prim.Native.Nat.{ℕ, _+_, _-_, _*_, _<_, _≤_}
-use mathlib.Core.Path.{_≡_, refl, sym, ap, _∙_, subst}
-use lib.ListN.{length, getD, set, length-set}
+use Prim.Native.Nat.{_≤_}
 use Rattle.scores.proofs.exp2.Statement.{statement}
 use Rattle.scores.proofs.exp2.Tie as tie
 

@@ -1,11 +1,10 @@
 -- Assumes nothing.
 use borrow.Author.Needs.{needs}
 use Rattle.scores.specs.Scores.{considered, rowOf}
-use Rattle.cells.specs.Loop.{turns, turns-none, turns-next, turns-end}
+use Rattle.cells.specs.Loop.{turns-none, turns-next, turns-end}
 use native.Mathlib.Omega.{arith}
-use Prim.Native.Nat.{ℕ, _+_, _-_, _*_, _<_, _≤_}
-use mathlib.Core.Path.{_≡_, refl, sym, ap, _∙_, subst}
-use lib.ListN.{length, getD, set, length-set}
+use Prim.Native.Nat.{_-_, _≤_}
+use mathlib.Core.Path.{_≡_, sym, ap, _∙_}
 use Rattle.scores.proofs.row.Statement.{statement}
 use Rattle.scores.proofs.row.Tie as tie
 

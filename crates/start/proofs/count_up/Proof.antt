@@ -1,11 +1,11 @@
 -- Assumes nothing.
 use borrow.Author.Needs.{needs}
 use Rattle.start.specs.Leaves.{putAll, put-length}
-use Rattle.cells.specs.Loop.{turns, turns-none, turns-next, turns-end}
+use Rattle.cells.specs.Loop.{turns-none, turns-next, turns-end}
 use native.Mathlib.Omega.{arith}
-use Prim.Native.Nat.{ℕ, _+_, _-_, _*_, _<_, _≤_}
-use mathlib.Core.Path.{_≡_, refl, sym, ap, _∙_, subst}
-use lib.ListN.{length, getD, set, length-set}
+use Prim.Native.Nat.{_-_, _≤_}
+use mathlib.Core.Path.{_≡_, sym, ap, _∙_}
+use lib.ListN.{length}
 use Rattle.start.proofs.count_up.Statement.{statement}
 use Rattle.start.proofs.count_up.Tie as tie
 

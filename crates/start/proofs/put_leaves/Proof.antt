@@ -2,11 +2,11 @@
 use borrow.Author.Needs.{needs}
 use Rattle.start.specs.Leaves.{leafSet, withLeaves, leaves-length}
 use Rattle.slots.specs.Slots.{withSet}
-use Rattle.cells.specs.Loop.{turns, turns-none, turns-next, turns-end}
+use Rattle.cells.specs.Loop.{turns-none, turns-next, turns-end}
 use native.Mathlib.Omega.{arith}
-use Prim.Native.Nat.{ℕ, _+_, _-_, _*_, _<_, _≤_}
-use mathlib.Core.Path.{_≡_, refl, sym, ap, _∙_, subst}
-use lib.ListN.{length, getD, set, length-set}
+use Prim.Native.Nat.{ℕ, _-_, _≤_}
+use mathlib.Core.Path.{_≡_, refl, sym, ap, _∙_}
+use lib.ListN.{length}
 use Rattle.start.proofs.put_leaves.Statement.{statement}
 use Rattle.start.proofs.put_leaves.Tie as tie
 

@@ -4,10 +4,8 @@ use Rattle.start.specs.Leaves.{other-inside, other-outside}
 use mathlib.Core.Bool.{_||_}
 use Rattle.slots.specs.Writes.{among}
 use Rattle.slots.specs.Slots.{held, withSet}
-use native.Mathlib.Omega.{arith}
-use Prim.Native.Nat.{ℕ, _+_, _-_, _*_, _<_, _≤_}
-use mathlib.Core.Path.{_≡_, refl, sym, ap, _∙_, subst}
-use lib.ListN.{length, getD, set, length-set}
+use Prim.Native.Nat.{ℕ, _*_}
+use mathlib.Core.Path.{sym, ap, _∙_}
 use Rattle.start.proofs.put_other.Statement.{statement}
 use Rattle.start.proofs.put_other.Tie as tie
 

@@ -1,14 +1,12 @@
 -- Assumes nothing.
 use borrow.Author.Needs.{needs}
 use Rattle.start.specs.Leaves.{outside-end}
-use Rattle.start.specs.Leaves.{withOutside, outsideTo, outside-none, outside-next}
-use Rattle.slots.specs.Writes.{among}
-use Rattle.slots.specs.Slots.{withSet, withSet-length}
+use Rattle.start.specs.Leaves.{outsideTo, outside-none, outside-next}
 use mathlib.Core.List.{List}
 use native.Mathlib.Omega.{arith}
-use Prim.Native.Nat.{ℕ, _+_, _-_, _*_, _<_, _≤_}
-use mathlib.Core.Path.{_≡_, refl, sym, ap, _∙_, subst}
-use lib.ListN.{length, getD, set, length-set}
+use Prim.Native.Nat.{ℕ, _-_, _≤_}
+use mathlib.Core.Path.{_≡_, refl, _∙_}
+use lib.ListN.{length}
 use Rattle.start.proofs.put_outside.Statement.{statement}
 use Rattle.start.proofs.put_outside.Tie as tie
 

@@ -1,0 +1,118 @@
+-- Greedy over all leaves of a network, from greedy over a list of leaves. Assumes nothing.
+use mathlib.Core.Path.{_≡_, refl, sym, _∙_, ap, ap₂, subst}
+use mathlib.Core.List.{List, [], _∷_}
+use Prim.Native.Nat.{ℕ, _-_, _≤_, _<_}
+use native.Mathlib.Omega.{arith}
+use native.Mathlib.Decide.{decLe}
+use lib.ListN.{length, getD, take, drop, List·getD-eq-default}
+use lib.Seq.{ext-getD, getD-take, length-take-le, take-append-seam}
+use Rattle.spec.specs.Lists.{memb, count, range}
+use Rattle.spec.specs.Memory.{over, copied}
+use Rattle.spec.specs.Layout.{networkOf}
+use Rattle.spec.specs.Network.{Network, leafCount}
+use Rattle.spec.specs.Tree.{Pair, flatOf}
+use Rattle.spec.specs.Refusal.{tableTooWide, refused, done}
+use Rattle.spec.specs.Greedy.{arrayOf, leavesOf, greedyFrom, greedy}
+use Rattle.laws.specs.ListLaws.{from-memb, range-length}
+use Rattle.laws.specs.GreedyForest.{leaves-single}
+use Rattle.cells.specs.Cells.{over-fits}
+use Rattle.network.specs.Layouts.{layout-leaf-count}
+use Rattle.network.specs.Checks.{Lent}
+use Rattle.network.specs.Codes.{Facts}
+use Rattle.slots.specs.Weigh.{Light}
+use Rattle.start.specs.Leaves.{putAll, put-length, put-at}
+use Rattle.greedy.specs.Lends.{lends-layout}
+use Rattle.greedy.specs.Begin.{range-at, Fits, Asks}
+use Rattle.greedy.specs.Ends.{Greedied, isRefused, isBuilt}
+
+-- what greedy over all leaves answers: 65536 if it is refused; else the children of the array stand at the front of `kids`
+pub data Whole (N : Network) (kids₀ kids : List ℕ) (r : ℕ) : Type 0 where
+  isTooWide : r ≡ 65536 → greedy N ≡ refused tableTooWide → Whole N kids₀ kids r
+  isPlan : r < 65536 → (a : List Pair) → greedy N ≡ done a → kids ≡ over kids₀ (flatOf a) → length a ≡ leafCount N - 1 → Whole N kids₀ kids r
+
+-- the numbers that are counted up are the range
+counted-range : (l : List ℕ) (n : ℕ) → n ≤ length l → take n (putAll (λ i. i) l n) ≡ range n
+counted-range l n h =
+    let e : length (take n (putAll (λ i. i) l n)) ≡ n = length-take-le n (putAll (λ i. i) l n) (omega (arith, put-length (λ i. i) l n)) in
+    ext-getD 0 (take n (putAll (λ i. i) l n)) (range n) (e ∙ sym (range-length 0 n)) (λ i b.
+    getD-take n (putAll (λ i. i) l n) i 0 (omega (arith, e)) ∙ put-at (λ i. i) l n i (omega (arith, e)) (omega (arith, e))
+    ∙ sym (range-at 0 n i (omega (arith, e)) ∙ omega arith))
+
+nothing-over : (l : List ℕ) → l ≡ over l []
+unfolding over
+nothing-over [] = refl
+nothing-over (x ∷ l) = refl
+
+-- a weight past the front is 0
+pub light-front : (m : ℕ) (weights : List ℕ) → m ≤ length weights → ((j : ℕ) → j < m → getD weights j 0 ≤ 8) → Light (take m weights)
+light-front m weights h f j =
+    elim (decLe m j) [
+      | yes q ↦ omega (arith, List·getD-eq-default (take m weights) 0 (let z : length (take m weights) ≤ j = omega (arith, length-take-le m weights h) in z))
+      | no q ↦ omega (arith, getD-take m weights j 0 (omega arith), f j (omega arith))
+    ]
+
+module _ (m n o : ℕ) (weights counts cells outputs : List ℕ) (lent : Lent weights counts cells outputs) (facts : Facts m n o weights counts cells outputs)
+    (numbers : List ℕ) (room : 128 ≤ length numbers) (leaves : List ℕ) (el : leaves ≡ take n (putAll (λ i. i) numbers n))
+  where
+    abbrev N : Network
+    N = networkOf m n o weights counts cells outputs
+
+    all-leaves : leaves ≡ range n
+    all-leaves = el ∙ counted-range numbers n (omega (arith, facts .fewLeaves))
+
+    leaves-many : length leaves ≡ n
+    leaves-many = ap length all-leaves ∙ range-length 0 n
+
+    -- the lengths fit, for sets of four words
+    pub whole-fits : (ws : List ℕ) → 4096 ≤ length ws → Fits 4 n 0 (take m weights) (take o outputs) leaves ws
+    whole-fits ws h =
+        record {
+          width = omega arith;
+          indices = omega (arith, length-take-le m weights (omega (arith, facts .fewIndices, lent .weightPlaces)), facts .fewIndices);
+          leafSets = omega (arith, facts .fewLeaves);
+          few = omega (arith, leaves-many, facts .fewLeaves);
+          outputsFit = omega (arith, length-take-le o outputs (omega (arith, facts .fewOutputs, lent .outputPlaces)), facts .fewOutputs);
+          words = omega arith;
+          array = omega arith;
+        }
+
+    pub whole-light : Light (take m weights)
+    whole-light = light-front m weights (omega (arith, facts .fewIndices, lent .weightPlaces)) (facts .weightsFit)
+
+    asks : (kids : List ℕ) → Asks N [] n 0 (take m weights) counts cells (take o outputs) leaves kids
+    unfolding flatOf
+    asks kids =
+        record {
+          lends = lends-layout m n o weights counts cells outputs (omega (arith, facts .fewIndices, lent .weightPlaces)) (omega (arith, facts .fewOutputs, lent .outputPlaces));
+          accepted = facts .accepted;
+          leaf = λ v e. omega (arith, from-memb v 0 n (ap (memb v) (sym all-leaves) ∙ e));
+          once = λ v. subst (λ (l : List ℕ). count v l ≤ 1) (sym all-leaves) (leaves-single n v);
+          array = refl;
+          written = nothing-over kids;
+        }
+
+    greedy-is : greedy N ≡ arrayOf (greedyFrom N [] (leavesOf leaves))
+    unfolding greedy
+    greedy-is =
+        ap (λ (l : List ℕ). arrayOf (greedyFrom N [] (leavesOf l)))
+        (ap range (layout-leaf-count m n o weights counts cells outputs) ∙ sym all-leaves)
+
+    pub whole-answer : (kids₀ kids : List ℕ) (r : ℕ)
+        → ((N : Network) (a : List Pair) → Asks N a n 0 (take m weights) counts cells (take o outputs) leaves kids₀ → Greedied N a leaves kids₀ kids r)
+        → Whole N kids₀ kids r
+    whole-answer kids₀ kids r f = go (f N [] (asks kids₀))
+      where
+        go : Greedied N [] leaves kids₀ kids r → Whole N kids₀ kids r
+        go (isRefused e q) = isTooWide e (greedy-is ∙ ap arrayOf q)
+        go (isBuilt h b q w k t) =
+            isPlan h (b .pairs) (greedy-is ∙ ap arrayOf q) w
+            (omega (arith, k, leaves-many, layout-leaf-count m n o weights counts cells outputs))
+
+-- the children are copied out
+pub copied-out : (tree kids₀ kids : List ℕ) (a : List Pair) (places : ℕ) → kids ≡ over kids₀ (flatOf a) → places ≡ length (flatOf a) → places ≤ length kids₀
+    → copied tree kids places ≡ over tree (flatOf a)
+unfolding copied
+copied-out tree kids₀ kids a places e h b =
+    ap (over tree)
+    (ap₂ (λ (k : ℕ) (l : List ℕ). take k l) h (e ∙ over-fits kids₀ (flatOf a) (omega (arith, h)))
+    ∙ take-append-seam (flatOf a) (drop (length (flatOf a)) kids₀))
