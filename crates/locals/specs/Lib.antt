@@ -2,3 +2,6 @@
 pub mod Locals
 pub mod Unions
 pub mod Turns
+pub mod Alike
+pub mod Numbering
+pub mod Transfer

@@ -13,12 +13,12 @@ unfoldable pub memberHave : List ℕ → ℕ → List ℕ → ℕ → ℕ → Bo
 memberHave ws W members zero j = false
 memberHave ws W members (suc m) j = memberHave ws W members m j || held ws W (getD members m 0) j
 
--- those of them that are not in slot f, rising
-abbrev pub isLocal : List ℕ → ℕ → List ℕ → ℕ → ℕ → ℕ → Bool
-isLocal ws W members m f j = memberHave ws W members m j && not (held ws W f j)
+-- those of them that are not in slot 0 of the list `sliced`, rising
+abbrev pub isLocal : List ℕ → ℕ → List ℕ → ℕ → List ℕ → ℕ → Bool
+isLocal ws W members m sliced j = memberHave ws W members m j && not (held sliced W 0 j)
 
-unfoldable pub localList : List ℕ → ℕ → List ℕ → ℕ → ℕ → List ℕ
-localList ws W members m f = keep (isLocal ws W members m f) (range (W * 64))
+unfoldable pub localList : List ℕ → ℕ → List ℕ → ℕ → List ℕ → List ℕ
+localList ws W members m sliced = keep (isLocal ws W members m sliced) (range (W * 64))
 
 -- does slot s list the local index i, of c
 abbrev pub localTest : List ℕ → ℕ → ℕ → List ℕ → ℕ → ℕ → Bool

@@ -12,26 +12,22 @@ use borrow.Author.Tests.{eqb-true, eqb-false, lt-ltb, le-ltb, ltb-true, ltb-fals
 use Rattle.spec.specs.Memory.{filled}
 use Rattle.laws.specs.Booleans.{by-cases}
 use Rattle.cells.specs.Cells.{filled-all, filled-length}
-use Rattle.slots.specs.Slots.{held, withSet, held-with, held-with-other, withSet-ext, withSet-again, withSet-then}
+use Rattle.slots.specs.Slots.{held, withSet, held-with, held-with-other, withSet-then}
 use Rattle.slots.specs.Rising.{risingOf, rising-with}
 use Rattle.locals.specs.Locals.{memberHave, isLocal, localList, localTest, localWeight, LocalSets}
 
 -- ---- the list of local indices ----
 
-module _ (ws : List ℕ) (W u f : ℕ) (members : List ℕ) (m : ℕ) (less : f < u) where
-  -- the members' union, less the slot f
-  pub locals-are : (a b : List ℕ) → a ≡ withSet ws W u (memberHave ws W members m) → b ≡ withSet a W u (λ j. held a W u j && not (held a W f j))
-      → b ≡ withSet ws W u (isLocal ws W members m f)
-  locals-are a b e g =
-      g
-      ∙ ap (λ l. withSet l W u (λ j. held l W u j && not (held l W f j))) e
-      ∙ withSet-ext (withSet ws W u (memberHave ws W members m)) W u _ (λ j. held (withSet ws W u (memberHave ws W members m)) W u j && not (held ws W f j))
-      (λ j q. ap (λ x. held (withSet ws W u (memberHave ws W members m)) W u j && not x) (held-with-other ws W u (memberHave ws W members m) f j q (λ z. omega arith)))
-      ∙ withSet-then ws W u (memberHave ws W members m) (λ j x. x && not (held ws W f j))
-
-  pub local-rising : (b : List ℕ) → u * W + W ≤ length ws → b ≡ withSet ws W u (isLocal ws W members m f) → risingOf b W u ≡ localList ws W members m f
-  unfolding localList
-  local-rising b room e = ap (λ l. risingOf l W u) e ∙ rising-with ws W u (isLocal ws W members m f) room
+-- the members' union, less the sliced ones
+pub locals-are : (ws src sliced : List ℕ) (W : ℕ) (members : List ℕ) (m : ℕ) (a b : List ℕ) → a ≡ withSet ws W 0 (memberHave src W members m)
+    → b ≡ withSet a W 0 (λ j. held a W 0 j && not (held sliced W 0 j)) → W ≤ length ws → risingOf b W 0 ≡ localList src W members m sliced
+unfolding localList
+locals-are ws src sliced W members m a b e g room =
+    let z : b ≡ withSet ws W 0 (isLocal src W members m sliced) =
+    g
+    ∙ ap (λ l. withSet l W 0 (λ j. held l W 0 j && not (held sliced W 0 j))) e
+    ∙ withSet-then ws W 0 (memberHave src W members m) (λ j x. x && not (held sliced W 0 j)) in
+    ap (λ l. risingOf l W 0) z ∙ rising-with ws W 0 (isLocal src W members m sliced) (omega arith)
 
 -- ---- the sets, slot by slot ----
 

@@ -10,7 +10,7 @@ use lib.ListN.{length, getD, List·getD-eq-default}
 use borrow.Author.Tests.{eq-eqb, ne-eqb, lt-ltb, le-ltb, eqb-true, eqb-false, ltb-true, ltb-false}
 use Rattle.spec.specs.Calls.{flagAt}
 use Rattle.laws.specs.Booleans.{by-cases}
-use Rattle.slots.specs.Slots.{held, withSet, held-with-other, withSet-ext, withSet-again, withSet-then}
+use Rattle.slots.specs.Slots.{held, withSet, withSet-ext, withSet-again, withSet-then}
 use Rattle.locals.specs.Locals.{memberHave}
 
 -- ---- a set that a test gives, one index after the other ----
@@ -88,39 +88,28 @@ flags-all ws a W s flags e =
 
 -- ---- members ----
 
-module _ (ws : List ℕ) (W u : ℕ) (members : List ℕ) where
-  abbrev pub Uniting : ℕ → List ℕ → Type 0
-  Uniting p now = now ≡ withSet ws W u (memberHave ws W members p)
+-- slot 0 has the union of the first p members' slots of `src`
+abbrev pub Uniting : List ℕ → ℕ → List ℕ → List ℕ → ℕ → List ℕ → Type 0
+Uniting ws W src members p now = now ≡ withSet ws W 0 (memberHave src W members p)
 
-  pub uniting-next : (p v : ℕ) (a b : List ℕ) → v < u → v ≡ getD members p 0 → Uniting p a
-      → b ≡ withSet a W u (λ j. held a W u j || held a W v j) → Uniting (p + 1) b
+pub uniting-next : (ws : List ℕ) (W : ℕ) (src members : List ℕ) (p v : ℕ) (a b : List ℕ) → v ≡ getD members p 0 → Uniting ws W src members p a
+    → b ≡ withSet a W 0 (λ j. held a W 0 j || held src W v j) → Uniting ws W src members (p + 1) b
+unfolding memberHave
+uniting-next ws W src members p v a b ev e f =
+    f
+    ∙ ap (λ l. withSet l W 0 (λ j. held l W 0 j || held src W v j)) e
+    ∙ withSet-then ws W 0 (memberHave src W members p) (λ j x. x || held src W v j)
+    ∙ withSet-ext ws W 0 _ (memberHave src W members (p + 1)) (λ j q.
+    ap (λ x. memberHave src W members p j || held src W x j) ev ∙ sym (ap (λ k. memberHave src W members k j) (add-one p)))
+
+module _ (ws : List ℕ) (W : ℕ) (src members zeros : List ℕ) (e : zeros ≡ withSet ws W 0 (λ j. false)) where
+  pub uniting-none : Uniting zeros W src members 0 zeros
   unfolding memberHave
-  uniting-next p v a b h ev e f =
-      f
-      ∙ ap (λ l. withSet l W u (λ j. held l W u j || held l W v j)) e
-      ∙ withSet-ext (withSet ws W u (memberHave ws W members p)) W u _ (λ j. held (withSet ws W u (memberHave ws W members p)) W u j || held ws W v j)
-      (λ j q. ap (λ x. held (withSet ws W u (memberHave ws W members p)) W u j || x) (held-with-other ws W u (memberHave ws W members p) v j q (λ z. omega arith)))
-      ∙ withSet-then ws W u (memberHave ws W members p) (λ j x. x || held ws W v j)
-      ∙ withSet-ext ws W u _ (memberHave ws W members (p + 1)) (λ j q.
-      ap (λ x. memberHave ws W members p j || held ws W x j) ev ∙ sym (ap (λ k. memberHave ws W members k j) (add-one p)))
+  uniting-none = e ∙ sym (ap (λ l. withSet l W 0 (λ j. false)) e ∙ withSet-again ws W 0 (λ j. false) (λ j. false))
 
-module _ (ws : List ℕ) (W u : ℕ) (members zeros : List ℕ) (e : zeros ≡ withSet ws W u (λ j. false)) where
-  pub uniting-none : Uniting zeros W u members 0 zeros
-  unfolding memberHave
-  uniting-none = e ∙ sym (ap (λ l. withSet l W u (λ j. false)) e ∙ withSet-again ws W u (λ j. false) (λ j. false))
-
-  have-same : (m j : ℕ) → ((p : ℕ) → p < m → getD members p 0 < u) → j < W * 64 → memberHave zeros W members m j ≡ memberHave ws W members m j
-  unfolding memberHave
-  have-same zero j h b = refl
-  have-same (suc m) j h b =
-      ap₂ (λ x y. x || y) (have-same m j (λ p q. h p (omega arith)) b)
-      (ap (λ l. held l W (getD members m 0) j) e ∙ held-with-other ws W u (λ j. false) (getD members m 0) j b (λ z. omega (arith, h m (omega arith))))
-
-  pub uniting-end : (m p : ℕ) (a : List ℕ) → p ≡ m → ((p : ℕ) → p < m → getD members p 0 < u) → Uniting zeros W u members p a
-      → a ≡ withSet ws W u (memberHave ws W members m)
-  uniting-end m p a z h q =
+  pub uniting-end : (m p : ℕ) (a : List ℕ) → p ≡ m → Uniting zeros W src members p a → a ≡ withSet ws W 0 (memberHave src W members m)
+  uniting-end m p a z q =
       q
-      ∙ ap (λ k. withSet zeros W u (memberHave zeros W members k)) z
-      ∙ ap (λ l. withSet l W u (memberHave zeros W members m)) e
-      ∙ withSet-again ws W u (λ j. false) (memberHave zeros W members m)
-      ∙ withSet-ext ws W u (memberHave zeros W members m) (memberHave ws W members m) (λ j b. have-same m j h b)
+      ∙ ap (λ k. withSet zeros W 0 (memberHave src W members k)) z
+      ∙ ap (λ l. withSet l W 0 (memberHave src W members m)) e
+      ∙ withSet-again ws W 0 (λ j. false) (memberHave src W members m)

@@ -4,10 +4,10 @@ ghost use mathlib.Core.Path.{_≡_};
 ghost use Prim.Native.Nat.{ℕ, _+_, _*_, _^_, _<_, _≤_};
 ghost use lib.Dec.{ltb};
 ghost use lib.ListN.{length, getD};
-ghost use lib.Seq.{sets};
+ghost use lib.Seq.{sets as putAt};
 ghost use Rattle.spec.specs.Calls.{flagAt};
 ghost use Rattle.slots.specs.Slots.{held, withSet};
-ghost use Rattle.locals.specs.Locals.{memberHave, isLocal, localList, localTest, localWeight, LocalSets};
+ghost use Rattle.locals.specs.Locals.{memberHave, localList, localTest, localWeight, LocalSets};
 
 // Makes slot `s` the set of the flagged indices.
 pub fn flag_set(words: &mut [u64], w: usize, s: usize, flags: &[u8])
@@ -22,34 +22,62 @@ pub fn flag_set(words: &mut [u64], w: usize, s: usize, flags: &[u8])
     }
 }
 
-// Makes slot `u` the union of the `m` members' slots.
-fn unite_members(words: &mut [u64], w: usize, u: usize, members: &[u16], m: usize)
-    requires { ⌜ (w ≤ 16) × (u < 1048576) × ((p : ℕ) → p < m → getD (now members) p 0 < u) ⌝ }
-    ensures { λ _. ⌜ now (words .exit) ≡ withSet (now (words .entry)) w u (memberHave (now (words .entry)) w (now (members .entry)) m) ⌝ }
+// Adds slot `s` of `sets` to slot `c` of `words`.
+fn add_slot(words: &mut [u64], w: usize, c: usize, sets: &[u64], s: usize)
+    requires { ⌜ (w ≤ 16) × (c < 1048576) × (s < 1048576) ⌝ }
+    ensures { λ _. ⌜ now (words .exit) ≡ withSet (now (words .entry)) w c (λ j. held (now (words .entry)) w c j || held (now (sets .entry)) w s j) ⌝ }
 {
-    slots::empty(words, w, u);
-    for p in 0..m {
-        slots::unite(words, w, u, cells::at16(members, p), u);
+    let p = c * w;
+    let q = s * w;
+    for k in 0..w {
+        let x = cells::get64(words, p + k);
+        let y = cells::get64(sets, q + k);
+        cells::put64(words, p + k, x | y);
     }
 }
 
-// Writes the indices that one of the `m` members lists and that are not in slot `f` to the front of `local`, rising, and returns how many they are.
-// Slot `u` is worked in.
+// Takes slot `s` of `sets` off slot `c` of `words`.
+fn take_slot(words: &mut [u64], w: usize, c: usize, sets: &[u64], s: usize)
+    requires { ⌜ (w ≤ 16) × (c < 1048576) × (s < 1048576) ⌝ }
+    ensures { λ _. ⌜ now (words .exit) ≡ withSet (now (words .entry)) w c (λ j. held (now (words .entry)) w c j && not (held (now (sets .entry)) w s j)) ⌝ }
+{
+    let p = c * w;
+    let q = s * w;
+    for k in 0..w {
+        let x = cells::get64(words, p + k);
+        let y = cells::get64(sets, q + k);
+        cells::put64(words, p + k, x ^ (x & y));
+    }
+}
+
+// Makes slot 0 of `words` the union of the `m` members' slots of `sets`.
+fn unite_members(words: &mut [u64], w: usize, sets: &[u64], members: &[u16], m: usize)
+    requires { ⌜ w ≤ 16 ⌝ }
+    ensures { λ _. ⌜ now (words .exit) ≡ withSet (now (words .entry)) w 0 (memberHave (now (sets .entry)) w (now (members .entry)) m) ⌝ }
+{
+    slots::empty(words, w, 0);
+    for p in 0..m {
+        add_slot(words, w, 0, sets, cells::at16(members, p));
+    }
+}
+
+// Writes the indices that one of the `m` members lists and that are not in slot 0 of `sliced` to the front of `local`, rising, and returns how many
+// they are. Slot 0 of `words` is worked in.
 pub fn local_indices(
     words: &mut [u64],
     w: usize,
-    u: usize,
-    f: usize,
+    sets: &[u64],
+    sliced: &[u64],
     members: &[u16],
     m: usize,
     local: &mut [u16],
 ) -> usize
-    requires { ⌜ (w ≤ 16) × (u < 1048576) × (u * w + w ≤ length (now words)) × (f < u) × ((p : ℕ) → p < m → getD (now members) p 0 < u) ⌝ }
-    ensures { λ r. ⌜ (r ≡ length (localList (now (words .entry)) w (now (members .entry)) m f)) × (now (local .exit) ≡ sets (now (local .entry)) 0 (localList (now (words .entry)) w (now (members .entry)) m f)) × (now (words .exit) ≡ withSet (now (words .entry)) w u (isLocal (now (words .entry)) w (now (members .entry)) m f)) ⌝ }
+    requires { ⌜ (w ≤ 16) × (w ≤ length (now words)) ⌝ }
+    ensures { λ r. ⌜ (r ≡ length (localList (now (sets .entry)) w (now (members .entry)) m (now (sliced .entry)))) × (now (local .exit) ≡ putAt (now (local .entry)) 0 (localList (now (sets .entry)) w (now (members .entry)) m (now (sliced .entry)))) ⌝ }
 {
-    unite_members(words, w, u, members, m);
-    slots::subtract(words, w, u, f, u);
-    slots::members(words, w, u, local, 0)
+    unite_members(words, w, sets, members, m);
+    take_slot(words, w, 0, sliced, 0);
+    slots::members(words, w, 0, local, 0)
 }
 
 // Makes slot `s` of `words` the local indices, of `c`, that slot `node` of `sets` has.
