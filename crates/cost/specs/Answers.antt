@@ -49,8 +49,8 @@ pub record TreeCost (N : Network) (flags kids ws₀ sets₀ sizes₀ works₀ st
 
 -- ---- the conditions on n leaves and m indices ----
 
-unfoldable pub tooShort : (n words sets sizes works steps : ℕ) → Bool
-tooShort n words sets sizes works steps =
+unfoldable pub tooFew : (n words sets sizes works steps : ℕ) → Bool
+tooFew n words sets sizes works steps =
     anyb (λ x. ltb (x .has) (x .needs)) (
     lent words plainWords
     ∷ lent sets ((n + (n - 1)) * setWords)

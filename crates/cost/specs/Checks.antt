@@ -1,6 +1,6 @@
 -- Pricing's checks one after the other, and what each answer leaves. Assumes nothing.
-use mathlib.Core.Bool.{Bool, true, false, not, _||_, or-false}
-use mathlib.Core.List.{List, [], _∷_, _++_, map}
+use mathlib.Core.Bool.{Bool, true, false, not, or-false}
+use mathlib.Core.List.{List, [], _∷_}
 use mathlib.Core.Option.{none}
 use mathlib.Core.Path.{_≡_, refl, sym, _∙_, ap, subst}
 use Prim.Native.Nat.{ℕ, _+_, _-_, _*_, _≤_, _<_}
@@ -9,31 +9,28 @@ use lib.Dec.{ltb}
 use lib.ListN.{length, take, drop}
 use lib.Seq.{take-at}
 use borrow.Author.Tests.{lt-ltb, le-ltb, ltb-false}
-use Rattle.spec.specs.Lists.{memb, range, anyb}
+use Rattle.spec.specs.Lists.{anyb}
 use Rattle.spec.specs.Memory.{over, cleared}
-use Rattle.spec.specs.Layout.{networkOf}
 use Rattle.spec.specs.Refusal.{Refusal, invalidTree, invalidFlags, numberOf, codeOf, Check, check, Result, refused, done, checked}
 use Rattle.spec.specs.Network.{Network, leafCount, indexCount, refusalOf}
 use Rattle.spec.specs.Tree.{pairsOf, stepOrder}
 use Rattle.spec.specs.Price as price
 use Rattle.spec.specs.Price.{priceOf}
 use Rattle.spec.specs.Calls as calls
-use Rattle.spec.specs.Calls.{lent, plainWords, setWords, stepNumbers, wrongTree, treeCheck, flagsCheck, flagAt, nodePlaces, stepPlaces, PriceRoom, lengthCheck, priceCall, workspaceAfter}
+use Rattle.spec.specs.Calls.{lent, plainWords, setWords, stepNumbers, wrongTree, treeCheck, flagsCheck, flagAt, nodePlaces, stepPlaces, lengthCheck, priceCall, workspaceAfter}
 use Rattle.laws.specs.Booleans.{clash, or-none}
 use Rattle.laws.specs.Results.{not-done}
 use Rattle.cells.specs.Cells.{over-fits}
-use Rattle.network.specs.Layouts.{layout-leaf-count, layout-index-count}
 use Rattle.network.specs.Checks.{Lent, Rows}
 use Rattle.network.specs.Codes.{Facts}
 use Rattle.nodesets.specs.Lists.{Ordered, ordered-steps}
 use Rattle.walk.specs.Wrong.{not-wrong}
 use Rattle.walk.specs.Entry.{Untouched, by-network, past-network, by-length, past-length, holds-first, passes-first, same-words as same-workspace}
-use Rattle.pricing.specs.Answers.{pricesOf}
-use Rattle.pricing.specs.Promise.{Priceable, Room, ListingSound, PriceList, Pricing}
+use Rattle.pricing.specs.Promise.{Priceable, Room, Pricing}
 use Rattle.pricing.specs.declared.Prices.{Prices}
 use Rattle.cost.specs.declared.Priced.{Priced}
 use Rattle.cost.specs.declared.Priced.the-variants.{Refused, Done}
-use Rattle.cost.specs.Answers.{room, Answered, TreeCost, tooShort, wrongFlags, restCall}
+use Rattle.cost.specs.Answers.{room, Answered, TreeCost, tooFew, wrongFlags, restCall}
 
 -- the lent lists have the stated lengths
 pub record LongEnough (n words sets sizes works steps : ℕ) : Type 0 where
@@ -57,34 +54,34 @@ same-words e l =
 -- ---- 7 and 9 ----
 
 module _ (n words sets sizes works steps : ℕ) where
-  pub short-words : words < plainWords → true ≡ tooShort n words sets sizes works steps
-  unfolding tooShort
-  short-words h = sym (rw (lt-ltb words plainWords h))
+  pub few-words : words < plainWords → true ≡ tooFew n words sets sizes works steps
+  unfolding tooFew
+  few-words h = sym (rw (lt-ltb words plainWords h))
 
   module _ (a : plainWords ≤ words) where
-    pub short-sets : sets < (n + (n - 1)) * 4 → true ≡ tooShort n words sets sizes works steps
-    unfolding tooShort
-    short-sets h = sym (rw (le-ltb words plainWords a, lt-ltb sets ((n + (n - 1)) * 4) h))
+    pub few-sets : sets < (n + (n - 1)) * 4 → true ≡ tooFew n words sets sizes works steps
+    unfolding tooFew
+    few-sets h = sym (rw (le-ltb words plainWords a, lt-ltb sets ((n + (n - 1)) * 4) h))
 
     module _ (b : (n + (n - 1)) * 4 ≤ sets) where
-      pub short-sizes : sizes < n + (n - 1) → true ≡ tooShort n words sets sizes works steps
-      unfolding tooShort
-      short-sizes h = sym (rw (le-ltb words plainWords a, le-ltb sets ((n + (n - 1)) * 4) b, lt-ltb sizes (n + (n - 1)) h))
+      pub few-sizes : sizes < n + (n - 1) → true ≡ tooFew n words sets sizes works steps
+      unfolding tooFew
+      few-sizes h = sym (rw (le-ltb words plainWords a, le-ltb sets ((n + (n - 1)) * 4) b, lt-ltb sizes (n + (n - 1)) h))
 
       module _ (c : n + (n - 1) ≤ sizes) where
-        pub short-works : works < n + (n - 1) → true ≡ tooShort n words sets sizes works steps
-        unfolding tooShort
-        short-works h =
+        pub few-works : works < n + (n - 1) → true ≡ tooFew n words sets sizes works steps
+        unfolding tooFew
+        few-works h =
             sym (rw (le-ltb words plainWords a, le-ltb sets ((n + (n - 1)) * 4) b, le-ltb sizes (n + (n - 1)) c, lt-ltb works (n + (n - 1)) h))
 
-        pub short-steps : n + (n - 1) ≤ works → ltb steps ((n - 1) * 5) ≡ tooShort n words sets sizes works steps
-        unfolding tooShort
-        short-steps h =
+        pub few-steps : n + (n - 1) ≤ works → ltb steps ((n - 1) * 5) ≡ tooFew n words sets sizes works steps
+        unfolding tooFew
+        few-steps h =
             sym (rw (le-ltb words plainWords a, le-ltb sets ((n + (n - 1)) * 4) b, le-ltb sizes (n + (n - 1)) c, le-ltb works (n + (n - 1)) h)
             (or-false (ltb steps ((n - 1) * 5))))
 
-  pub long-enough : tooShort n words sets sizes works steps ≡ false → LongEnough n words sets sizes works steps
-  unfolding tooShort
+  pub long-enough : tooFew n words sets sizes works steps ≡ false → LongEnough n words sets sizes works steps
+  unfolding tooFew
   long-enough e =
       let (a, e₁) = or-none (ltb words plainWords) _ e in
       let (b, e₂) = or-none (ltb sets ((n + (n - 1)) * 4)) _ e₁ in
@@ -148,14 +145,14 @@ module _ (N : Network) (flags kids : List ℕ) where
     call-refused k e z = by-network N (lengthCheck lents ∷ rest) (done (priceOf N (flagAt flags) (pairsOf kids))) k e z
 
     module _ (n : ℕ) (q : leafCount N ≡ n) (ok : refusalOf N ≡ none) where
-      pub call-short : tooShort n words sets sizes works steps ≡ true → Untouched 7 call
-      unfolding priceCall tooShort
-      call-short h =
+      pub call-few : tooFew n words sets sizes works steps ≡ true → Untouched 7 call
+      unfolding priceCall tooFew
+      call-few h =
           subst (Untouched 7) (sym (past-network N (lengthCheck lents ∷ rest) (done (priceOf N (flagAt flags) (pairsOf kids))) ok))
           (by-length lents rest (done (priceOf N (flagAt flags) (pairsOf kids))) (rw q h))
 
-      pub call-rest : tooShort n words sets sizes works steps ≡ false → call ≡ restCall N flags kids
-      unfolding priceCall tooShort restCall
+      pub call-rest : tooFew n words sets sizes works steps ≡ false → call ≡ restCall N flags kids
+      unfolding priceCall tooFew restCall
       call-rest h =
           past-network N (lengthCheck lents ∷ rest) (done (priceOf N (flagAt flags) (pairsOf kids))) ok
           ∙ past-length lents rest (done (priceOf N (flagAt flags) (pairsOf kids))) (rw q h)
@@ -209,7 +206,7 @@ pub priceable : {m n o : ℕ} {weights counts rows outputs kids order : List ℕ
 priceable {m} {n} {o} {weights} {counts} {rows} {outputs} {kids} {order} l f right e =
     record {
       narrow = omega arith;
-      wide = omega (arith, f .fewIndices);
+      fits = omega (arith, f .fewIndices);
       few = omega (arith, f .fewLeaves);
       few-outputs = omega (arith, f .fewOutputs);
       weight-places = omega (arith, l .weightPlaces, f .fewIndices);

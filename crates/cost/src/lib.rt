@@ -9,7 +9,7 @@ ghost use Rattle.spec.specs.Calls.{plainWords, wrongTree, flagAt};
 ghost use Rattle.network.specs.Record.{netOf};
 ghost use Rattle.network.specs.Checks.{Lent};
 ghost use Rattle.network.specs.Codes.{Facts};
-ghost use Rattle.cost.specs.Answers.{tooShort, wrongFlags, restCall, Answered, TreeCost};
+ghost use Rattle.cost.specs.Answers.{tooFew, wrongFlags, restCall, Answered, TreeCost};
 ghost use Rattle.pricing.specs.Promise.{Pricing};
 ghost use Rattle.cost.specs.Checks.{LongEnough};
 use network::Network;
@@ -31,9 +31,9 @@ fn stated() -> usize
 }
 
 // Is a lent list shorter than stated, for `n` leaves.
-fn too_short(n: usize, words: usize, sets: usize, sizes: usize, works: usize, steps: usize) -> bool
+fn too_few(n: usize, words: usize, sets: usize, sizes: usize, works: usize, steps: usize) -> bool
     requires { ⌜ n ≤ 512 ⌝ }
-    ensures { λ r. ⌜ r ≡ tooShort n words sets sizes works steps ⌝ }
+    ensures { λ r. ⌜ r ≡ tooFew n words sets sizes works steps ⌝ }
 {
     let inner = cells::less(n, 1);
     let nodes = n + inner;
@@ -172,7 +172,7 @@ fn cost_of<'a>(
     if k != refusal::NONE {
         return Priced::Refused(k);
     }
-    if too_short(
+    if too_few(
         n,
         ws.len(),
         sets.len(),

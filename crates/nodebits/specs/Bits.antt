@@ -1,6 +1,6 @@
 -- What size bits and work bits are, in the terms of the nodes' sets and the effective weights; what is asked of a step and of a tree.
 -- Assumes nothing.
-use mathlib.Core.Bool.{Bool, true, cond}
+use mathlib.Core.Bool.{true, cond}
 use mathlib.Core.List.{List, []}
 use mathlib.Core.Path.{_≡_}
 use Prim.Native.Nat.{ℕ, _+_, _*_, _≤_, _<_}
@@ -37,7 +37,7 @@ nodeWork effective sets kids W n s = cond (ltb s n) 0 (workOf effective sets W (
 -- what is asked at a step: its slots are within the list
 pub record StepKnown (W l r v : ℕ) (sets effective : List ℕ) : Type 0 where
   pub narrow : W ≤ 16
-  pub wide : W * 64 ≤ length effective
+  pub fits : W * 64 ≤ length effective
   pub light : Light effective
   pub left-in : l * W + W ≤ length sets
   pub right-in : r * W + W ≤ length sets
@@ -46,7 +46,7 @@ pub record StepKnown (W l r v : ℕ) (sets effective : List ℕ) : Type 0 where
 -- what is asked of a tree and of its nodes' sets
 pub record InnerKnown (W n : ℕ) (kids order sets effective : List ℕ) : Type 0 where
   pub narrow : W ≤ 16
-  pub wide : W * 64 ≤ length effective
+  pub fits : W * 64 ≤ length effective
   pub light : Light effective
   pub steps : Steps n kids order
   pub room : nodes n kids * W ≤ length sets

@@ -1,14 +1,13 @@
 -- The size bits and work bits of the nodes, one step after the other. Assumes nothing.
-use mathlib.Core.Bool.{true, false, cond}
+use mathlib.Core.Bool.{true, false}
 use mathlib.Mathlib.Data.Bool.Basic.{eq-false-of-not-eq-true}
 use mathlib.Core.Logic.{inl, inr}
 use mathlib.Core.Path.{_≡_, refl, sym, _∙_, ap}
-use mathlib.Core.List.{List, [], map}
+use mathlib.Core.List.{List, map}
 use Prim.Native.Nat.{ℕ, suc, _+_, _*_, _≤_, _<_}
 use native.Mathlib.Omega.{arith}
 use native.Mathlib.Numerals.{add-one}
 use native.Mathlib.Decide.{ℕ-discrete, decLe}
-use lib.Dec.{ltb}
 use lib.ListN.{length, getD, set, take, length-set}
 use lib.Seq.{ext-getD, getD-set-same, getD-set-other, take-length}
 use borrow.Author.Tests.{lt-ltb, le-ltb}
@@ -112,7 +111,7 @@ module _ {W n : ℕ} {kids order sets effective : List ℕ} (p : InnerKnown W n 
         right-high = b;
         known = record {
           narrow = p .narrow;
-          wide = p .wide;
+          fits = p .fits;
           light = p .light;
           left-in = slot-in l (nodes n kids) W (length sets) a (p .room);
           right-in = slot-in r (nodes n kids) W (length sets) b (p .room);

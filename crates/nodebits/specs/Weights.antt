@@ -5,8 +5,7 @@ use mathlib.Core.List.{List, [], _∷_}
 use Prim.Native.Nat.{ℕ, zero, suc, _+_, _*_, _≤_, _<_}
 use native.Mathlib.Omega.{arith}
 use lib.Dec.{eqb, ltb}
-use lib.ListN.{getD}
-use borrow.Author.Tests.{eqb-true, ltb-true, ltb-false}
+use borrow.Author.Tests.{ltb-true, ltb-false}
 use Rattle.spec.specs.Lists.{memb, count, keep, from, range, sumOf}
 use Rattle.laws.specs.Booleans.{by-cases, clash, and-right}
 use Rattle.laws.specs.ListLaws.{sum-append, memb-keep, memb-keep-range, keep-passes, from-memb, count-memb, count-not-memb}

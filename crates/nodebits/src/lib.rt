@@ -9,7 +9,6 @@ ghost use lib.ListN.{length, getD, drop};
 ghost use Rattle.spec.specs.Lists.{range, sumOf};
 ghost use Rattle.spec.specs.Layout.{firsts};
 ghost use Rattle.spec.specs.Memory.{over, filled};
-ghost use Rattle.spec.specs.Calls.{flagAt};
 ghost use Rattle.slots.specs.Slots.{held};
 ghost use Rattle.slots.specs.Weigh.{openWeight, Light, weighed, either, wordWeight};
 ghost use Rattle.network.specs.Checks.{Rows};
@@ -17,14 +16,14 @@ ghost use Rattle.nodesets.specs.Passes.{nodes};
 ghost use Rattle.nodebits.specs.Bits.{Effective, StepKnown, InnerKnown, Known, sizeOf, workOf, leafSize, nodeWork};
 ghost use Rattle.nodebits.specs.Stepped.{Stepped};
 
-// A number as wide as an index.
-fn wide8(x: u8) -> usize
+// A number as an index.
+fn index8(x: u8) -> usize
     ensures { λ r. ⌜ (r ≡ x) × (r < 256) ⌝ }
 {
     x as usize
 }
 
-fn wide16(x: u16) -> usize
+fn index16(x: u16) -> usize
     ensures { λ r. ⌜ (r ≡ x) × (r < 65536) ⌝ }
 {
     x as usize
@@ -63,7 +62,7 @@ fn leaf_size(effective: &[u8], legs: &[u16], base: usize, n: usize) -> usize
 {
     let mut sum: usize = 0;
     for k in 0..n {
-        sum += cells::at8(effective, wide16(legs[base + k]));
+        sum += cells::at8(effective, index16(legs[base + k]));
     }
     sum
 }
@@ -81,7 +80,7 @@ fn leaf_bits(
     ensures { λ _. ⌜ (now (sizes .exit) ≡ over (now (sizes .entry)) (map (leafSize (now (effective .entry)) (now (counts .entry)) (now (legs .entry))) (range n))) × (now (works .exit) ≡ over (now (works .entry)) (filled n 0)) ⌝ }
 {
     for i in 0..n {
-        let size = leaf_size(effective, legs, i * 32, wide8(counts[i]));
+        let size = leaf_size(effective, legs, i * 32, index8(counts[i]));
         sizes[i] = size as u16;
         works[i] = 0;
     }
@@ -95,7 +94,7 @@ fn weigh_word(x: u64, base: usize, effective: &[u8]) -> usize
     let mut rest = x;
     let mut sum: usize = 0;
     while rest != 0 {
-        sum += wide8(effective[base + bits::low(rest)]);
+        sum += index8(effective[base + bits::low(rest)]);
         rest = rest & (rest - 1);
     }
     sum
@@ -148,7 +147,7 @@ fn step_bits(
     ensures { λ b. ⌜ (b .work ≡ workOf (now (effective .entry)) (now (sets .entry)) w l r) × (b .size ≡ sizeOf (now (effective .entry)) (now (sets .entry)) w v) ⌝ }
 {
     let o = overlap(sets, w, l, r, v, effective);
-    let work = wide16(left) + wide16(right) - o.shared;
+    let work = index16(left) + index16(right) - o.shared;
     StepBits {
         work: work as u16,
         size: (work - o.dropped) as u16,
@@ -170,7 +169,7 @@ fn inner_bits(
     ensures { λ _. ⌜ Stepped w n (now (kids .entry)) (now (order .entry)) (now (sets .entry)) (now (effective .entry)) (now (sizes .entry)) (now (works .entry)) (length (now (order .entry))) (now (sizes .exit)) (now (works .exit)) ⌝ }
 {
     for k in 0..order.len() {
-        let v = wide16(order[k]);
+        let v = index16(order[k]);
         let l = nodesets::left(kids, n, v);
         let r = nodesets::right(kids, n, v);
         let b = step_bits(sets, w, l, r, v, effective, sizes[l], sizes[r]);

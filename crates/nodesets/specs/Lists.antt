@@ -5,7 +5,6 @@ use mathlib.Core.List.{List}
 use Prim.Native.Nat.{ℕ, zero, suc, _+_, _-_, _*_, _≤_, _<_}
 use native.Mathlib.Omega.{arith}
 use native.Mathlib.Nat.{mul-le-mul-right}
-use native.Mathlib.Decide.{decLe}
 use lib.ListN.{length, getD}
 use Rattle.cells.specs.Loop.{turns}
 use Rattle.slots.specs.Slots.{held, withSet, Words, withSet-length, withSet-outside, held-with, next-slot}

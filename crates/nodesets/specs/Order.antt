@@ -1,18 +1,18 @@
 -- Step order, place by place: the children of a step's node are leaves or made at an earlier place, and the node is the root or a child
 -- at a later place. Assumes nothing.
-use mathlib.Core.Path.{_≡_, refl, sym, _∙_, ap, subst}
-use mathlib.Core.Bool.{Bool, true, false, _||_}
+use mathlib.Core.Path.{_≡_, refl, sym, _∙_, ap}
+use mathlib.Core.Bool.{true}
 use mathlib.Core.List.{List, [], _∷_, _++_, append-assoc, append-nil}
 use mathlib.Core.Logic.{_⊎_, inl, inr}
 use mathlib.Core.Option.{some, Option·some-injective, Option·none-ne-some}
-use Prim.Native.Nat.{ℕ, zero, suc, _+_, _-_, _*_, _/_, _≤_, _<_}
+use Prim.Native.Nat.{ℕ, zero, suc, _+_, _-_, _<_}
 use native.Mathlib.Omega.{arith}
 use lib.Dec.{eqb}
 use lib.ListN.{length, getD, getElem?, take, drop}
 use borrow.Author.Tests.{eqb-true}
 use Rattle.spec.specs.Lists.{memb}
 use Rattle.spec.specs.Tree.{Tree, leaf, node, number, numbers, inner, Pair, Describes, pairsOf}
-use Rattle.laws.specs.Booleans.{or-introl, or-intror, or-cases, clash, eqb-self}
+use Rattle.laws.specs.Booleans.{or-introl, or-intror, or-cases, clash}
 use Rattle.laws.specs.ListLaws.{memb-append, memb-head, three-cases, three-left, three-right, three-last}
 use Rattle.laws.specs.Arrays.{number-in}
 use Rattle.laws.specs.FlatLaws.{pair-at}

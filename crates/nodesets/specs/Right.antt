@@ -1,7 +1,7 @@
 -- After the passes each node's slot holds exactly the node's list. A pass only makes slots right: `Right F D ws` says that every slot
 -- that D names holds what F says, and each write adds one slot to D. Assumes nothing.
-use mathlib.Core.Path.{_≡_, refl, sym, _∙_, ap, ap₂, subst}
-use mathlib.Core.Bool.{Bool, true, false, _&&_, _||_, cond, or-false}
+use mathlib.Core.Path.{_≡_, refl, sym, _∙_, ap}
+use mathlib.Core.Bool.{Bool, true, false, _&&_, _||_, cond}
 use mathlib.Mathlib.Data.Bool.Basic.{eq-false-of-not-eq-true}
 use mathlib.Core.List.{List, [], _∷_}
 use mathlib.Core.Logic.{_⊎_, inl, inr, ⊎-elim}
@@ -24,7 +24,7 @@ use Rattle.laws.specs.Arrays.{Inner}
 use Rattle.nodesets.specs.Passes.{leftOf, rightOf, nodes, joined, widened, cut, ups, down, downs, cuts}
 use Rattle.nodesets.specs.Order.{left-is, right-is, Ready, Known, childrenOf}
 use Rattle.nodesets.specs.Steps.{Steps, at-inner, at-children}
-use Rattle.nodesets.specs.Places.{memb-take, take-cases, take-in, getD-in}
+use Rattle.nodesets.specs.Places.{memb-take, take-cases, getD-in}
 use Rattle.nodesets.specs.Turns.{slot-in, ups-length, downs-length, cuts-length}
 use Rattle.nodesets.specs.Flow.{under, wanted, under-leaf, under-node, wanted-left, wanted-right, listed-node, listed-leaf}
 

@@ -2,7 +2,7 @@
 use mathlib.Core.Bool.{Bool, false, _||_}
 use mathlib.Core.Path.{_≡_, refl, sym, _∙_, ap}
 use mathlib.Core.List.{List}
-use Prim.Native.Nat.{ℕ, zero, suc, _+_, _-_, _*_, _/_, _%_, _≤_, _<_}
+use Prim.Native.Nat.{ℕ, zero, suc, _+_, _*_, _/_, _%_, _≤_, _<_}
 use native.Mathlib.Omega.{arith}
 use native.Mathlib.Nat.{suc-mul, mul-zero, div-lt-iff-lt-mul, mod-lt, div-add-mod'}
 use native.Mathlib.Decide.{ℕ-discrete, decLe}

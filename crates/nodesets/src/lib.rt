@@ -1,11 +1,8 @@
 // Each node's set of indices, in slots of lent words: up, in step order, what leaves below a node name; down, what is wanted outside it.
 ghost use mathlib.Core.Path.{_≡_};
-ghost use mathlib.Core.Bool.{_&&_, _||_};
 ghost use Prim.Native.Nat.{_+_, _-_, _*_, _/_, _<_, _≤_};
-ghost use lib.ListN.{length, getD};
-ghost use Rattle.spec.specs.Tree.{valid, pairsOf, stepOrder};
-ghost use Rattle.slots.specs.Slots.{held, withSet};
-ghost use Rattle.nodesets.specs.Passes.{leftOf, rightOf, nodes, withSets, leafHas, joined, widened, cut, ups, down, downs, cuts};
+ghost use lib.ListN.{length};
+ghost use Rattle.nodesets.specs.Passes.{leftOf, rightOf, nodes, withSets, leafHas, joined, widened, cut, ups, downs, cuts};
 ghost use Rattle.nodesets.specs.Steps.{Steps};
 ghost use Rattle.nodesets.specs.Lists.{Ordered, SetsAre};
 
@@ -14,17 +11,17 @@ pub fn left(kids: &[u16], n: usize, v: usize) -> usize
     requires { ⌜ (n ≤ v) × (v < nodes n (now kids)) ⌝ }
     ensures { λ r. ⌜ (r ≡ leftOf (now (kids .entry)) n v) × (r < 65536) ⌝ }
 {
-    wide(kids[(v - n) * 2])
+    index16(kids[(v - n) * 2])
 }
 
 pub fn right(kids: &[u16], n: usize, v: usize) -> usize
     requires { ⌜ (n ≤ v) × (v < nodes n (now kids)) ⌝ }
     ensures { λ r. ⌜ (r ≡ rightOf (now (kids .entry)) n v) × (r < 65536) ⌝ }
 {
-    wide(kids[(v - n) * 2 + 1])
+    index16(kids[(v - n) * 2 + 1])
 }
 
-fn wide(x: u16) -> usize
+fn index16(x: u16) -> usize
     ensures { λ r. ⌜ (r ≡ x) × (r < 65536) ⌝ }
 {
     x as usize
@@ -60,7 +57,7 @@ fn join_up(sets: &mut [u64], w: usize, n: usize, kids: &[u16], order: &[u16])
     ensures { λ _. ⌜ now (sets .exit) ≡ ups w (leftOf (now (kids .entry)) n) (rightOf (now (kids .entry)) n) (now (order .entry)) (now (sets .entry)) (length (now (order .entry))) ⌝ }
 {
     for k in 0..order.len() {
-        let v = wide(order[k]);
+        let v = index16(order[k]);
         let l = left(kids, n, v);
         let r = right(kids, n, v);
         join(sets, w, l, r, v);
@@ -86,7 +83,7 @@ fn want_down(outside: &mut [u64], sets: &[u64], w: usize, n: usize, kids: &[u16]
     ensures { λ _. ⌜ now (outside .exit) ≡ downs w (leftOf (now (kids .entry)) n) (rightOf (now (kids .entry)) n) (now (order .entry)) (now (sets .entry)) (now (outside .entry)) (length (now (order .entry))) ⌝ }
 {
     for k in 0..order.len() {
-        let v = wide(order[order.len() - (k + 1)]);
+        let v = index16(order[order.len() - (k + 1)]);
         let l = left(kids, n, v);
         let r = right(kids, n, v);
         widen(outside, w, v, l, sets, r);
@@ -111,7 +108,7 @@ fn trim_all(sets: &mut [u64], outside: &[u64], w: usize, n: usize, kids: &[u16],
     ensures { λ _. ⌜ now (sets .exit) ≡ cuts w (now (order .entry)) (now (outside .entry)) (now (sets .entry)) (length (now (order .entry))) ⌝ }
 {
     for k in 0..order.len() {
-        trim(sets, outside, w, wide(order[k]));
+        trim(sets, outside, w, index16(order[k]));
     }
 }
 

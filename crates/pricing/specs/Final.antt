@@ -1,25 +1,24 @@
 -- Pricing on lent lists, put together: what each call asks is there, and the price list and the answer follow. Assumes nothing.
-use mathlib.Core.Bool.{Bool, true, cond}
-use mathlib.Core.Path.{_≡_, refl, sym, _∙_, ap, subst}
+use mathlib.Core.Bool.{cond}
+use mathlib.Core.Path.{_≡_, sym, _∙_, ap}
 use mathlib.Core.List.{List, [], map}
-use Prim.Native.Nat.{ℕ, _+_, _-_, _*_, _≤_, _<_}
+use Prim.Native.Nat.{ℕ, _*_, _≤_}
 use native.Mathlib.Omega.{arith}
-use lib.ListN.{length, getD}
+use lib.ListN.{length}
 use Rattle.spec.specs.Lists.{memb, range, sumOf}
-use Rattle.spec.specs.Memory.{over, filled}
+use Rattle.spec.specs.Memory.{over}
 use Rattle.spec.specs.Layout.{firsts, networkOf}
 use Rattle.spec.specs.Network.{Network, leafCount, indexCount, weight}
-use Rattle.spec.specs.Tree.{Pair, pairsOf, valid}
+use Rattle.spec.specs.Tree.{Pair, pairsOf}
 use Rattle.spec.specs.Price.{listAt, listing, work, upTo, widest, sliceBits, priceOf}
 use Rattle.spec.specs.Calls.{flagAt, nodePlaces}
 use Rattle.laws.specs.Integers.{ℤ-semiring}
 use Rattle.laws.specs.Theorem.{listing-runs}
-use Rattle.cells.specs.Cells.{filled-all}
 use Rattle.slots.specs.Weigh.{openWeight, Light, open-light}
 use Rattle.network.specs.Layouts.{layout-leaf-count, layout-index-count, layout-weights, layout-weight, layout-legs}
 use Rattle.nodesets.specs.Passes.{leftOf, rightOf, nodes, withSets}
 use Rattle.nodesets.specs.Sets.{held-withSets}
-use Rattle.nodesets.specs.Lists.{Ordered, ordered-steps, SetsAre}
+use Rattle.nodesets.specs.Lists.{ordered-steps, SetsAre}
 use Rattle.nodebits.specs.Bits.{Effective, Known, sizeOf, nodeWork}
 use Rattle.pricing.specs.declared.Total.{Total}
 use Rattle.pricing.specs.declared.Widest.{Widest}
@@ -28,7 +27,7 @@ use Rattle.pricing.specs.Answers.{totalOf, widestOf, widestIn, pricesOf}
 use Rattle.pricing.specs.Sums.{workSum, sliceShare}
 use Rattle.pricing.specs.Lines.{lines}
 use Rattle.pricing.specs.Tables.{sum-same-from, slice-sum}
-use Rattle.pricing.specs.Promise.{Priceable, Room, ListingSound, PriceList, Pricing}
+use Rattle.pricing.specs.Promise.{Priceable, ListingSound, PriceList}
 use Rattle.pricing.specs.Whole.{NodesRight, nodes-right, sizes-are, works-are, steps-are, total-is, widest-is}
 
 module _ {W m n o : ℕ} {weights counts rows outputs kids order : List ℕ} (p : Priceable W m n o weights counts rows outputs kids order) where
@@ -72,7 +71,7 @@ module _ {W m n o : ℕ} {weights counts rows outputs kids order : List ℕ} (p 
     right : NodesRight N n W kids order sets flags effective
     right =
         nodes-right N W kids order sets flags effective (p .accepted)
-        (omega (arith, p .wide, layout-index-count m n o weights counts rows outputs))
+        (omega (arith, p .fits, layout-index-count m n o weights counts rows outputs))
         (rw (layout-weights m n o weights counts rows outputs) eff)
         n leaf-count (p .ordered)
         (λ v j h b. rw sets-are (held-withSets sets₀ W (λ v j. memb j (listAt N a v)) (nodes n kids) v j room h b))
@@ -81,11 +80,11 @@ module _ {W m n o : ℕ} {weights counts rows outputs kids order : List ℕ} (p 
     light j = rw (eff j) (open-light (firsts m weights) flags weights-light j)
 
     pub known : W * 64 ≤ length effective → nodes n kids * W ≤ length sets → Known W n counts rows kids order sets effective
-    known wide room′ =
+    known fits room′ =
         record {
           inner = record {
             narrow = p .narrow;
-            wide = wide;
+            fits = fits;
             light = light;
             steps = right .steps;
             room = room′;

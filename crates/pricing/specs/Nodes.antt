@@ -1,21 +1,20 @@
 -- Where each node's slot holds the node's list, its weights are the price list's. Assumes nothing.
-use mathlib.Core.Bool.{Bool, true, false, not, _&&_, _||_, cond}
+use mathlib.Core.Bool.{Bool, true, false, _&&_, _||_}
 use mathlib.Core.Path.{_≡_, refl, sym, _∙_, ap, ap₂}
 use mathlib.Core.List.{List, [], _∷_}
-use Prim.Native.Nat.{ℕ, _+_, _-_, _*_, _≤_, _<_}
+use Prim.Native.Nat.{ℕ, _-_, _*_, _≤_, _<_}
 use native.Mathlib.Omega.{arith}
 use native.Mathlib.Decide.{decLe}
-use lib.Dec.{eqb, ltb}
-use lib.ListN.{length, getD}
+use lib.Dec.{ltb}
 use borrow.Author.Tests.{lt-ltb, le-ltb, ltb-true, ltb-false}
 use Rattle.spec.specs.Lists.{memb, count, keep, range, sumOf}
-use Rattle.spec.specs.Network.{Network, leafCount, indexCount, legs, weight}
+use Rattle.spec.specs.Network.{Network, leafCount, indexCount, legs}
 use Rattle.spec.specs.NetworkClaims.{Accepted}
 use Rattle.spec.specs.Tree.{number, node, Pair, pairsOf}
 use Rattle.spec.specs.Price.{kept, listAt, union, bits, childrenAt, stepAt, sizeAt, workAt}
 use Rattle.spec.specs.Calls.{flagAt}
-use Rattle.laws.specs.Booleans.{by-cases, clash, or-cases, or-introl, or-intror, and-left, and-right, and-both}
-use Rattle.laws.specs.ListLaws.{memb-keep, memb-keep-range, memb-range, from-memb}
+use Rattle.laws.specs.Booleans.{by-cases, or-cases, or-introl, or-intror, and-left, and-right, and-both}
+use Rattle.laws.specs.ListLaws.{memb-keep, memb-keep-range, from-memb}
 use Rattle.laws.specs.Arrays.{Inner}
 use Rattle.laws.specs.FlatLaws.{pairs-length, pair-left, pair-right}
 use Rattle.slots.specs.Slots.{held}
@@ -39,7 +38,7 @@ kept-low p j k e = omega (arith, from-memb j 0 k (and-right (p j) (memb j (range
 
 module _ (N : Network) (kids order sets : List ℕ) (W : ℕ) (steps : Steps (leafCount N) kids order)
     (inners : (v : ℕ) → leafCount N ≤ v → v < nodes (leafCount N) kids → Inner (leafCount N) (pairsOf kids) v)
-    (acc : Accepted N) (wide : indexCount N ≤ W * 64)
+    (acc : Accepted N) (fits : indexCount N ≤ W * 64)
     (holds : (v j : ℕ) → v < nodes (leafCount N) kids → j < W * 64 → held sets W v j ≡ memb j (listAt N (pairsOf kids) v)) where
   abbrev n : ℕ
   n = leafCount N

@@ -1,22 +1,19 @@
 -- What pricing asks of the lent lists, and what it leaves in them: the price list. Assumes nothing.
-use mathlib.Core.Bool.{Bool, true}
-use mathlib.Core.Path.{_≡_, refl, sym, _∙_, ap, subst}
+use mathlib.Core.Bool.{Bool}
+use mathlib.Core.Path.{_≡_}
 use mathlib.Core.List.{List, map}
-use Prim.Native.Nat.{ℕ, _+_, _-_, _*_, _≤_, _<_}
-use native.Mathlib.Omega.{arith}
+use Prim.Native.Nat.{ℕ, _*_, _≤_}
 use lib.ListN.{length}
-use Rattle.spec.specs.Lists.{memb, range, sumOf}
+use Rattle.spec.specs.Lists.{memb, range}
 use Rattle.spec.specs.Memory.{over}
 use Rattle.spec.specs.Layout.{networkOf}
-use Rattle.spec.specs.Network.{Network, leafCount, indexCount, legs, Sliceable}
+use Rattle.spec.specs.Network.{Network, leafCount, Sliceable}
 use Rattle.spec.specs.NetworkClaims.{Accepted}
-use Rattle.spec.specs.Tree.{Pair, pairsOf}
-use Rattle.spec.specs.Price.{Step, listAt, listing, flatSteps, sizeAt, workAt, priceOf}
-use Rattle.spec.specs.Calls.{flagAt, nodePlaces}
+use Rattle.spec.specs.Tree.{Pair}
+use Rattle.spec.specs.Price.{listAt, listing, flatSteps, sizeAt, workAt, priceOf}
+use Rattle.spec.specs.Calls.{nodePlaces}
 use Rattle.spec.specs.RunClaims.{RunsToDirectSum}
 use Rattle.laws.specs.Integers.{ℤ-semiring}
-use Rattle.laws.specs.Theorem.{listing-runs}
-use Rattle.slots.specs.Slots.{held}
 use Rattle.network.specs.Checks.{Rows}
 use Rattle.nodesets.specs.Passes.{nodes, withSets}
 use Rattle.nodesets.specs.Lists.{Ordered}
@@ -26,7 +23,7 @@ use Rattle.pricing.specs.Answers.{pricesOf}
 -- an accepted network, a valid tree and its step order, in lent lists; W words a set
 pub record Priceable (W m n o : ℕ) (weights counts rows outputs kids order : List ℕ) : Type 0 where
   pub narrow : W ≤ 16
-  pub wide : m ≤ W * 64
+  pub fits : m ≤ W * 64
   pub few : n ≤ 65536
   pub few-outputs : o ≤ 65536
   pub weight-places : m ≤ length weights

@@ -1,19 +1,18 @@
 -- Sums and largest numbers over the nodes, in any order; a network's leaves by number; slice bits. Assumes nothing.
-use mathlib.Core.Bool.{Bool, true, false, not, cond}
+use mathlib.Core.Bool.{Bool, false, cond}
 use mathlib.Core.Path.{_≡_, refl, sym, _∙_, ap, ap₂}
 use mathlib.Core.List.{List, [], _∷_, _++_, map}
-use Prim.Native.Nat.{ℕ, zero, suc, _+_, _≤_, _<_, max}
+use Prim.Native.Nat.{ℕ, zero, suc, _+_, _≤_, _<_}
 use native.Mathlib.Omega.{arith}
 use lib.Dec.{ltb}
-use lib.ListN.{length, getD}
 use lib.Seq.{ext-getD}
 use borrow.Author.Tests.{ltb-true, ltb-false}
 use mathlib.Mathlib.Data.Bool.Basic.{eq-false-of-not-eq-true}
-use Rattle.spec.specs.Lists.{memb, count, keep, from, range, sumOf}
+use Rattle.spec.specs.Lists.{count, keep, from, range, sumOf}
 use Rattle.spec.specs.Network.{Network, leafCount, indexCount, legs, weight}
-use Rattle.spec.specs.Price.{bits, largest, sliceBits}
+use Rattle.spec.specs.Price.{bits, sliceBits}
 use Rattle.laws.specs.Booleans.{by-cases}
-use Rattle.laws.specs.ListLaws.{from-memb, count-not-memb}
+use Rattle.laws.specs.ListLaws.{count-not-memb}
 use Rattle.laws.specs.Counts.{count-in, count-out}
 use Rattle.network.specs.Layouts.{map-range-at, map-range-length}
 use Rattle.nodebits.specs.Weights.{sum-cond}

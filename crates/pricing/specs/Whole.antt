@@ -1,21 +1,21 @@
 -- From the nodes' sets and effective weights to the price list and the answer. Assumes nothing.
 use mathlib.Core.Bool.{Bool, true, cond}
 use mathlib.Core.Path.{_≡_, refl, sym, _∙_, ap, ap₂, subst}
-use mathlib.Core.List.{List, [], _∷_, _++_, map}
+use mathlib.Core.List.{List, [], _∷_, map}
 use mathlib.Core.Option.{none, some}
-use Prim.Native.Nat.{ℕ, zero, suc, _+_, _-_, _*_, _^_, _≤_, _<_, max}
+use Prim.Native.Nat.{ℕ, _+_, _*_, _^_, _≤_, _<_, max}
 use native.Mathlib.Omega.{arith}
 use native.Mathlib.Decide.{ℕ-discrete}
-use lib.Dec.{eqb, ltb}
+use lib.Dec.{eqb}
 use lib.ListN.{length, getD}
 use borrow.Author.Tests.{le-ltb, eq-eqb, ne-eqb}
 use Rattle.spec.specs.Lists.{memb, from, range, sumOf}
 use Rattle.spec.specs.Memory.{over}
-use Rattle.spec.specs.Layout.{firsts, networkOf}
-use Rattle.spec.specs.Network.{Network, leafCount, indexCount, legs, weight}
+use Rattle.spec.specs.Layout.{firsts}
+use Rattle.spec.specs.Network.{Network, leafCount, indexCount, legs}
 use Rattle.spec.specs.NetworkClaims.{Accepted}
-use Rattle.spec.specs.Tree.{Pair, pairsOf, treeAt, root, innerOf, stepOrder}
-use Rattle.spec.specs.Price.{Step, listAt, bits, childrenAt, stepAt, listing, flatSteps, sizeAt, workAt, work, largest, widest, sliceBits}
+use Rattle.spec.specs.Tree.{Pair, pairsOf, stepOrder}
+use Rattle.spec.specs.Price.{Step, listAt, bits, childrenAt, stepAt, listing, flatSteps, sizeAt, workAt, work, largest, widest}
 use Rattle.spec.specs.Calls.{flagAt}
 use Rattle.laws.specs.Booleans.{or-intror}
 use Rattle.laws.specs.ListLaws.{memb-head, from-memb, sum-map}
@@ -28,13 +28,13 @@ use Rattle.nodesets.specs.Passes.{leftOf, rightOf, nodes}
 use Rattle.nodesets.specs.Steps.{Steps}
 use Rattle.nodesets.specs.Flow.{leaf-tree}
 use Rattle.nodesets.specs.Lists.{Ordered, ordered-steps, ordered-inners}
-use Rattle.nodebits.specs.Bits.{Effective, sizeOf, workOf, nodeWork}
+use Rattle.nodebits.specs.Bits.{Effective, sizeOf, nodeWork}
 use Rattle.nodebits.specs.Stepped.{over-front}
 use Rattle.pricing.specs.Answers.{widestIn}
-use Rattle.pricing.specs.Sums.{workSum, sliceShare, from-add, largest-append}
+use Rattle.pricing.specs.Sums.{workSum, from-add, largest-append}
 use Rattle.pricing.specs.Lines.{lines}
 use Rattle.pricing.specs.Nodes.{nested, size-is, leaf-is, works-is, left-of, right-of}
-use Rattle.pricing.specs.Tables.{node-counts, sum-same-from, map-same-from, map-append, map-map, leaves-are, slice-sum}
+use Rattle.pricing.specs.Tables.{node-counts, sum-same-from, map-same-from, map-append, map-map, leaves-are}
 
 -- each node's slot and weights are the price list's; x is the number of leaves
 pub record NodesRight (N : Network) (x W : ℕ) (kids order sets flags effective : List ℕ) : Type 0 where
@@ -51,7 +51,7 @@ pub record NodesRight (N : Network) (x W : ℕ) (kids order sets flags effective
 abbrev pub Holds : Network → ℕ → ℕ → List ℕ → List ℕ → Type 0
 Holds N x W kids sets = (v j : ℕ) → v < nodes x kids → j < W * 64 → held sets W v j ≡ memb j (listAt N (pairsOf kids) v)
 
-module _ (N : Network) (W : ℕ) (kids order sets flags effective : List ℕ) (acc : Accepted N) (wide : indexCount N ≤ W * 64)
+module _ (N : Network) (W : ℕ) (kids order sets flags effective : List ℕ) (acc : Accepted N) (fits : indexCount N ≤ W * 64)
     (eff : Effective (N .weights) flags effective) where
   core : Ordered (leafCount N) kids order → Holds N (leafCount N) W kids sets → NodesRight N (leafCount N) W kids order sets flags effective
   unfolding listing stepOrder
@@ -61,12 +61,12 @@ module _ (N : Network) (W : ℕ) (kids order sets flags effective : List ℕ) (a
       record {
         leaf-count = refl;
         steps = s;
-        nests = nested N kids order sets W s i acc wide h;
-        leaves = leaf-is N kids order sets W s i acc wide h flags effective eff;
-        sizes = size-is N kids order sets W s i acc wide h flags effective eff;
-        works = works-is N kids order sets W s i acc wide h flags effective eff;
-        lefts = λ v m. left-of N kids order sets W s i acc wide h flags effective eff v (s .inner v m .0) (s .inner v m .1);
-        rights = λ v m. right-of N kids order sets W s i acc wide h flags effective eff v (s .inner v m .0) (s .inner v m .1);
+        nests = nested N kids order sets W s i acc fits h;
+        leaves = leaf-is N kids order sets W s i acc fits h flags effective eff;
+        sizes = size-is N kids order sets W s i acc fits h flags effective eff;
+        works = works-is N kids order sets W s i acc fits h flags effective eff;
+        lefts = λ v m. left-of N kids order sets W s i acc fits h flags effective eff v (s .inner v m .0) (s .inner v m .1);
+        rights = λ v m. right-of N kids order sets W s i acc fits h flags effective eff v (s .inner v m .0) (s .inner v m .1);
         listed = ap (map (stepAt N (flagAt flags) (pairsOf kids))) (sym (o .in-order));
       }
 

@@ -4,9 +4,9 @@ ghost use mathlib.Core.Bool.{not, cond};
 ghost use mathlib.Core.List.{_∷_, []};
 ghost use lib.Dec.{eqb};
 ghost use Prim.Native.Nat.{_+_, _-_, _*_, _<_, _≤_, max};
-ghost use lib.ListN.{length, getD, set};
+ghost use lib.ListN.{length};
 ghost use lib.Seq.{sets};
-ghost use Rattle.spec.specs.Lists.{from, range, sumOf};
+ghost use Rattle.spec.specs.Lists.{range, sumOf};
 ghost use Rattle.spec.specs.Layout.{firsts, networkOf};
 ghost use Rattle.spec.specs.Tree.{pairsOf};
 ghost use Rattle.spec.specs.Calls.{flagAt};
@@ -38,14 +38,14 @@ pub struct Prices {
     pub slice_bits: u16,
 }
 
-// A number as wide as an index.
-fn wide8(x: u8) -> usize
+// A number as an index.
+fn index8(x: u8) -> usize
     ensures { λ r. ⌜ (r ≡ x) × (r < 256) ⌝ }
 {
     x as usize
 }
 
-fn wide16(x: u16) -> usize
+fn index16(x: u16) -> usize
     ensures { λ r. ⌜ (r ≡ x) × (r < 65536) ⌝ }
 {
     x as usize
@@ -58,7 +58,7 @@ pub fn total_of(works: &[u16], n: usize, c: usize) -> Total
 {
     let mut sum: u64 = 0;
     for k in 0..c {
-        let b = wide16(works[n + k]);
+        let b = index16(works[n + k]);
         if 53 <= b {
             return Total::Beyond;
         }
@@ -113,7 +113,7 @@ pub fn slice_bits(m: usize, weights: &[u8], flags: &[u8]) -> u16
 {
     let mut sum: usize = 0;
     for j in 0..cells::min(m, flags.len()) {
-        sum += wide8(share(flags[j], weights[j]));
+        sum += index8(share(flags[j], weights[j]));
     }
     sum as u16
 }
@@ -144,7 +144,7 @@ fn list_steps(
 {
     for k in 0..order.len() {
         let node = order[k];
-        let v = wide16(node);
+        let v = index16(node);
         let at = (v - n) * 2;
         put_step(
             steps,

@@ -4,12 +4,8 @@ use Rattle.cost.specs.Checks.{order-front, front-length, priceable, enou
 use Rattle.walk.specs.Order.{order-length}
 use Rattle.spec.specs.Tree.{stepOrder}
 use Rattle.spec.specs.Memory.{filled}
-use lib.ListN.{take}
-use mathlib.Core.List.{List}
 use native.Mathlib.Omega.{arith}
-use Prim.Native.Nat.{ℕ, _+_, _-_, _*_, _<_, _≤_}
-use mathlib.Core.Path.{_≡_, refl, sym, ap, _∙_, subst}
-use lib.ListN.{length, getD, set, length-set}
+use mathlib.Core.Path.{sym, _∙_}
 use Rattle.cost.proofs.price_valid.Statement.{statement}
 use Rattle.cost.proofs.price_valid.Tie as tie
 

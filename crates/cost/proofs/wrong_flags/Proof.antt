@@ -1,10 +1,7 @@
 -- Assumes nothing.
 use borrow.Author.Needs.{needs}
 use Rattle.cost.specs.Checks.{many-flags, few-flags}
-use native.Mathlib.Omega.{arith}
-use Prim.Native.Nat.{ℕ, _+_, _-_, _*_, _<_, _≤_}
-use mathlib.Core.Path.{_≡_, refl, sym, ap, _∙_, subst}
-use lib.ListN.{length, getD, set, length-set}
+use mathlib.Core.Path.{_∙_}
 use Rattle.cost.proofs.wrong_flags.Statement.{statement}
 use Rattle.cost.proofs.wrong_flags.Tie as tie
 

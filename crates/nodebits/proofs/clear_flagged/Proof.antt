@@ -2,9 +2,7 @@
 use borrow.Author.Needs.{needs}
 use Rattle.nodebits.specs.Loops.{Clearing, clearing-none, clearing-next, clearing-end}
 use native.Mathlib.Omega.{arith}
-use Prim.Native.Nat.{ℕ, _+_, _-_, _*_, _<_, _≤_}
-use mathlib.Core.Path.{_≡_, refl, sym, ap, _∙_, subst}
-use lib.ListN.{length, getD, set, length-set}
+use Prim.Native.Nat.{_-_, _≤_}
 use Rattle.nodebits.proofs.clear_flagged.Statement.{statement}
 use Rattle.nodebits.proofs.clear_flagged.Tie as tie
 

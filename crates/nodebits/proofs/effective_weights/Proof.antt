@@ -1,10 +1,6 @@
 -- Assumes nothing.
 use borrow.Author.Needs.{needs}
 use Rattle.nodebits.specs.Loops.{effective-is}
-use native.Mathlib.Omega.{arith}
-use Prim.Native.Nat.{ℕ, _+_, _-_, _*_, _<_, _≤_}
-use mathlib.Core.Path.{_≡_, refl, sym, ap, _∙_, subst}
-use lib.ListN.{length, getD, set, length-set}
 use Rattle.nodebits.proofs.effective_weights.Statement.{statement}
 use Rattle.nodebits.proofs.effective_weights.Tie as tie
 

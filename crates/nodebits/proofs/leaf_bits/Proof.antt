@@ -7,12 +7,12 @@ use lib.ListN.{drop}
 use mathlib.Core.List.{[]}
 use Rattle.nodebits.specs.Loops.{putTo, put-next, put-end}
 use Rattle.nodebits.specs.Bits.{leafSize}
-use Rattle.cells.specs.Cells.{filled-none, filled-next, copied-none, copied-length, over-length}
+use Rattle.cells.specs.Cells.{filled-none, filled-next, copied-none}
 use Rattle.spec.specs.Memory.{over, filled}
 use native.Mathlib.Omega.{arith}
-use Prim.Native.Nat.{ℕ, _+_, _-_, _*_, _<_, _≤_}
-use mathlib.Core.Path.{_≡_, refl, sym, ap, _∙_, subst}
-use lib.ListN.{length, getD, set, length-set}
+use Prim.Native.Nat.{ℕ, _-_, _*_, _≤_}
+use mathlib.Core.Path.{_≡_, refl, ap, _∙_}
+use lib.ListN.{length}
 use Rattle.nodebits.proofs.leaf_bits.Statement.{statement}
 use Rattle.nodebits.proofs.leaf_bits.Tie as tie
 
@@ -28,14 +28,14 @@ loop-holds c = (omega arith, refl, refl, copied-none _ _, filled-none _ _)
 mul-leaf-size : tie.Need-mul-leaf-size Inv-loop μ-loop
 mul-leaf-size c = omega (arith, c .before .before .before .before .before .before .before .pre .0 .room)
 
-shared-slice-read-wide8 : tie.Need-shared-slice-read-wide8 Inv-loop μ-loop
-shared-slice-read-wide8 c = omega (arith, c .before .before .before .before .before .before .before .before .pre .0 .counted)
+shared-slice-read-index8 : tie.Need-shared-slice-read-index8 Inv-loop μ-loop
+shared-slice-read-index8 c = omega (arith, c .before .before .before .before .before .before .before .before .pre .0 .counted)
 
-wide8-requires : tie.Need-wide8-requires Inv-loop μ-loop
-wide8-requires c κs = search needs
+index8-requires : tie.Need-index8-requires Inv-loop μ-loop
+index8-requires c κs = search needs
 
 leaf-size-requires : tie.Need-leaf-size-requires Inv-loop μ-loop
-leaf-size-requires c κs = let d = c .before .before .before .before .before .before .before .before .before in let i = c .before .before .before .loop .i in (omega (arith, c .wide8 .ensures .0, d .pre .0 .few i (omega arith), d .pre .0 .room), omega (arith, c .wide8 .ensures .0, d .pre .0 .few i (omega arith)), d .pre .1)
+leaf-size-requires c κs = let d = c .before .before .before .before .before .before .before .before .before in let i = c .before .before .before .loop .i in (omega (arith, c .index8 .ensures .0, d .pre .0 .few i (omega arith), d .pre .0 .room), omega (arith, c .index8 .ensures .0, d .pre .0 .few i (omega arith)), d .pre .1)
 
 cast-sizes : tie.Need-cast-sizes Inv-loop μ-loop
 cast-sizes c = search needs
@@ -59,7 +59,7 @@ loop-less : tie.Need-loop-less Inv-loop μ-loop
 loop-less c = search needs
 
 loop-again : tie.Need-loop-again Inv-loop μ-loop
-loop-again c = let d = c .before .before .before .before .before .before .before .before .before .before .args in let l = c .before .before .before .before .loop in let e : c .leaf-size .result ≡ leafSize (d .effective .now) (d .counts .now) (d .legs .now) (l .i) = c .leaf-size .ensures .0 ∙ ap (λ (x : ℕ). sumOf (openWeight (d .effective .now) []) (firsts x (drop (l .i * 32) (d .legs .now)))) (c .before .wide8 .ensures .0) in (omega arith, search needs, search needs, put-next (d .sizes .now) (l .sizes) (leafSize (d .effective .now) (d .counts .now) (d .legs .now)) (d .n) (l .i) (c .leaf-size .result) (omega arith) (l .inv .3) e, filled-next _ _ _ (l .inv .4))
+loop-again c = let d = c .before .before .before .before .before .before .before .before .before .before .args in let l = c .before .before .before .before .loop in let e : c .leaf-size .result ≡ leafSize (d .effective .now) (d .counts .now) (d .legs .now) (l .i) = c .leaf-size .ensures .0 ∙ ap (λ (x : ℕ). sumOf (openWeight (d .effective .now) []) (firsts x (drop (l .i * 32) (d .legs .now)))) (c .before .index8 .ensures .0) in (omega arith, search needs, search needs, put-next (d .sizes .now) (l .sizes) (leafSize (d .effective .now) (d .counts .now) (d .legs .now)) (d .n) (l .i) (c .leaf-size .result) (omega arith) (l .inv .3) e, filled-next _ _ _ (l .inv .4))
 
 same-length : tie.Need-same-length Inv-loop μ-loop
 same-length c = c .before .loop .inv .1
@@ -78,8 +78,8 @@ leaf-bits-spec =
     μ-loop
     loop-holds
     mul-leaf-size
-    shared-slice-read-wide8
-    wide8-requires
+    shared-slice-read-index8
+    index8-requires
     leaf-size-requires
     cast-sizes
     mul-sizes

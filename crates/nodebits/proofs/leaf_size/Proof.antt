@@ -7,9 +7,8 @@ use Rattle.spec.specs.Lists.{sumOf}
 use lib.ListN.{drop}
 use mathlib.Core.List.{[]}
 use native.Mathlib.Omega.{arith}
-use Prim.Native.Nat.{ℕ, _+_, _-_, _*_, _<_, _≤_}
-use mathlib.Core.Path.{_≡_, refl, sym, ap, _∙_, subst}
-use lib.ListN.{length, getD, set, length-set}
+use Prim.Native.Nat.{ℕ, _-_, _≤_}
+use mathlib.Core.Path.{_≡_, ap, _∙_}
 use Rattle.nodebits.proofs.leaf_size.Statement.{statement}
 use Rattle.nodebits.proofs.leaf_size.Tie as tie
 
@@ -22,17 +21,17 @@ abbrev μ-loop : tie.MeasureT-loop
 loop-holds : tie.Need-loop-holds Inv-loop μ-loop
 loop-holds c = let d = c .before .before .args in (omega arith, leg-none (d .effective .now) (d .legs .now) (d .base))
 
-add-wide16 : tie.Need-add-wide16 Inv-loop μ-loop
-add-wide16 c = search needs
+add-index16 : tie.Need-add-index16 Inv-loop μ-loop
+add-index16 c = search needs
 
-mul-wide16 : tie.Need-mul-wide16 Inv-loop μ-loop
-mul-wide16 c = search needs
+mul-index16 : tie.Need-mul-index16 Inv-loop μ-loop
+mul-index16 c = search needs
 
-shared-slice-read-wide16 : tie.Need-shared-slice-read-wide16 Inv-loop μ-loop
-shared-slice-read-wide16 c = search needs
+shared-slice-read-index16 : tie.Need-shared-slice-read-index16 Inv-loop μ-loop
+shared-slice-read-index16 c = search needs
 
-wide16-requires : tie.Need-wide16-requires Inv-loop μ-loop
-wide16-requires c κs = search needs
+index16-requires : tie.Need-index16-requires Inv-loop μ-loop
+index16-requires c κs = search needs
 
 at8-requires : tie.Need-at8-requires Inv-loop μ-loop
 at8-requires c κs = search needs
@@ -47,7 +46,7 @@ loop-less : tie.Need-loop-less Inv-loop μ-loop
 loop-less c = search needs
 
 loop-again : tie.Need-loop-again Inv-loop μ-loop
-loop-again c = let d = c .before .before .before .before .before .before .before .args in (omega arith, leg-next (d .effective .now) (d .legs .now) (d .base) _ _ _ _ (c .before .before .before .before .loop .inv .1) (c .before .wide16 .ensures .0) (c .at8 .ensures .0))
+loop-again c = let d = c .before .before .before .before .before .before .before .args in (omega arith, leg-next (d .effective .now) (d .legs .now) (d .base) _ _ _ _ (c .before .before .before .before .loop .inv .1) (c .before .index16 .ensures .0) (c .at8 .ensures .0))
 
 returns : tie.Need-returns Inv-loop μ-loop
 returns c = let d = c .before .before .before .before in let l = c .before .loop in let e : l .k ≡ d .args .n = omega arith in (l .inv .1 ∙ ap (λ (x : ℕ). sumOf (openWeight (d .args .effective .now) []) (firsts x (drop (d .args .base) (d .args .legs .now)))) e, omega (arith, leg-most (d .args .effective .now) (d .args .legs .now) (d .args .base) (l .k) (l .sum) (d .pre .2) (l .inv .1)))
@@ -59,10 +58,10 @@ leaf-size-spec =
     Inv-loop
     μ-loop
     loop-holds
-    add-wide16
-    mul-wide16
-    shared-slice-read-wide16
-    wide16-requires
+    add-index16
+    mul-index16
+    shared-slice-read-index16
+    index16-requires
     at8-requires
     add-sum
     add-k

@@ -3,9 +3,7 @@ use borrow.Author.Needs.{needs}
 use Rattle.nodebits.specs.Stepped.{over-front, sizes-are, works-are}
 use Rattle.nodebits.specs.Bits.{leafSize}
 use native.Mathlib.Omega.{arith}
-use Prim.Native.Nat.{ℕ, _+_, _-_, _*_, _<_, _≤_}
-use mathlib.Core.Path.{_≡_, refl, sym, ap, _∙_, subst}
-use lib.ListN.{length, getD, set, length-set}
+use mathlib.Core.Path.{sym, _∙_}
 use Rattle.nodebits.proofs.node_bits.Statement.{statement}
 use Rattle.nodebits.proofs.node_bits.Tie as tie
 

@@ -7,9 +7,8 @@ use Rattle.slots.specs.Slots.{held}
 use mathlib.Core.Bool.{not, _&&_}
 use mathlib.Core.List.{[]}
 use native.Mathlib.Omega.{arith}
-use Prim.Native.Nat.{ℕ, _+_, _-_, _*_, _<_, _≤_}
-use mathlib.Core.Path.{_≡_, refl, sym, ap, _∙_, subst}
-use lib.ListN.{length, getD, set, length-set}
+use Prim.Native.Nat.{ℕ, _-_, _*_, _≤_}
+use mathlib.Core.Path.{_≡_, refl, ap, _∙_}
 use Rattle.nodebits.proofs.overlap.Statement.{statement}
 use Rattle.nodebits.proofs.overlap.Tie as tie
 

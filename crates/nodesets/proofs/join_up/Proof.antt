@@ -4,9 +4,9 @@ use Rattle.slots.specs.Slots.{withSet-length}
 use Rattle.nodesets.specs.Turns.{slot-in, step-inner, step-left, step-right, ups-none, ups-next, ups-end}
 use Rattle.nodesets.specs.Passes.{leftOf, rightOf, nodes, ups}
 use native.Mathlib.Omega.{arith}
-use Prim.Native.Nat.{ℕ, _+_, _-_, _*_, _<_, _≤_}
-use mathlib.Core.Path.{_≡_, refl, sym, ap, _∙_, subst}
-use lib.ListN.{length, getD, set, length-set}
+use Prim.Native.Nat.{_-_, _*_, _≤_}
+use mathlib.Core.Path.{_≡_, refl, ap, _∙_}
+use lib.ListN.{length}
 use Rattle.nodesets.proofs.join_up.Statement.{statement}
 use Rattle.nodesets.proofs.join_up.Tie as tie
 
@@ -19,23 +19,23 @@ abbrev μ-loop : tie.MeasureT-loop
 loop-holds : tie.Need-loop-holds Inv-loop μ-loop
 loop-holds c = (omega arith, refl, ups-none _ _ _ _ _)
 
-mul-wide : tie.Need-mul-wide Inv-loop μ-loop
-mul-wide c = search needs
+mul-index16 : tie.Need-mul-index16 Inv-loop μ-loop
+mul-index16 c = search needs
 
-shared-slice-read-wide : tie.Need-shared-slice-read-wide Inv-loop μ-loop
-shared-slice-read-wide c = search needs
+shared-slice-read-index16 : tie.Need-shared-slice-read-index16 Inv-loop μ-loop
+shared-slice-read-index16 c = search needs
 
-wide-requires : tie.Need-wide-requires Inv-loop μ-loop
-wide-requires c κs = search needs
+index16-requires : tie.Need-index16-requires Inv-loop μ-loop
+index16-requires c κs = search needs
 
 left-requires : tie.Need-left-requires Inv-loop μ-loop
-left-requires c κs = step-inner (c .before .before .before .before .before .before .before .pre .0) (c .before .before .before .loop .k) _ (omega arith) (c .wide .ensures .0)
+left-requires c κs = step-inner (c .before .before .before .before .before .before .before .pre .0) (c .before .before .before .loop .k) _ (omega arith) (c .index16 .ensures .0)
 
 right-requires : tie.Need-right-requires Inv-loop μ-loop
-right-requires c κs = step-inner (c .before .before .before .before .before .before .before .before .pre .0) (c .before .before .before .before .loop .k) _ (omega arith) (c .before .wide .ensures .0)
+right-requires c κs = step-inner (c .before .before .before .before .before .before .before .before .pre .0) (c .before .before .before .before .loop .k) _ (omega arith) (c .before .index16 .ensures .0)
 
 join-requires : tie.Need-join-requires Inv-loop μ-loop
-join-requires c κs = let d = c .before .before .before .before .before .before .before .before .before .before in let k = c .before .before .before .before .before .before .loop .k in let w = c .before .before .before .wide in let room : nodes (d .args .n) (d .args .kids .now) * d .args .w ≤ length (c .before .before .before .before .before .before .loop .sets) = omega arith in (slot-in _ _ _ _ (step-left (d .pre .0) k (w .result) (omega arith) (w .ensures .0) _ (c .before .before .left .ensures .0)) room, slot-in _ _ _ _ (step-right (d .pre .0) k (w .result) (omega arith) (w .ensures .0) _ (c .before .right .ensures .0)) room, slot-in _ _ _ _ (step-inner (d .pre .0) k (w .result) (omega arith) (w .ensures .0) .1) room)
+join-requires c κs = let d = c .before .before .before .before .before .before .before .before .before .before in let k = c .before .before .before .before .before .before .loop .k in let w = c .before .before .before .index16 in let room : nodes (d .args .n) (d .args .kids .now) * d .args .w ≤ length (c .before .before .before .before .before .before .loop .sets) = omega arith in (slot-in _ _ _ _ (step-left (d .pre .0) k (w .result) (omega arith) (w .ensures .0) _ (c .before .before .left .ensures .0)) room, slot-in _ _ _ _ (step-right (d .pre .0) k (w .result) (omega arith) (w .ensures .0) _ (c .before .right .ensures .0)) room, slot-in _ _ _ _ (step-inner (d .pre .0) k (w .result) (omega arith) (w .ensures .0) .1) room)
 
 add-k : tie.Need-add-k Inv-loop μ-loop
 add-k c = search needs
@@ -44,7 +44,7 @@ loop-less : tie.Need-loop-less Inv-loop μ-loop
 loop-less c = search needs
 
 loop-again : tie.Need-loop-again Inv-loop μ-loop
-loop-again c = (omega arith, ap length (c .before .before .join .ensures) ∙ withSet-length _ _ _ _ ∙ c .before .before .before .before .before .before .before .before .before .loop .inv .1, ups-next _ _ _ _ _ _ _ _ _ _ _ (c .before .before .before .before .before .before .before .before .before .loop .inv .2) (c .before .before .before .before .before .before .wide .ensures .0) (c .before .before .before .before .before .left .ensures .0) (c .before .before .before .before .right .ensures .0) (c .before .before .join .ensures))
+loop-again c = (omega arith, ap length (c .before .before .join .ensures) ∙ withSet-length _ _ _ _ ∙ c .before .before .before .before .before .before .before .before .before .loop .inv .1, ups-next _ _ _ _ _ _ _ _ _ _ _ (c .before .before .before .before .before .before .before .before .before .loop .inv .2) (c .before .before .before .before .before .before .index16 .ensures .0) (c .before .before .before .before .before .left .ensures .0) (c .before .before .before .before .right .ensures .0) (c .before .before .join .ensures))
 
 same-length : tie.Need-same-length Inv-loop μ-loop
 same-length c = search needs
@@ -59,9 +59,9 @@ join-up-spec =
     Inv-loop
     μ-loop
     loop-holds
-    mul-wide
-    shared-slice-read-wide
-    wide-requires
+    mul-index16
+    shared-slice-read-index16
+    index16-requires
     left-requires
     right-requires
     join-requires

@@ -1,16 +1,12 @@
 -- Assumes nothing.
 use borrow.Author.Needs.{needs}
 use Rattle.nodesets.specs.Sets.{leaf-turn}
-use mathlib.Core.List.{List}
-use mathlib.Core.Bool.{Bool, false, _||_}
-use Rattle.slots.specs.Writes.{among}
-use Rattle.slots.specs.Slots.{withSet, withSet-then, held}
-use Rattle.nodesets.specs.Sets.{withSets-none, withSets-next, withSets-end, withSets-length}
+use Rattle.nodesets.specs.Sets.{withSets-none, withSets-end, withSets-length}
 use Rattle.nodesets.specs.Passes.{withSets, leafHas}
 use native.Mathlib.Omega.{arith}
-use Prim.Native.Nat.{ℕ, _+_, _-_, _*_, _<_, _≤_}
-use mathlib.Core.Path.{_≡_, refl, sym, ap, _∙_, subst}
-use lib.ListN.{length, getD, set, length-set}
+use Prim.Native.Nat.{_-_, _≤_}
+use mathlib.Core.Path.{_≡_, ap, _∙_}
+use lib.ListN.{length}
 use Rattle.nodesets.proofs.leaf_sets.Statement.{statement}
 use Rattle.nodesets.proofs.leaf_sets.Tie as tie
 

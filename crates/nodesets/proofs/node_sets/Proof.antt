@@ -1,15 +1,14 @@
 -- Assumes nothing.
 use borrow.Author.Needs.{needs}
 use Rattle.slots.specs.Writes.{among}
-use Rattle.nodesets.specs.Passes.{nodes}
 use Rattle.slots.specs.Slots.{withSet}
-use Rattle.nodesets.specs.Turns.{ups-length, downs-length}
+use Rattle.nodesets.specs.Turns.{ups-length}
 use Rattle.nodesets.specs.Sets.{withSets-length, refilled}
-use Rattle.nodesets.specs.Lists.{ordered-steps, Sound, Passed, passed}
+use Rattle.nodesets.specs.Lists.{ordered-steps, passed}
 use native.Mathlib.Omega.{arith}
-use Prim.Native.Nat.{ℕ, _+_, _-_, _*_, _<_, _≤_}
-use mathlib.Core.Path.{_≡_, refl, sym, ap, _∙_, subst}
-use lib.ListN.{length, getD, set, length-set}
+use Prim.Native.Nat.{ℕ}
+use mathlib.Core.Path.{_≡_, ap, _∙_}
+use lib.ListN.{length}
 use Rattle.nodesets.proofs.node_sets.Statement.{statement}
 use Rattle.nodesets.proofs.node_sets.Tie as tie
 

@@ -2,11 +2,11 @@
 use borrow.Author.Needs.{needs}
 use Rattle.slots.specs.Slots.{withSet-length}
 use Rattle.nodesets.specs.Turns.{slot-in, step-inner, cuts-none, cuts-next, cuts-end}
-use Rattle.nodesets.specs.Passes.{leftOf, rightOf, nodes, cuts}
+use Rattle.nodesets.specs.Passes.{cuts}
 use native.Mathlib.Omega.{arith}
-use Prim.Native.Nat.{ℕ, _+_, _-_, _*_, _<_, _≤_}
-use mathlib.Core.Path.{_≡_, refl, sym, ap, _∙_, subst}
-use lib.ListN.{length, getD, set, length-set}
+use Prim.Native.Nat.{_-_, _≤_}
+use mathlib.Core.Path.{_≡_, refl, ap, _∙_}
+use lib.ListN.{length}
 use Rattle.nodesets.proofs.trim_all.Statement.{statement}
 use Rattle.nodesets.proofs.trim_all.Tie as tie
 
@@ -19,17 +19,17 @@ abbrev μ-loop : tie.MeasureT-loop
 loop-holds : tie.Need-loop-holds Inv-loop μ-loop
 loop-holds c = (omega arith, refl, cuts-none _ _ _ _)
 
-mul-wide : tie.Need-mul-wide Inv-loop μ-loop
-mul-wide c = search needs
+mul-index16 : tie.Need-mul-index16 Inv-loop μ-loop
+mul-index16 c = search needs
 
-shared-slice-read-wide : tie.Need-shared-slice-read-wide Inv-loop μ-loop
-shared-slice-read-wide c = search needs
+shared-slice-read-index16 : tie.Need-shared-slice-read-index16 Inv-loop μ-loop
+shared-slice-read-index16 c = search needs
 
-wide-requires : tie.Need-wide-requires Inv-loop μ-loop
-wide-requires c κs = search needs
+index16-requires : tie.Need-index16-requires Inv-loop μ-loop
+index16-requires c κs = search needs
 
 trim-requires : tie.Need-trim-requires Inv-loop μ-loop
-trim-requires c κs = let d = c .before .before .before .before .before .before .before .before .before in let i = step-inner (d .pre .0) (c .before .before .before .before .loop .k) (c .wide .result) (omega arith) (c .wide .ensures .0) in (slot-in _ _ _ _ (i .1) (omega arith), slot-in _ _ _ _ (i .1) (omega arith))
+trim-requires c κs = let d = c .before .before .before .before .before .before .before .before .before in let i = step-inner (d .pre .0) (c .before .before .before .before .loop .k) (c .index16 .result) (omega arith) (c .index16 .ensures .0) in (slot-in _ _ _ _ (i .1) (omega arith), slot-in _ _ _ _ (i .1) (omega arith))
 
 add-k : tie.Need-add-k Inv-loop μ-loop
 add-k c = search needs
@@ -38,7 +38,7 @@ loop-less : tie.Need-loop-less Inv-loop μ-loop
 loop-less c = search needs
 
 loop-again : tie.Need-loop-again Inv-loop μ-loop
-loop-again c = (omega arith, ap length (c .before .before .trim .ensures) ∙ withSet-length _ _ _ _ ∙ c .before .before .before .before .before .before .before .loop .inv .1, cuts-next _ _ _ _ _ _ _ _ (c .before .before .before .before .before .before .before .loop .inv .2) (c .before .before .before .wide .ensures .0) (c .before .before .trim .ensures))
+loop-again c = (omega arith, ap length (c .before .before .trim .ensures) ∙ withSet-length _ _ _ _ ∙ c .before .before .before .before .before .before .before .loop .inv .1, cuts-next _ _ _ _ _ _ _ _ (c .before .before .before .before .before .before .before .loop .inv .2) (c .before .before .before .index16 .ensures .0) (c .before .before .trim .ensures))
 
 same-length : tie.Need-same-length Inv-loop μ-loop
 same-length c = search needs
@@ -53,9 +53,9 @@ trim-all-spec =
     Inv-loop
     μ-loop
     loop-holds
-    mul-wide
-    shared-slice-read-wide
-    wide-requires
+    mul-index16
+    shared-slice-read-index16
+    index16-requires
     trim-requires
     add-k
     loop-less

@@ -4,9 +4,8 @@ use Rattle.pricing.specs.Sums.{largest-none, largest-next}
 use Rattle.spec.specs.Price.{largest}
 use Rattle.spec.specs.Layout.{firsts}
 use native.Mathlib.Omega.{arith}
-use Prim.Native.Nat.{ℕ, _+_, _-_, _*_, _<_, _≤_}
-use mathlib.Core.Path.{_≡_, refl, sym, ap, _∙_, subst}
-use lib.ListN.{length, getD, set, length-set}
+use Prim.Native.Nat.{ℕ, _-_, _≤_}
+use mathlib.Core.Path.{_≡_, refl, ap, _∙_}
 use Rattle.pricing.proofs.largest_of.Statement.{statement}
 use Rattle.pricing.proofs.largest_of.Tie as tie
 

@@ -6,11 +6,11 @@ use Rattle.spec.specs.Layout.{firsts}
 use Rattle.cells.specs.Cells.{over-length}
 use Rattle.pricing.specs.Final.{weights-light, listing-sound, known, price-list, price-answer}
 use Rattle.nodesets.specs.Lists.{ordered-steps}
-use Rattle.pricing.specs.Final.{weights-light, slice-is, listing-sound, known, price-list, price-answer}
+use Rattle.pricing.specs.Final.{weights-light, listing-sound, known, price-list, price-answer}
 use native.Mathlib.Omega.{arith}
-use Prim.Native.Nat.{ℕ, _+_, _-_, _*_, _<_, _≤_}
-use mathlib.Core.Path.{_≡_, refl, sym, ap, _∙_, subst}
-use lib.ListN.{length, getD, set, length-set}
+use Prim.Native.Nat.{ℕ, _+_}
+use mathlib.Core.Path.{_≡_, ap, _∙_}
+use lib.ListN.{length}
 use Rattle.pricing.proofs.price.Statement.{statement}
 use Rattle.pricing.proofs.price.Tie as tie
 
@@ -18,7 +18,7 @@ slice-aggregate-effective-weights : tie.Need-slice-aggregate-effective-weights
 slice-aggregate-effective-weights c = search needs
 
 effective-weights-requires : tie.Need-effective-weights-requires
-effective-weights-requires c κs = let d = c .before .before .before .before .before .before .before .before .before .before .before .before .before in (d .pre .0 .weight-places, omega (arith, d .pre .0 .wide, d .pre .0 .narrow))
+effective-weights-requires c κs = let d = c .before .before .before .before .before .before .before .before .before .before .before .before .before in (d .pre .0 .weight-places, omega (arith, d .pre .0 .fits, d .pre .0 .narrow))
 
 node-sets-requires : tie.Need-node-sets-requires
 node-sets-requires c κs = search needs
@@ -42,7 +42,7 @@ widest-of-requires : tie.Need-widest-of-requires
 widest-of-requires c κs = let d = c .before .before .before .before .before .before .before .before .before .before .before .before .before .before .before .before .before .before .before .before .before .before .before .before .before .before .before .before .before .before .before .before .before .before .before .before .before .before .before .before in let a = d .args in let s = ordered-steps (d .pre .0 .ordered) in omega (arith, s .steps, s .numbers, d .pre .1 .for-sizes, ap length (c .before .before .before .before .before .before .before .before .before .before .before .before .before .node-bits .ensures .0) ∙ over-length _ _)
 
 slice-bits-requires : tie.Need-slice-bits-requires
-slice-bits-requires c κs = let d = c .before .before .before .before .before .before .before .before .before .before .before .before .before .before .before .before .before .before .before .before .before .before .before .before .before .before .before .before .before .before .before .before .before .before .before .before .before .before .before .before .before in let a = d .args in (d .pre .0 .weight-places, omega (arith, d .pre .0 .wide, d .pre .0 .narrow), weights-light (d .pre .0))
+slice-bits-requires c κs = let d = c .before .before .before .before .before .before .before .before .before .before .before .before .before .before .before .before .before .before .before .before .before .before .before .before .before .before .before .before .before .before .before .before .before .before .before .before .before .before .before .before .before in let a = d .args in (d .pre .0 .weight-places, omega (arith, d .pre .0 .fits, d .pre .0 .narrow), weights-light (d .pre .0))
 
 same-length : tie.Need-same-length
 same-length c = search needs

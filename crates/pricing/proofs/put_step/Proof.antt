@@ -2,9 +2,7 @@
 use borrow.Author.Needs.{needs}
 use Rattle.pricing.specs.Lines.{five}
 use native.Mathlib.Omega.{arith}
-use Prim.Native.Nat.{ℕ, _+_, _-_, _*_, _<_, _≤_}
-use mathlib.Core.Path.{_≡_, refl, sym, ap, _∙_, subst}
-use lib.ListN.{length, getD, set, length-set}
+use lib.ListN.{length-set}
 use Rattle.pricing.proofs.put_step.Statement.{statement}
 use Rattle.pricing.proofs.put_step.Tie as tie
 

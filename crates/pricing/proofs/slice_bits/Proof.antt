@@ -4,9 +4,8 @@ use Prim.Native.Nat.{min}
 use Rattle.pricing.specs.Sums.{sliceShare, slice-none, slice-next, slice-end, slice-light}
 use Rattle.spec.specs.Lists.{range, sumOf}
 use native.Mathlib.Omega.{arith}
-use Prim.Native.Nat.{ℕ, _+_, _-_, _*_, _<_, _≤_}
-use mathlib.Core.Path.{_≡_, refl, sym, ap, _∙_, subst}
-use lib.ListN.{length, getD, set, length-set}
+use Prim.Native.Nat.{_-_, _*_, _≤_}
+use mathlib.Core.Path.{_≡_, _∙_}
 use Rattle.pricing.proofs.slice_bits.Statement.{statement}
 use Rattle.pricing.proofs.slice_bits.Tie as tie
 
@@ -31,11 +30,11 @@ shared-slice-read-share-2 c = omega (arith, c .before .before .before .before .m
 share-requires : tie.Need-share-requires Inv-loop μ-loop
 share-requires c κs = search needs
 
-wide8-requires : tie.Need-wide8-requires Inv-loop μ-loop
-wide8-requires c κs = search needs
+index8-requires : tie.Need-index8-requires Inv-loop μ-loop
+index8-requires c κs = search needs
 
 add-sum : tie.Need-add-sum Inv-loop μ-loop
-add-sum c = omega (arith, c .before .before .before .before .before .before .min .ensures, c .wide8 .ensures .1)
+add-sum c = omega (arith, c .before .before .before .before .before .before .min .ensures, c .index8 .ensures .1)
 
 add-j : tie.Need-add-j Inv-loop μ-loop
 add-j c = search needs
@@ -44,7 +43,7 @@ loop-less : tie.Need-loop-less Inv-loop μ-loop
 loop-less c = search needs
 
 loop-again : tie.Need-loop-again Inv-loop μ-loop
-loop-again c = let d = c .before .before .before .before .before .before .before .before .before in let l = c .before .before .before .before .before .loop in (omega arith, slice-next (d .args .weights .now) (d .args .flags .now) (l .j) (l .sum) (c .wide8 .result) (l .inv .1) (c .wide8 .ensures .0 ∙ c .before .share .ensures .0), omega (arith, l .inv .2, c .wide8 .ensures .0, c .before .share .ensures .1, slice-light (d .args .weights .now) (d .args .m) (l .j) (d .pre .2) (omega (arith, c .before .before .before .before .before .before .min .ensures))))
+loop-again c = let d = c .before .before .before .before .before .before .before .before .before in let l = c .before .before .before .before .before .loop in (omega arith, slice-next (d .args .weights .now) (d .args .flags .now) (l .j) (l .sum) (c .index8 .result) (l .inv .1) (c .index8 .ensures .0 ∙ c .before .share .ensures .0), omega (arith, l .inv .2, c .index8 .ensures .0, c .before .share .ensures .1, slice-light (d .args .weights .now) (d .args .m) (l .j) (d .pre .2) (omega (arith, c .before .before .before .before .before .before .min .ensures))))
 
 cast-result : tie.Need-cast-result Inv-loop μ-loop
 cast-result c = omega (arith, c .before .loop .inv .2, c .before .before .min .ensures)
@@ -63,7 +62,7 @@ slice-bits-spec =
     shared-slice-read-share
     shared-slice-read-share-2
     share-requires
-    wide8-requires
+    index8-requires
     add-sum
     add-j
     loop-less
