@@ -10,6 +10,7 @@ mod engine;
 mod findings;
 mod large;
 mod listing;
+mod memory;
 mod networks;
 mod numbers;
 mod port;

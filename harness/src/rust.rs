@@ -30,6 +30,8 @@ pub struct Step {
 /// `post_order` and `tree_cost` of a valid tree.
 #[derive(Clone, Debug)]
 pub struct Cost {
+    /// The indices and the size of each node, leaves included.
+    pub nodes: Vec<(Vec<u32>, f64)>,
     pub steps: Vec<Step>,
     pub log2_total: f64,
     pub log2_max: f64,
@@ -155,7 +157,13 @@ mod compiled {
                     log2_size: cost.log2size[v as usize],
                 }
             });
-            Cost { steps: steps.collect(), log2_total: cost.log2_total, log2_max: cost.log2_max, log2_slices: cost.log2_slices }
+            Cost {
+                steps: steps.collect(),
+                nodes: cost.inds.into_iter().zip(cost.log2size).collect(),
+                log2_total: cost.log2_total,
+                log2_max: cost.log2_max,
+                log2_slices: cost.log2_slices,
+            }
         }
     }
 
