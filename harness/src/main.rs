@@ -37,7 +37,7 @@ fn compare(count: usize, seed: u64) -> ExitCode {
         println!("{}", rust::MISSING);
     }
     let mut comparison = compare::Comparison::default();
-    small::run(&mut comparison);
+    small::run(&mut comparison, seed);
     edges::run(&mut comparison);
     large::run(&mut comparison, count, seed);
     comparison.tell("all", compare::Counts::default());
