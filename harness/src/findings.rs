@@ -3,6 +3,7 @@
 use crate::case::{Case, Network, Tree};
 use crate::engine::path::{self, BisectParams, ContractionTree, GreedyParams, Hypergraph};
 use crate::listing::{Listing, Total, MOST};
+use crate::memory::{Given, Lent};
 use crate::networks::practice_pedigree;
 use crate::port;
 use crate::rust::{self, Validity};
@@ -76,6 +77,11 @@ fn a_leaf_has_no_work_and_no_leaves_no_widest() {
     assert_eq!(answer.cost.unwrap().log2_max, f64::NEG_INFINITY);
     let tree = ContractionTree { n_leaves: 1, children: Vec::new() };
     assert_eq!(path::tree_cost(&hypergraph(&network(&[], &[&[]])), &tree, &[]).log2flops, [f64::NEG_INFINITY]);
+    if port::AT_HAND {
+        let given = Given::new(&bare(1, Vec::new()));
+        let mut lent = Lent::new(&given, 0);
+        assert_eq!((port::tree_cost(&given, &mut lent), lent.works), (0, vec![0]));
+    }
 }
 
 #[test]
