@@ -1,4 +1,5 @@
 //! The port on a network in memory: the lists that are lent, and what stands in them afterwards.
+#![cfg_attr(not(port), allow(dead_code))]
 
 use crate::case::{Case, LEGS};
 use crate::listing::{Listing, Total};
