@@ -29,7 +29,7 @@ uint32_t loqshyber_price(const uint8_t *file, size_t file_length, uint8_t *out, 
  * What is read:
  *   weights      the weight of each index
  *   leg_counts   how many indices each leaf has
- *   legs         LOQSHYBER_LEGS places a leaf, of which the leaf's indices are the first
+ *   legs         LOQSHYBER_LEGS places a leaf, of which the leaf's indices are the first; a place past the end counts as 0
  *   outputs      the output indices
  *   flags        1 for each index that is sliced; an index past the end is not
  *   tree         the left and the right child of each inner node
