@@ -47,13 +47,7 @@ fn out_of_range<'a>(
 }
 
 // Does a leaf, or do the outputs, name an index twice.
-fn repeated<'a>(
-    n: usize,
-    o: usize,
-    counts: &'a [u8],
-    legs: &'a [u16],
-    outputs: &'a [u16],
-) -> bool
+fn repeated<'a>(n: usize, o: usize, counts: &'a [u8], legs: &'a [u16], outputs: &'a [u16]) -> bool
     requires { ⌜ Rows n (now counts) (now legs) × (o ≤ length (now outputs)) ⌝ }
     ensures { λ r. ⌜ r ≡ repeatOf n o (now (counts .entry)) (now (legs .entry)) (now (outputs .entry)) ⌝ }
 {
