@@ -32,7 +32,7 @@ use Rattle.merging.specs.Ruled.{outer}
 use Rattle.merging.specs.Holds.{Given, Ghost, listsOf}
 use Rattle.merging.specs.Connect.{Start}
 use Rattle.start.specs.Leaves.{withLeaves, leaves-length, leaves-held, leaves-other, withInside, outsideSet, withOutside, withSizes, putAll, put-length, put-at}
-use Rattle.greedy.specs.Lends.{Lends, among-memb, leaf-size, others-named}
+use Rattle.greedynodes.specs.Lends.{Lends, among-memb, leaf-size, others-named}
 
 -- ---- lists ----
 
