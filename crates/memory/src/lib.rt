@@ -1,4 +1,4 @@
-// Pricing of a network in memory, whose lists are lent whole.
+// Calls on a network in memory, whose lists are lent whole: pricing, greedy.
 ghost use mathlib.Core.Path.{_≡_};
 ghost use mathlib.Core.Bool.{false};
 ghost use lib.ListN.{length, getD};
@@ -10,7 +10,9 @@ ghost use Rattle.network.specs.Codes.{largeOf};
 ghost use Rattle.cost.specs.Back.{totalFrom, widestFrom, pricesFrom};
 ghost use Rattle.memory.specs.Numbers.{orShort};
 ghost use Rattle.memory.specs.Promise.{MemoryCost};
+ghost use Rattle.memory.specs.Plan.{MemoryGreedy};
 use cost::Priced;
+use greedy::Planned;
 use network::Network;
 use network::refusal;
 use network::scan;
@@ -143,5 +145,28 @@ pub fn tree_cost(
             put_answer(answer, prices);
             refusal::NONE
         }
+    }
+}
+
+// The greedy plan of the network, to the front of `tree`.
+pub fn greedy(
+    weights: &[u8],
+    leg_counts: &[u8],
+    legs: &[u16],
+    outputs: &[u16],
+    tree: &mut [u16],
+    ws: &mut [u64],
+) -> u8
+    ensures { λ r. ⌜ MemoryGreedy (lentNetwork (now (weights .entry)) (now («leg_counts» .entry)) (now (legs .entry)) (now (outputs .entry)))
+        (now (tree .entry)) (now (ws .entry)) (now (tree .exit)) (now (ws .exit)) r ⌝ }
+{
+    if too_large(weights.len(), outputs.len(), leg_counts) {
+        return refusal::TOO_LARGE;
+    }
+    let network = record_of(weights, leg_counts, legs, outputs);
+    let planned = greedy::greedy(network, tree, ws);
+    match planned {
+        Planned::Refused(number) => number,
+        Planned::Done => refusal::NONE,
     }
 }
