@@ -100,7 +100,7 @@ fn lists_kept(refusal: u32, places: usize, tree: &[u16], words: &[u64]) -> Resul
     Ok(())
 }
 
-/// The call on marked lists that are longer (or, by `short`, shorter) than stated.
+/// The call on marked lists of so many places and words.
 fn lend(given: &Given, places: usize, word_count: usize) -> Result<Result<Vec<u16>, u32>, String> {
     let mut tree = vec![MARK; places];
     let mut words = vec![WORD_MARK; word_count];
