@@ -7,7 +7,7 @@ ghost use Rattle.network.specs.Record.{netOf};
 ghost use Rattle.host.specs.Reading.{placesOf, countOf};
 ghost use Rattle.host.specs.Sound.{HandsOut};
 ghost use Rattle.memory.specs.Promise.{MemoryCost};
-ghost use Rattle.memory.specs.Plan.{MemoryGreedy};
+ghost use Rattle.memoryplans.specs.Plan.{MemoryGreedy};
 use netfile::Answer;
 use netfile::Ask;
 use netfile::Found;
@@ -121,5 +121,5 @@ pub extern "C" fn loqshyber_greedy(
     ensures { λ r. ⌜ MemoryGreedy (lentNetwork (now (weights .entry)) (now («leg_counts» .entry)) (now (legs .entry)) (now (outputs .entry)))
         (now (tree .entry)) (now (ws .entry)) (now (tree .exit)) (now (ws .exit)) r ⌝ }
 {
-    memory::greedy(weights, leg_counts, legs, outputs, tree, ws) as u32
+    memoryplans::greedy(weights, leg_counts, legs, outputs, tree, ws) as u32
 }

@@ -1,4 +1,4 @@
-// Calls on a network in memory, whose lists are lent whole: pricing, greedy.
+// A network in memory, whose lists are lent whole: its record, its prices.
 ghost use mathlib.Core.Path.{_≡_};
 ghost use mathlib.Core.Bool.{false};
 ghost use lib.ListN.{length, getD};
@@ -10,9 +10,7 @@ ghost use Rattle.network.specs.Codes.{largeOf};
 ghost use Rattle.cost.specs.Back.{totalFrom, widestFrom, pricesFrom};
 ghost use Rattle.memory.specs.Numbers.{orShort};
 ghost use Rattle.memory.specs.Promise.{MemoryCost};
-ghost use Rattle.memory.specs.Plan.{MemoryGreedy};
 use cost::Priced;
-use greedy::Planned;
 use network::Network;
 use network::refusal;
 use network::scan;
@@ -21,7 +19,7 @@ use pricing::Total;
 use pricing::Widest;
 
 // Is a count above its limit.
-fn too_large(m: usize, o: usize, counts: &[u8]) -> bool
+pub fn too_large(m: usize, o: usize, counts: &[u8]) -> bool
     ensures { λ r. ⌜ r ≡ largeOf m (length (now (counts .entry))) o (now (counts .entry)) ⌝ }
 {
     if counts.len() > Network::MAX_LEAVES {
@@ -37,7 +35,7 @@ fn too_large(m: usize, o: usize, counts: &[u8]) -> bool
 }
 
 // The record of the lists.
-fn record_of(weights: &[u8], counts: &[u8], legs: &[u16], outputs: &[u16]) -> Network
+pub fn record_of(weights: &[u8], counts: &[u8], legs: &[u16], outputs: &[u16]) -> Network
     requires { ⌜ largeOf (length (now weights)) (length (now counts)) (length (now outputs)) (now counts) ≡ false ⌝ }
     ensures { λ r. ⌜ netOf r ≡ lentNetwork (now (weights .entry)) (now (counts .entry)) (now (legs .entry)) (now (outputs .entry)) ⌝ }
 {
@@ -145,28 +143,5 @@ pub fn tree_cost(
             put_answer(answer, prices);
             refusal::NONE
         }
-    }
-}
-
-// The greedy plan of the network, to the front of `tree`.
-pub fn greedy(
-    weights: &[u8],
-    leg_counts: &[u8],
-    legs: &[u16],
-    outputs: &[u16],
-    tree: &mut [u16],
-    ws: &mut [u64],
-) -> u8
-    ensures { λ r. ⌜ MemoryGreedy (lentNetwork (now (weights .entry)) (now («leg_counts» .entry)) (now (legs .entry)) (now (outputs .entry)))
-        (now (tree .entry)) (now (ws .entry)) (now (tree .exit)) (now (ws .exit)) r ⌝ }
-{
-    if too_large(weights.len(), outputs.len(), leg_counts) {
-        return refusal::TOO_LARGE;
-    }
-    let network = record_of(weights, leg_counts, legs, outputs);
-    let planned = greedy::greedy(network, tree, ws);
-    match planned {
-        Planned::Refused(number) => number,
-        Planned::Done => refusal::NONE,
     }
 }

@@ -2,10 +2,10 @@
 use borrow.Author.Needs.{needs}
 use mathlib.Core.Path.{sym, ap, _∙_}
 use Rattle.spec.specs.Host.{lentNetwork}
 use Rattle.memory.specs.Promise.{lent-large}
-use Rattle.memory.specs.Plan.{plannedNumber, plan-large, plan-follows}
-use Rattle.memory.proofs.greedy.Statement.{statement}
-use Rattle.memory.proofs.greedy.Tie as tie
+use Rattle.memoryplans.specs.Plan.{plannedNumber, plan-large, plan-follows}
+use Rattle.memoryplans.proofs.greedy.Statement.{statement}
+use Rattle.memoryplans.proofs.greedy.Tie as tie
 
 too-large-requires : tie.Need-too-large-requires
 too-large-requires c κs = search needs
