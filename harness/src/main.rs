@@ -8,6 +8,7 @@ mod edges;
 mod engine;
 #[cfg(all(test, path_rs))]
 mod findings;
+mod greedy;
 mod large;
 mod listing;
 mod memory;
@@ -26,7 +27,10 @@ use std::process::ExitCode;
 /// The crate whose input and output `record` writes.
 const REPLAY: &str = concat!(env!("CARGO_MANIFEST_DIR"), "/../crates/replay");
 
-const USAGE: &str = "usage: harness compare [NETWORKS [SEED]] | bench | record";
+/// The crate whose input and output `greedy-record` writes.
+const GREEDY_RUNS: &str = concat!(env!("CARGO_MANIFEST_DIR"), "/../crates/greedyruns");
+
+const USAGE: &str = "usage: harness compare|greedy [NETWORKS [SEED]] | bench | greedy-bench | record | greedy-record";
 
 fn compare(count: usize, seed: u64) -> ExitCode {
     if !port::AT_HAND {
@@ -55,6 +59,18 @@ fn main() -> ExitCode {
     let number = |k: usize, usual: u64| words.get(k).map_or(Some(usual), |word| word.parse().ok());
     match (words.first().map(String::as_str), number(1, 100_000), number(2, 1)) {
         (Some("compare"), Some(count), Some(seed)) => compare(count as usize, seed),
+        (Some("greedy"), Some(count), Some(seed)) => greedy::run(count as usize, seed),
+        (Some("greedy-bench"), ..) => {
+            greedy::bench::run();
+            ExitCode::SUCCESS
+        }
+        (Some("greedy-record"), ..) => match greedy::record::run(Path::new(GREEDY_RUNS)) {
+            Ok(()) => ExitCode::SUCCESS,
+            Err(error) => {
+                println!("crates/greedyruns: {error}");
+                ExitCode::FAILURE
+            }
+        },
         (Some("bench"), ..) => {
             bench::run();
             ExitCode::SUCCESS

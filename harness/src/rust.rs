@@ -47,7 +47,7 @@ pub struct Answer {
 }
 
 #[cfg(path_rs)]
-pub use compiled::{greedy, quiet_caught_panics, tree_cost_call, valid_cost_call};
+pub use compiled::{greedy, greedy_call, quiet_caught_panics, tree_cost_call, valid_cost_call};
 
 /// Runs path.rs, if it is at hand. A case without a tree is one with no internal node.
 #[cfg(path_rs)]
@@ -58,7 +58,7 @@ pub fn answer(case: &Case) -> Option<Answer> {
 }
 
 #[cfg(not(path_rs))]
-pub use missing::{answer, greedy, quiet_caught_panics, tree_cost_call, valid_cost_call};
+pub use missing::{answer, greedy, greedy_call, quiet_caught_panics, tree_cost_call, valid_cost_call};
 
 #[cfg(not(path_rs))]
 mod missing {
@@ -69,6 +69,10 @@ mod missing {
     }
 
     pub fn greedy(_case: &Case) -> Option<Tree> {
+        None
+    }
+
+    pub fn greedy_call<'a>(_case: &Case) -> Call<'a> {
         None
     }
 
@@ -171,6 +175,13 @@ mod compiled {
     pub fn greedy(case: &Case) -> Option<Tree> {
         let tree = path::greedy(&Input::new(case).network, &GreedyParams::default(), 0);
         Some(tree.children.iter().map(|pair| pair.map(|v| v as u16)).collect())
+    }
+
+    pub fn greedy_call<'a>(case: &Case) -> Call<'a> {
+        let input = Input::new(case);
+        Some(Box::new(move || {
+            black_box(path::greedy(&input.network, &GreedyParams::default(), 0));
+        }))
     }
 
     pub fn tree_cost_call<'a>(case: &Case) -> Call<'a> {

@@ -1,7 +1,7 @@
 -- Assumes nothing.
 use borrow.Author.Needs.{needs}
-use Rattle.greedy.proofs.greedy_nodes.Statement.{statement}
-use Rattle.greedy.proofs.greedy_nodes.Tie as tie
+use Rattle.greedynodes.proofs.greedy_nodes.Statement.{statement}
+use Rattle.greedynodes.proofs.greedy_nodes.Tie as tie
 
 slice-aggregate-build : tie.Need-slice-aggregate-build
 slice-aggregate-build c = search needs

@@ -1,10 +1,10 @@
 -- Assumes nothing.
 use borrow.Author.Needs.{needs}
-use Rattle.greedy.specs.Ends.{answer-refused, answer-built}
-use Rattle.greedy.specs.Begin.{given, prepared}
+use Rattle.greedynodes.specs.Ends.{answer-refused, answer-built}
+use Rattle.greedynodes.specs.Begin.{given, prepared}
 use native.Mathlib.Omega.{arith}
-use Rattle.greedy.proofs.build.Statement.{statement}
-use Rattle.greedy.proofs.build.Tie as tie
+use Rattle.greedynodes.proofs.build.Statement.{statement}
+use Rattle.greedynodes.proofs.build.Tie as tie
 
 prepare-requires : tie.Need-prepare-requires
 prepare-requires c κs = let p = c .before .before .before .before .before .before .before .before .before .before .before .before .before .before .before .before .pre .0 in (p .0 .width, p .0 .leafSets, p .0 .few, p .0 .outputsFit, p .1)

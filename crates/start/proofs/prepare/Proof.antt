@@ -1,12 +1,11 @@
 -- Assumes nothing.
 use borrow.Author.Needs.{needs}
-use Rattle.start.specs.Leaves.{withLeaves}
-use Rattle.greedy.specs.Begin.{startWords}
+use Rattle.start.specs.Leaves.{withLeaves, startWords}
 use native.Mathlib.Omega.{arith}
 use mathlib.Core.Path.{ap, _∙_}
 use lib.ListN.{length}
-use Rattle.greedy.proofs.prepare.Statement.{statement}
-use Rattle.greedy.proofs.prepare.Tie as tie
+use Rattle.start.proofs.prepare.Statement.{statement}
+use Rattle.start.proofs.prepare.Tie as tie
 
 put-outside-requires : tie.Need-put-outside-requires
 put-outside-requires c κs = let p = c .before .before .before .before .before .before .before .before .before .before .before .pre in (p .0, p .1, omega (arith, p .2), p .3)

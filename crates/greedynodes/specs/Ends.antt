@@ -15,7 +15,7 @@ use Rattle.laws.specs.ListLaws.{range-length}
 use Rattle.merging.specs.Holds.{Given, Ghost, stateOf, count-trees, used-slots}
 use Rattle.merging.specs.Connect.{Final, Connected, tooWide, ended}
 use Rattle.rest.specs.Joined.{Rest, Joined, builtOf}
-use Rattle.greedy.specs.Begin.{Asks, given, ghost, state-is}
+use Rattle.greedynodes.specs.Begin.{Asks, given, ghost, state-is}
 
 -- what greedy over a list of leaves answers: 65536 if it is refused, and else the number of the tree that is built; the array's children
 -- stand at the front of `kids`

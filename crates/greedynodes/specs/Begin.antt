@@ -31,8 +31,8 @@ use Rattle.merging.specs.Listed.{listed, stateAt}
 use Rattle.merging.specs.Ruled.{outer}
 use Rattle.merging.specs.Holds.{Given, Ghost, listsOf}
 use Rattle.merging.specs.Connect.{Start}
-use Rattle.start.specs.Leaves.{withLeaves, leaves-length, leaves-held, leaves-other, withInside, outsideSet, withOutside, withSizes, putAll, put-length, put-at}
-use Rattle.greedy.specs.Lends.{Lends, among-memb, leaf-size, others-named}
+use Rattle.start.specs.Leaves.{startWords, withLeaves, leaves-length, leaves-held, leaves-other, withInside, outsideSet, withOutside, withSizes, putAll, put-length, put-at}
+use Rattle.greedynodes.specs.Lends.{Lends, among-memb, leaf-size, others-named}
 
 -- ---- lists ----
 
@@ -85,10 +85,6 @@ leaves-forest n a l low =
     }
 
 -- ---- the start ----
-
--- the words of the start: what stays, and the leaves' sets
-unfoldable pub startWords : ℕ → ℕ → List ℕ → List ℕ → List ℕ → List ℕ → List ℕ → List ℕ
-startWords W n counts legs outputs leaves ws = withLeaves W counts legs leaves (withOutside W counts legs leaves ws outputs n) (length leaves)
 
 -- what the code asks of the lengths
 pub record Fits (w n made : ℕ) (weights outputs leaves ws : List ℕ) : Type 0 where
