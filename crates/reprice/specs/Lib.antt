@@ -1,0 +1,3 @@
+-- What it is for lent lists to hold a tree's price list, and what follows. Assumes nothing.
+pub mod Held
+pub mod Prices
