@@ -1,0 +1,72 @@
+// One visit of a node: its frontier, the search over it, the rebuild if it is cheaper, and then pricing again.
+ghost use mathlib.Core.Bool.{false, _&&_};
+ghost use mathlib.Core.Path.{_≡_};
+ghost use Prim.Native.Nat.{ℕ, _+_, _-_, _*_, _^_, _<_, _≤_};
+ghost use lib.Dec.{ltb};
+ghost use lib.ListN.{length, getD};
+ghost use lib.Seq.{sets as putAt};
+ghost use Rattle.spec.specs.Layout.{networkOf};
+ghost use Rattle.spec.specs.Calls.{flagAt, dangling};
+ghost use Rattle.spec.specs.Undercut.{undercuts};
+ghost use Rattle.network.specs.Checks.{Lent};
+ghost use Rattle.network.specs.Codes.{Facts};
+ghost use Rattle.subset.specs.Search.{limitOf};
+ghost use Rattle.reprice.specs.Held.{Room, Standing};
+ghost use Rattle.reconf.specs.Locals.{localsIn};
+ghost use Rattle.reconf.specs.Visits.{Searches, Reconfs, Visits};
+use subset::Searched;
+
+// Writes the unsliced indices that one of the `m` members lists to the front of `local`, rising, and returns how many they are.
+fn local_list(
+    words: &mut [u64],
+    sets: &[u64],
+    flags: &[u8],
+    members: &[u16],
+    m: usize,
+    local: &mut [u16],
+) -> usize
+    requires { ⌜ 4 ≤ length (now words) ⌝ }
+    ensures { λ r. ⌜ (r ≡ length (localsIn (now (sets .entry)) (now (members .entry)) m (now (flags .entry)))) × (now (local .exit) ≡ putAt (now (local .entry)) 0 (localsIn (now (sets .entry)) (now (members .entry)) m (now (flags .entry)))) ⌝ }
+{
+    let mut sliced = [0u64; 4];
+    locals::flag_set(&mut sliced, 4, 0, flags);
+    locals::local_indices(words, 4, sets, &sliced, members, m, local)
+}
+
+// Searches the subsets of the `m` members of node `v`, in the numbers of the `c` local indices.
+fn search_region(
+    words: &mut [u64],
+    sets: &[u64],
+    weights: &[u8],
+    v: usize,
+    members: &[u16],
+    m: usize,
+    local: &[u16],
+    c: usize,
+    limit: u64,
+) -> Searched
+    requires { ⌜ (v < 1048576) × (1 ≤ m) × (m ≤ 12) × (7 * 2 ^ m ≤ length (now words)) × ((i : ℕ) → i < c → getD (now weights) (getD (now local) i 0) 0 ≤ 8) ⌝ }
+    ensures { λ r. ⌜ Searches (now (sets .entry)) (now (members .entry)) (now (local .entry)) (now (weights .entry)) v m c limit (now (words .exit)) (r .cost) (r .tried) ⌝ }
+{
+    let mut local_bits = [0u8; 128];
+    locals::local_weights(&mut local_bits, weights, local, c);
+    locals::local_sets(words, sets, 4, v, members, m, local, c);
+    subset::search(words, &local_bits, limit, m)
+}
+
+// Is a tree of that cost found, and so much cheaper that the region is rebuilt.
+fn accepts(cost: u64, old: u64) -> bool
+    requires { ⌜ old < 2 ^ 53 ⌝ }
+    ensures { λ r. ⌜ r ≡ (ltb cost 9007199254740992 && undercuts cost old) ⌝ }
+{
+    if cost < 9007199254740992 {
+        return rebuild::undercuts(cost, old);
+    }
+    false
+}
+
+// What a visit did: how many rebuilds, how many splits tried.
+pub struct Visit {
+    pub rebuilt: u64,
+    pub tried: u64,
+}
