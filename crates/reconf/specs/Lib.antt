@@ -4,3 +4,6 @@ pub mod Spots
 pub mod Grafts
 pub mod Locals
 pub mod Parts
+pub mod Cases
+pub mod Node
+pub mod Settled
