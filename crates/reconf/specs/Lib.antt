@@ -7,3 +7,4 @@ pub mod Parts
 pub mod Cases
 pub mod Node
 pub mod Settled
+pub mod Again
