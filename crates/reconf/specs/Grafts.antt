@@ -2,7 +2,7 @@
 use mathlib.Core.Bool.{Bool, cond}
 use mathlib.Core.List.{List, [], _∷_, map}
 use mathlib.Core.Option.{none}
-use mathlib.Core.Path.{_≡_, refl, sym, ap, _∙_, subst}
+use mathlib.Core.Path.{_≡_, refl, ap, ap₂, _∙_}
 use Prim.Native.Nat.{ℕ, zero, suc, _+_, _-_, _≤_, _<_}
 use native.Mathlib.Nat.{lt-of-not-le}
 use native.Mathlib.Omega.{arith}
@@ -17,9 +17,9 @@ use Rattle.spec.specs.Tree.{Tree, leaf, node, number, numbers, Pair, Describes,
 use Rattle.spec.specs.Improve.{Region, one, join, Front, member, Rebuilt, build, graft, subtree}
 use Rattle.laws.specs.Booleans.{by-cases}
 use Rattle.laws.specs.ListLaws.{sum-map, count-memb, count-not-memb}
-use Rattle.laws.specs.Regions.{sum-places, joins, over, build-length, build-sum, count-node, Swapped, graft-swapped, swapped-part, swapped-number, swapped-sum}
+use Rattle.laws.specs.Regions.{sum-places, joins, over, build-length, build-sum, count-node, Swapped, here, onLeft, onRight, graft-swapped, swapped-part, swapped-number, swapped-sum}
 use Rattle.laws.specs.Rebuilds.{Kept, kept-count, FrontOf, build-kept}
-use Rattle.laws.specs.ArrayRebuild.{Wrote, buildArray, Same, times, Written, Each, build-writes, swapped-described}
+use Rattle.laws.specs.ArrayRebuild.{Wrote, write, buildArray, Same, times, Written, Each, build-writes, swapped-described}
 use Rattle.laws.specs.Arrays.{valid-once}
 use Rattle.frontier.specs.Fronts.{Read, IsNode}
 use Rattle.reprice.specs.Laws.{Spot}
@@ -27,6 +27,32 @@ use Rattle.reprice.specs.Laws.{Spot}
 pub each-all : (P : ℕ → Type 0) → ((p : ℕ) → P p) → (x : Region) → Each P x
 each-all P h (one p) = h p
 each-all P h (join x y) = (each-all P h x, each-all P h y)
+
+-- numbers that agree on a region's members build the same array
+pub build-same : (n : ℕ) (xs ys : List ℕ) (x : Region) → Each (λ p. getD xs p 0 ≡ getD ys p 0) x → (sl : List ℕ) (a : List Pair)
+    → buildArray n xs x sl a ≡ buildArray n ys x sl a
+build-same n xs ys (one p) h sl a = λ i. record { array = a; top = h i; slots = sl }
+build-same n xs ys (join x y) h sl a =
+    let P : Wrote = buildArray n xs x sl a in
+    let Q : Wrote = buildArray n ys x sl a in
+    let e : P ≡ Q = build-same n xs ys x (h .0) sl a in
+    ap₂ (λ (p q : Wrote). write n (q .array) (p .top) (q .top) (q .slots)) e
+    (ap (λ (p : Wrote). buildArray n xs y (p .slots) (p .array)) e ∙ build-same n xs ys y (h .1) (Q .slots) (Q .array))
+
+-- a test that fails nowhere on a region
+pub none-over : (f : ℕ → ℕ) (x : Region) → over f x ≡ 0 → Each (λ p. f p ≡ 0) x
+none-over f (one p) h = h
+none-over f (join x y) h = (none-over f x (omega arith), none-over f y (omega arith))
+
+pub each-map : (P Q : ℕ → Type 0) → ((p : ℕ) → P p → Q p) → (x : Region) → Each P x → Each Q x
+each-map P Q f (one p) h = f p h
+each-map P Q f (join x y) h = (each-map P Q f x (h .0), each-map P Q f y (h .1))
+
+-- a subtree replaced by itself
+pub swapped-same : {s t t′ : Tree} → Swapped s s t t′ → t′ ≡ t
+swapped-same here = refl
+swapped-same (onLeft {u = u} {r = r} w) = ap (λ x. node u x r) (swapped-same w)
+swapped-same (onRight {u = u} {l = l} w) = ap (λ x. node u l x) (swapped-same w)
 
 -- the numbers of opened nodes are inner nodes'
 pub opened-inner : (N : Network) (flag : ℕ → Bool) (kids works : List ℕ) (n : ℕ) (ts : List Tree) → All (λ t. Read N flag kids works n t × IsNode N flag kids works n t) ts

@@ -4,3 +4,7 @@ pub mod Spots
 pub mod Grafts
 pub mod Locals
 pub mod Parts
+pub mod Cases
+pub mod Node
+pub mod Settled
+pub mod Again

@@ -55,7 +55,7 @@ any-end f k (suc m) =
     ∙ ap (λ i. (f k || anyb f (from (suc k) m)) || f i) (let z : suc k + m ≡ k + suc m = omega arith in z)
 
 -- what stands at the front of a list that a shorter one was written to
-put-at : (old l : List ℕ) (i : ℕ) → length l ≤ length old → i < length l → getD (putAt old 0 l) i 0 ≡ getD l i 0
+pub put-at : (old l : List ℕ) (i : ℕ) → length l ≤ length old → i < length l → getD (putAt old 0 l) i 0 ≡ getD l i 0
 put-at old l i h b =
     ap (λ x. getD x i 0) (sets-eq l old 0 (omega arith)) ∙ List·getD-append l (drop (0 + length l) old) 0 i b
 
@@ -99,7 +99,7 @@ module _ (N : Network) (flags : List ℕ) (s : Tree) (fr : Front) (sets members 
     abbrev L : List ℕ
     L = localsOf N (flagAt flags) s fr
 
-    in-range : (i : ℕ) → i < length L → getD L i 0 < indexCount N
+    pub in-range : (i : ℕ) → i < length L → getD L i 0 < indexCount N
     in-range i h =
         omega (
           arith,

@@ -43,3 +43,12 @@ module _ (cost : ℕ) (u : Bool) where
 
   pub accept-none : 9007199254740992 ≤ cost → false ≡ (ltb cost 9007199254740992 && u)
   accept-none h = rw (le-ltb cost 9007199254740992 h)
+
+-- an answer that was negated
+pub not-not : (b : Bool) → not b ≡ true → b ≡ false
+not-not true h = sym h
+not-not false h = refl
+
+pub not-no : (b : Bool) → not b ≡ false → b ≡ true
+not-no true h = refl
+not-no false h = sym h

@@ -5,6 +5,7 @@ ghost use Prim.Native.Nat.{ℕ, _+_, _-_, _*_, _^_, _<_, _≤_};
 ghost use lib.Dec.{ltb};
 ghost use lib.ListN.{length, getD};
 ghost use lib.Seq.{sets as putAt};
+ghost use Rattle.spec.specs.Network.{Network};
 ghost use Rattle.spec.specs.Layout.{networkOf};
 ghost use Rattle.spec.specs.Calls.{flagAt, dangling};
 ghost use Rattle.spec.specs.Undercut.{undercuts};
@@ -13,6 +14,7 @@ ghost use Rattle.network.specs.Codes.{Facts};
 ghost use Rattle.subset.specs.Search.{limitOf};
 ghost use Rattle.reprice.specs.Held.{Room, Standing};
 ghost use Rattle.reconf.specs.Locals.{localsIn};
+ghost use Rattle.reconf.specs.Node.{Visitable};
 ghost use Rattle.reconf.specs.Visits.{Searches, Reconfs, Visits};
 use subset::Searched;
 
@@ -66,7 +68,113 @@ fn accepts(cost: u64, old: u64) -> bool
 }
 
 // What a visit did: how many rebuilds, how many splits tried.
-pub struct Visit {
+pub struct Visited {
     pub rebuilt: u64,
     pub tried: u64,
+}
+
+// Visits node `v` of the tree `kids` of `n` leaves, whose price list is at hand: the region below it, down to a frontier of at most `k` members, is
+// rebuilt in `kids` if a tree over the members is cheaper.
+pub fn reconf_node(
+    words: &mut [u64],
+    sets: &[u64],
+    works: &[u16],
+    kids: &mut [u16],
+    n: usize,
+    weights: &[u8],
+    flags: &[u8],
+    k: usize,
+    limit: u64,
+    v: u16,
+) -> Visited
+    requires { ⌜ ((N : Network) × Visitable N n (now weights) (now flags) (now kids) (now sets) (now works)) ⌝ }
+    requires { ⌜ (3 ≤ k) × (k ≤ 12) × (v < n + (n - 1)) × (4096 + 8 * 2 ^ k ≤ length (now words)) ⌝ }
+    ensures { λ r. ⌜ ((N : Network) → Visitable N n (now (weights .entry)) (now (flags .entry)) (now (kids .entry)) (now (sets .entry)) (now (works .entry)) → Reconfs N (flagAt (now (flags .entry))) k (limitOf limit) v (now (kids .entry)) (now (kids .exit)) (r .rebuilt) (r .tried)) ⌝ }
+{
+    let mut members = [0u16; 12];
+    let mut opened = [0u16; 12];
+    let m = frontier::frontier(kids, n, works, k, v, &mut members, &mut opened);
+    if m < 3 {
+        return Visited {
+            rebuilt: 0,
+            tried: 0,
+        };
+    }
+    let mut local = [0u16; 256];
+    let c = local_list(words, sets, flags, &members, m, &mut local);
+    if 128 < c {
+        return Visited {
+            rebuilt: 0,
+            tried: 0,
+        };
+    }
+    let found = search_region(
+        words,
+        sets,
+        weights,
+        v as usize,
+        &members,
+        m,
+        &local,
+        c,
+        limit,
+    );
+    let old = frontier::old_cost(works, &opened, m - 1);
+    if !accepts(found.cost, old) {
+        return Visited {
+            rebuilt: 0,
+            tried: found.tried,
+        };
+    }
+    let masks = subset::mask_count(m);
+    rebuild::build(words, masks, masks - 1, &members, &opened, m - 1, kids, n);
+    Visited {
+        rebuilt: 1,
+        tried: found.tried,
+    }
+}
+
+// Visits node `v`, and prices the tree again if it was rebuilt. `words` is worked in.
+pub fn visit<'a>(
+    words: &mut [u64],
+    sets: &mut [u64],
+    sizes: &mut [u16],
+    works: &mut [u16],
+    kids: &mut [u16],
+    m: usize,
+    n: usize,
+    o: usize,
+    weights: &'a [u8],
+    counts: &'a [u8],
+    legs: &'a [u16],
+    outputs: &'a [u16],
+    flags: &[u8],
+    k: usize,
+    limit: u64,
+    v: u16,
+) -> Visited
+    requires { ⌜ Lent (now weights) (now counts) (now legs) (now outputs) × Facts m n o (now weights) (now counts) (now legs) (now outputs) × (dangling (networkOf m n o (now weights) (now counts) (now legs) (now outputs)) ≡ false) × Room k (length (now words)) (length (now sets)) (length (now sizes)) (length (now works)) × (3 ≤ k) × (k ≤ 12) × (v < n + (n - 1)) ⌝ }
+    requires { ⌜ Standing (networkOf m n o (now weights) (now counts) (now legs) (now outputs)) (flagAt (now flags)) (now kids) (now sets) (now sizes) (now works) ⌝ }
+    ensures { λ r. ⌜ Visits (networkOf m n o (now (weights .entry)) (now (counts .entry)) (now (legs .entry)) (now (outputs .entry))) (flagAt (now (flags .entry))) k (limitOf limit) v (now (kids .entry)) (now (kids .exit)) (now (sets .exit)) (now (sizes .exit)) (now (works .exit)) (r .rebuilt) (r .tried) ⌝ }
+{
+    let r = reconf_node(words, sets, works, kids, n, weights, flags, k, limit, v);
+    if r.rebuilt == 0 {
+        return r;
+    }
+    reprice::reprice(
+        words,
+        sets,
+        sizes,
+        works,
+        m,
+        n,
+        o,
+        weights,
+        counts,
+        legs,
+        outputs,
+        flags,
+        kids,
+    );
+    r
 }
