@@ -1,0 +1,55 @@
+-- Assumes nothing.
+use borrow.Author.Needs.{needs}
+use lib.ListN.{drop}
+use Rattle.dangling.specs.Tally.{struck, strike-next, strike-end}
+use native.Mathlib.Omega.{arith}
+use Prim.Native.Nat.{ℕ, _+_, _-_, _*_, _<_, _≤_}
+use mathlib.Core.Path.{_≡_, refl, sym, ap, _∙_, subst}
+use lib.ListN.{length, getD, set, length-set}
+use Rattle.dangling.proofs.strike.Statement.{statement}
+use Rattle.dangling.proofs.strike.Tie as tie
+
+abbrev Inv-loop : tie.InvT-loop
+Inv-loop tally₀ row k₀ k-end tally k = (k-end ≡ length row) × (k ≤ k-end) × (length tally ≡ length tally₀) × (struck tally (drop k row) ≡ struck tally₀ row)
+
+abbrev μ-loop : tie.MeasureT-loop
+μ-loop tally₀ row k₀ k-end tally k = k-end - k
+
+loop-holds : tie.Need-loop-holds Inv-loop μ-loop
+loop-holds c = (refl, omega arith, refl, refl)
+
+at16-requires : tie.Need-at16-requires Inv-loop μ-loop
+at16-requires c κs = search needs
+
+put8-requires : tie.Need-put8-requires Inv-loop μ-loop
+put8-requires c κs = search needs
+
+add-k : tie.Need-add-k Inv-loop μ-loop
+add-k c = search needs
+
+loop-less : tie.Need-loop-less Inv-loop μ-loop
+loop-less c = search needs
+
+loop-again : tie.Need-loop-again Inv-loop μ-loop
+loop-again c = let a = c .before .before .before .before .before .before .before .before .before .args in let l = c .before .before .before .before .before .before .loop in (l .inv .0, omega arith, omega (arith, c .before .before .put8 .kept, l .inv .2), strike-next (l .tally) (a .row .now) _ (l .k) (l .inv .3) (c .before .before .put8 .last .0) (c .before .before .before .at16 .result) (omega (arith, l .inv .0)) (c .before .before .before .at16 .ensures .0) (c .before .before .put8 .ensures))
+
+same-length : tie.Need-same-length Inv-loop μ-loop
+same-length c = search needs
+
+returns : tie.Need-returns Inv-loop μ-loop
+returns c = let a = c .before .before .before .before .args in let l = c .before .loop in strike-end (l .tally) (a .row .now) _ (l .k) (l .inv .3) (omega (arith, l .inv .0))
+
+pub strike-spec : {M : Type 1} → statement M
+strike-spec =
+    tie.close
+    (tie.spec
+    Inv-loop
+    μ-loop
+    loop-holds
+    at16-requires
+    put8-requires
+    add-k
+    loop-less
+    loop-again
+    same-length
+    returns)

@@ -1,0 +1,2 @@
+-- Indices that just one leaf names. Assumes nothing.
+pub mod Tally

@@ -1,0 +1,2 @@
+-- Nodes by falling work. Assumes nothing.
+pub mod Sorted
