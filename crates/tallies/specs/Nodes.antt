@@ -35,7 +35,7 @@ pub record StepsKnown (W n : ℕ) (kids order sets works sums : List ℕ) : Type
   pub total : sumOf (λ v. 2 ^ getD works v 0) order < 9007199254740992
   pub small : Small 1152921504606846976 sums
 
-sum-le : (f g : ℕ → ℕ) (l : List ℕ) → ((v : ℕ) → f v ≤ g v) → sumOf f l ≤ sumOf g l
+pub sum-le : (f g : ℕ → ℕ) (l : List ℕ) → ((v : ℕ) → f v ≤ g v) → sumOf f l ≤ sumOf g l
 sum-le f g [] h = omega arith
 sum-le f g (x ∷ l) h = omega (arith, h x, sum-le f g l h)
 
