@@ -53,9 +53,12 @@ module _ {W m n o : ℕ} {weights counts rows outputs kids order : List ℕ} (p 
   pub widest-is : widestFrom (r .widest) ≡ widest N (flagAt flags) (listing N (flagAt flags) (pairsOf kids))
   widest-is = ap (λ (x : Prices). widestFrom (x .widest)) (q .answer) ∙ widest-back _
 
+  pub total-handed : totalFrom (r .total) ≡ upTo (work (listing N (flagAt flags) (pairsOf kids)))
+  total-handed = ap (λ (x : Prices). totalFrom (x .total)) (q .answer) ∙ total-back _
+
   module _ (exact : work (listing N (flagAt flags) (pairsOf kids)) < 9007199254740992) where
     pub total-is : exactOf (totalFrom (r .total)) ≡ work (listing N (flagAt flags) (pairsOf kids))
-    total-is = exact-total (totalFrom (r .total)) _ (ap (λ (x : Prices). totalFrom (x .total)) (q .answer) ∙ total-back _) exact
+    total-is = exact-total (totalFrom (r .total)) _ total-handed exact
 
     pub rankable : (total : ℕ) → total ≡ exactOf (totalFrom (r .total)) → Rankable W m n weights kids order sets sizes works total
     rankable total e =
