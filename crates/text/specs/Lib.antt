@@ -1,0 +1,3 @@
+-- The lines of a plan. Assumes nothing.
+pub mod Lists
+pub mod Lines
