@@ -1,3 +1,4 @@
 -- The lines of a plan. Assumes nothing.
 pub mod Lists
 pub mod Lines
+pub mod Plan
