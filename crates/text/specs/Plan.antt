@@ -35,7 +35,8 @@ use Rattle.pricing.specs.Promise.{PriceList, Pricing}
 use Rattle.cost.specs.declared.Priced.the-variants.{Done}
 use Rattle.cost.specs.Back.{pricesFrom, of-done}
 use Rattle.putfields.specs.Put.{Put}
-use Rattle.text.specs.Lists.{stepFrom, stepsFrom, printedFrom}
+use Rattle.steplines.specs.Steps.{stepFrom, stepsFrom}
+use Rattle.text.specs.Lists.{printedFrom}
 
 -- ---- the flat listing, number by number ----
 

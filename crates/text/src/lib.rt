@@ -6,7 +6,6 @@ ghost use Rattle.putfields.specs.Put.{Put};
 ghost use Rattle.text.specs.Lists.{printedFrom};
 
 pub mod figures; // figures.rt: the lines of total, widest, sliced indices and counts
-pub mod steps; // steps.rt: the lines of steps
 
 use pricing::Prices;
 
@@ -40,7 +39,7 @@ pub fn put_plan(
     let widest = prices.widest;
     let c = cells::less(n, 1);
     let listed = put_head(out, n, m);
-    let summed = steps::put_steps(out, listed, steps, c, sets, w, m);
+    let summed = steplines::put_steps(out, listed, steps, c, sets, w, m);
     let sized = figures::put_total(out, summed, total);
     let sliced = figures::put_widest(out, sized, widest);
     figures::put_counts(

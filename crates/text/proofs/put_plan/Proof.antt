@@ -1,8 +1,10 @@
 -- Assumes nothing.
 use borrow.Author.Needs.{needs}
 use Rattle.putfields.specs.Put.{put-length}
-use Rattle.text.specs.Lines.{put-same, plan-put}
-use Rattle.text.specs.Lists.{stepsFrom, printedFrom}
+use Rattle.steplines.specs.Lines.{put-same}
+use Rattle.text.specs.Lines.{plan-put}
+use Rattle.steplines.specs.Steps.{stepsFrom}
+use Rattle.text.specs.Lists.{printedFrom}
 use Rattle.spec.specs.Text.{linesOf, stepLine}
 use native.Mathlib.Omega.{arith}
 use Prim.Native.Nat.{ℕ, _+_, _-_, _*_, _<_, _≤_}

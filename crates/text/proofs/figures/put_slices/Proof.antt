@@ -1,6 +1,7 @@
 -- Assumes nothing.
 use borrow.Author.Needs.{needs}
-use Rattle.text.specs.Lines.{put-same, slices-none, slices-more}
+use Rattle.steplines.specs.Lines.{put-same}
+use Rattle.text.specs.Lines.{slices-none, slices-more}
 use Rattle.spec.specs.Text.{linesOf, sliceLine}
 use Rattle.spec.specs.Calls.{flagAt}
 use Rattle.spec.specs.Lists.{keep, range}

@@ -1,6 +1,6 @@
 -- Assumes nothing.
 use borrow.Author.Needs.{needs}
-use Rattle.text.specs.Lines.{put-same}
+use Rattle.steplines.specs.Lines.{put-same}
 use Rattle.cost.specs.Back.{totalFrom}
 use Rattle.spec.specs.Text.{totalLine}
 use native.Mathlib.Omega.{arith}

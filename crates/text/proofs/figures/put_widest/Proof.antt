@@ -1,6 +1,6 @@
 -- Assumes nothing.
 use borrow.Author.Needs.{needs}
-use Rattle.text.specs.Lines.{put-same}
+use Rattle.steplines.specs.Lines.{put-same}
 use Rattle.cost.specs.Back.{widestFrom}
 use Rattle.spec.specs.Text.{widestLine}
 use native.Mathlib.Omega.{arith}

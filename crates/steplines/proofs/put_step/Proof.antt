@@ -1,12 +1,12 @@
 -- Assumes nothing.
 use borrow.Author.Needs.{needs}
-use Rattle.text.specs.Lines.{step-put}
+use Rattle.steplines.specs.Lines.{step-put}
 use native.Mathlib.Omega.{arith}
 use Prim.Native.Nat.{ℕ, _+_, _-_, _*_, _<_, _≤_}
 use mathlib.Core.Path.{_≡_, refl, sym, ap, _∙_, subst}
 use lib.ListN.{length, getD, set, length-set}
-use Rattle.text.proofs.steps.put_step.Statement.{statement}
-use Rattle.text.proofs.steps.put_step.Tie as tie
+use Rattle.steplines.proofs.put_step.Statement.{statement}
+use Rattle.steplines.proofs.put_step.Tie as tie
 
 mul-a : tie.Need-mul-a
 mul-a c = search needs

@@ -1,12 +1,12 @@
 -- Assumes nothing.
 use borrow.Author.Needs.{needs}
-use Rattle.text.specs.Lines.{member-in, member-out}
+use Rattle.steplines.specs.Lines.{member-in, member-out}
 use native.Mathlib.Omega.{arith}
 use Prim.Native.Nat.{ℕ, _+_, _-_, _*_, _<_, _≤_}
 use mathlib.Core.Path.{_≡_, refl, sym, ap, _∙_, subst}
 use lib.ListN.{length, getD, set, length-set}
-use Rattle.text.proofs.steps.put_member.Statement.{statement}
-use Rattle.text.proofs.steps.put_member.Tie as tie
+use Rattle.steplines.proofs.put_member.Statement.{statement}
+use Rattle.steplines.proofs.put_member.Tie as tie
 
 has-requires : tie.Need-has-requires
 has-requires c κs = search needs

@@ -1,4 +1,4 @@
-// The lines of steps.
+// The lines of a plan's steps, from the flat listing and the nodes' sets.
 ghost use mathlib.Core.Bool.{cond};
 ghost use mathlib.Core.List.{_∷_, []};
 ghost use Prim.Native.Nat.{_+_, _*_, _<_, _≤_};
@@ -7,7 +7,7 @@ ghost use Rattle.spec.specs.Lists.{keep, range};
 ghost use Rattle.spec.specs.Text.{spaced, linesOf, stepLine};
 ghost use Rattle.slots.specs.Slots.{held};
 ghost use Rattle.putfields.specs.Put.{Put};
-ghost use Rattle.text.specs.Lists.{stepFrom, stepsFrom};
+ghost use Rattle.steplines.specs.Steps.{stepFrom, stepsFrom};
 
 // The index j, if it is in slot v.
 fn put_member(out: &mut [u8], at: usize, sets: &[u64], w: usize, v: usize, j: usize) -> usize

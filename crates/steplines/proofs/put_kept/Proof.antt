@@ -1,6 +1,6 @@
 -- Assumes nothing.
 use borrow.Author.Needs.{needs}
-use Rattle.text.specs.Lines.{kept-length, kept-none, kept-more, kept-end}
+use Rattle.steplines.specs.Lines.{kept-length, kept-none, kept-more, kept-end}
 use Rattle.slots.specs.Slots.{held}
 use Rattle.spec.specs.Text.{spaced}
 use Rattle.spec.specs.Lists.{keep, range}
@@ -9,8 +9,8 @@ use native.Mathlib.Omega.{arith}
 use Prim.Native.Nat.{ℕ, _+_, _-_, _*_, _<_, _≤_}
 use mathlib.Core.Path.{_≡_, refl, sym, ap, _∙_, subst}
 use lib.ListN.{length, getD, set, length-set}
-use Rattle.text.proofs.steps.put_kept.Statement.{statement}
-use Rattle.text.proofs.steps.put_kept.Tie as tie
+use Rattle.steplines.proofs.put_kept.Statement.{statement}
+use Rattle.steplines.proofs.put_kept.Tie as tie
 
 abbrev Inv-loop : tie.InvT-loop
 Inv-loop out₀ at sets w v m next₀ j₀ out next j = (j ≤ m) × Put out₀ out at next (spaced (keep (held sets w v) (range j)))

@@ -1,15 +1,15 @@
 -- Assumes nothing.
 use borrow.Author.Needs.{needs}
-use Rattle.text.specs.Lines.{put-same, steps-none, steps-more}
-use Rattle.text.specs.Lists.{stepsFrom}
+use Rattle.steplines.specs.Lines.{put-same, steps-none, steps-more}
+use Rattle.steplines.specs.Steps.{stepsFrom}
 use Rattle.spec.specs.Text.{linesOf, stepLine}
 use Rattle.putfields.specs.Put.{Put, put-length}
 use native.Mathlib.Omega.{arith}
 use Prim.Native.Nat.{ℕ, _+_, _-_, _*_, _<_, _≤_}
 use mathlib.Core.Path.{_≡_, refl, sym, ap, _∙_, subst}
 use lib.ListN.{length, getD, set, length-set}
-use Rattle.text.proofs.steps.put_steps.Statement.{statement}
-use Rattle.text.proofs.steps.put_steps.Tie as tie
+use Rattle.steplines.proofs.put_steps.Statement.{statement}
+use Rattle.steplines.proofs.put_steps.Tie as tie
 
 abbrev Inv-loop : tie.InvT-loop
 Inv-loop out₀ at steps n sets w m next₀ k₀ out next k = (k ≤ n) × Put out₀ out at next (linesOf stepLine (stepsFrom steps sets w m k)) × (next ≤ at + k * 949)

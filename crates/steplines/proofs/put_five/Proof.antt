@@ -1,12 +1,12 @@
 -- Assumes nothing.
 use borrow.Author.Needs.{needs}
-use Rattle.text.specs.Lines.{five-put}
+use Rattle.steplines.specs.Lines.{five-put}
 use native.Mathlib.Omega.{arith}
 use Prim.Native.Nat.{ℕ, _+_, _-_, _*_, _<_, _≤_}
 use mathlib.Core.Path.{_≡_, refl, sym, ap, _∙_, subst}
 use lib.ListN.{length, getD, set, length-set}
-use Rattle.text.proofs.steps.put_five.Statement.{statement}
-use Rattle.text.proofs.steps.put_five.Tie as tie
+use Rattle.steplines.proofs.put_five.Statement.{statement}
+use Rattle.steplines.proofs.put_five.Tie as tie
 
 put-entry-requires : tie.Need-put-entry-requires
 put-entry-requires c κs = search needs

@@ -1,12 +1,12 @@
 -- Assumes nothing.
 use borrow.Author.Needs.{needs}
-use Rattle.text.specs.Lines.{entry-put}
+use Rattle.steplines.specs.Lines.{entry-put}
 use native.Mathlib.Omega.{arith}
 use Prim.Native.Nat.{ℕ, _+_, _-_, _*_, _<_, _≤_}
 use mathlib.Core.Path.{_≡_, refl, sym, ap, _∙_, subst}
 use lib.ListN.{length, getD, set, length-set}
-use Rattle.text.proofs.steps.put_entry.Statement.{statement}
-use Rattle.text.proofs.steps.put_entry.Tie as tie
+use Rattle.steplines.proofs.put_entry.Statement.{statement}
+use Rattle.steplines.proofs.put_entry.Tie as tie
 
 at16-requires : tie.Need-at16-requires
 at16-requires c κs = search needs
