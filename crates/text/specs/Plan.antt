@@ -6,8 +6,8 @@ use Prim.Native.Nat.{ℕ, zero, suc, _+_, _*_, _-_, _≤_, _<_}
 use native.Mathlib.Nat.{zero-add}
 use native.Mathlib.Omega.{arith}
 use lib.Dec.{eqb}
-use lib.ListN.{length, getD, take}
-use lib.Seq.{ext-getD}
+use lib.ListN.{length, getD, take, drop}
+use lib.Seq.{ext-getD, take-at}
 use Rattle.spec.specs.Lists.{memb, range, keep}
 use Rattle.spec.specs.Members.{All}
 use Rattle.spec.specs.Memory.{over, placed}
@@ -25,7 +25,7 @@ use Rattle.laws.specs.Results.{done-same}
 use Rattle.laws.specs.Walks.{valid-tree}
 use Rattle.laws.specs.Arrays.{valid-inner}
 use Rattle.laws.specs.OrderLaws.{valid-length, listing-length, listing-is-order}
-use Rattle.cells.specs.Cells.{over-at}
+use Rattle.cells.specs.Cells.{over-at, over-fits}
 use Rattle.slots.specs.Slots.{held}
 use Rattle.network.specs.Layouts.{map-range-at, map-range-length}
 use Rattle.nodesets.specs.Sets.{held-withSets}
@@ -181,3 +181,8 @@ module _ (W : ℕ) (N : Network) (flags : List ℕ) (a : List Pair) (fine : vali
       let e : Put out after 0 n (planText (printed N (planFrom a flags improved splits))) =
       subst (λ (x : Printed). Put out after 0 n (planText x)) plan-printed q in
       (e .bytes, e .past ∙ zero-add (length (planText (printed N (planFrom a flags improved splits)))))
+
+-- a buffer that is long enough begins with the text
+pub text-front : {after : List ℕ} {n : ℕ} (out text : List ℕ) → after ≡ over out text → n ≡ length text → n ≤ length out → take n after ≡ text
+text-front {after} {n} out text e f h =
+    ap (take n) (e ∙ over-fits out text (omega arith)) ∙ take-at text (drop (length text) out) n (sym f)

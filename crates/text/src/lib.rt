@@ -9,6 +9,9 @@ pub mod figures; // figures.rt: the lines of total, widest, sliced indices and c
 
 use pricing::Prices;
 
+// No text is longer.
+pub const BYTES: usize = 131072;
+
 fn put_head(out: &mut [u8], leaves: usize, indices: usize) -> usize
     ensures { λ r. ⌜ Put (now (out .entry)) (now (out .exit)) 0 r (planLine leaves indices) × (r ≤ 47) ⌝ }
 {
@@ -18,8 +21,8 @@ fn put_head(out: &mut [u8], leaves: usize, indices: usize) -> usize
     digits::put_byte(out, end, 10)
 }
 
-// The plan of n leaves and m indices with what pricing handed out (w words a set), the flags and improvement's counts. No text is longer than
-// 131,072 bytes; a buffer that is shorter than the text gets its front.
+// The plan of n leaves and m indices with what pricing handed out (w words a set), the flags and improvement's counts. A
+// buffer that is shorter than the text gets its front.
 pub fn put_plan(
     out: &mut [u8],
     n: usize,
