@@ -2,3 +2,5 @@
 pub mod Lists
 pub mod Lines
 pub mod Plan
+pub mod Flags
+pub mod Output
