@@ -1,6 +1,7 @@
 //! The port beside the Rust that it comes from. See README.md.
 
 mod bench;
+mod bisect;
 mod case;
 mod compare;
 mod edges;
@@ -25,7 +26,7 @@ use std::process::ExitCode;
 /// The crate whose input and output `record` writes.
 const REPLAY: &str = concat!(env!("CARGO_MANIFEST_DIR"), "/../crates/replay");
 
-const USAGE: &str = "usage: harness compare [NETWORKS [SEED]] | bench | record";
+const USAGE: &str = "usage: harness compare [NETWORKS [SEED]] | bisect [NETWORKS [SEED [LEAVES]]] | bench | record";
 
 fn compare(count: usize, seed: u64) -> ExitCode {
     if !port::AT_HAND {
@@ -54,6 +55,13 @@ fn main() -> ExitCode {
     let number = |k: usize, usual: u64| words.get(k).map_or(Some(usual), |word| word.parse().ok());
     match (words.first().map(String::as_str), number(1, 100_000), number(2, 1)) {
         (Some("compare"), Some(count), Some(seed)) => compare(count as usize, seed),
+        (Some("bisect"), Some(count), Some(seed)) => match bisect::run(count as usize, seed, number(3, 128).unwrap_or(128) as usize) {
+            Ok(()) => ExitCode::SUCCESS,
+            Err(error) => {
+                eprintln!("{error}");
+                ExitCode::FAILURE
+            }
+        },
         (Some("bench"), ..) => {
             bench::run();
             ExitCode::SUCCESS
