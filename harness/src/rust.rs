@@ -181,7 +181,7 @@ mod compiled {
         draws::lend(words);
         let tree = path::bisection(&hypergraph(network), &params, 0);
         let taken = draws::taken();
-        Some(Run { children: tree.children, taken: taken.words, missed: taken.missed })
+        Some(Run { children: tree.children, taken: taken.words.len(), missed: taken.missed })
     }
 
     pub fn tree_cost_call<'a>(case: &Case) -> Call<'a> {

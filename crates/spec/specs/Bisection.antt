@@ -1,5 +1,5 @@
 -- Recursive multilevel bisection: `initial`, `bisect`, `bisect_rec`, `bisection`. Definitions only. Assumes nothing.
-use mathlib.Core.Bool.{Bool, true, false, _||_, cond}
+use mathlib.Core.Bool.{Bool, true, false, not, _||_, cond}
 use mathlib.Core.List.{List, [], _∷_, _++_, map}
 use mathlib.Core.Option.{Option, none, some}
 use Prim.Native.Nat.{ℕ, zero, suc, _-_, max}
@@ -165,9 +165,19 @@ pub record Halved : Type 0 where
 abbrev pub withWords : Words → Result Built → Result Halved
 withWords ws r = andThen r (λ b. done (record { built = b; words = ws }))
 
--- the leaves whose vertex is on side s
-abbrev pub onSide : List ℕ → ℕ → List ℕ → List ℕ
-onSide part s leaves = map (λ v. getD leaves v 0) (keep (λ v. eqb (sideOf part v) s) (range (length leaves)))
+-- the members whose place passes a test, the first one's place being k
+abbrev pub membersAt : (ℕ → Bool) → ℕ → List ℕ → List ℕ
+membersAt p k [] = []
+membersAt p k (l ∷ ls) =
+    let rest = membersAt p (suc k) ls in
+    cond (p k) (l ∷ rest) rest
+
+-- the two halves of a list of leaves: side 0 goes left
+abbrev pub leftHalf : List ℕ → List ℕ → List ℕ
+leftHalf part leaves = membersAt (λ v. eqb (sideOf part v) 0) 0 leaves
+
+abbrev pub rightHalf : List ℕ → List ℕ → List ℕ
+rightHalf part leaves = membersAt (λ v. not (eqb (sideOf part v) 0)) 0 leaves
 
 module _ (N : Network) (eps : Float) (cutoff : ℕ) where
   -- small ends: greedy over the leaves
@@ -186,8 +196,8 @@ module _ (N : Network) (eps : Float) (cutoff : ℕ) where
   -- 13 if a draw was due and no word was left; a partition with an empty side is no bisection
   abbrev pub split : (List ℕ → List Pair → Words → Result Halved) → List ℕ → List Pair → Drawn (List ℕ) → Result Halved
   split go leaves a d =
-      let left = onSide (d .value) 0 leaves in
-      let right = onSide (d .value) 1 leaves in
+      let left = leftHalf (d .value) leaves in
+      let right = rightHalf (d .value) leaves in
       let whole = smallEnd leaves a (d .words) in
       let parts = halves go left right a (d .words) in
       let answer = cond (eqb (length left) 0 || eqb (length right) 0) whole parts in
