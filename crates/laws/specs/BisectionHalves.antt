@@ -42,7 +42,7 @@ members-all P p k (x ∷ l) h =
     (λ e. rw e (h .0, members-all P p (suc k) l (h .1)))
     (λ e. rw e (members-all P p (suc k) l (h .1)))
 
-abbrev onZero : List ℕ → ℕ → Bool
+abbrev pub onZero : List ℕ → ℕ → Bool
 onZero part v = eqb (sideOf part v) 0
 
 pub halves-length : (part leaves : List ℕ) → length (leftHalf part leaves) + length (rightHalf part leaves) ≡ length leaves
