@@ -95,6 +95,12 @@ one-more : bisection (network ((2 ∷ []) ∷ (2 ∷ []) ∷ (3 ∷ []) ∷ []) 
 unfolding bisection bisect initial coarsen fm gain cut hypergraphOf unitOf roundTo roundAway greedyFrom kept named round add sub mul div neg lt le eq ofInt
 one-more = refl
 
+-- the Rust has [1, 0] here, since an empty list of f64 sums to −0.0: see docs/DIFFERENCES.md
+small-end : bisection (network ((0 ∷ []) ∷ [] ∷ (1 ∷ []) ∷ []) [] (0 ∷ 1 ∷ [])) 200 2 (multiples 0 48)
+    ≡ done (record { pairs = pair 0 1 ∷ pair 2 3 ∷ []; taken = 48 })
+unfolding bisection bisect initial coarsen fm gain cut hypergraphOf unitOf roundTo roundAway greedyFrom kept named round add sub mul div neg lt le eq ofInt
+small-end = refl
+
 -- ---- the imbalance, clamped ----
 
 clamped-low : imbalance 0 ≡ decimal 1 1000
