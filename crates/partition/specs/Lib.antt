@@ -1,1 +1,3 @@
 pub mod Common
+pub mod Folds
+pub mod Layout

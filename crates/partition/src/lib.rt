@@ -1,10 +1,11 @@
 // Hypergraphs in slots of lent words, and partitions of their vertices: gains and cuts.
 ghost use mathlib.Core.Path.{_≡_};
 ghost use Prim.Native.Nat.{_<_, _≤_};
-ghost use lib.ListN.{length};
+ghost use lib.ListN.{length, take};
 ghost use Rattle.spec.specs.Floats.{wholeFloat};
 ghost use Rattle.spec.specs.Fm.{gainNet};
 ghost use Rattle.partition.specs.Common.{commonOf};
+ghost use Rattle.partition.specs.Layout.{gainStep, gainSum};
 
 // How many members slots `a` and `b` have in common.
 pub fn common(words: &[u64], w: usize, a: usize, b: usize) -> usize
@@ -35,6 +36,44 @@ fn gain_net(here: usize, there: usize, w: u8, g: f64) -> f64
     }
     if there == 0 {
         return g - x;
+    }
+    g
+}
+
+// The gain with net `e`, whose weight is in `weights`: slots `here` and `there` are the vertex's side and the other.
+fn gain_step(
+    words: &[u64],
+    nets: usize,
+    here: usize,
+    there: usize,
+    weights: &[u8],
+    e: usize,
+    g: f64,
+) -> f64
+    requires { ⌜ (nets < 65536) × (here < 65536) × (there < 65536) × (e < 65536) ⌝ }
+    ensures { λ r. ⌜ r ≡ gainStep (now (words .entry)) nets here there (now (weights .entry)) e g ⌝ }
+{
+    let x = common(words, 2, nets + e, here);
+    let y = common(words, 2, nets + e, there);
+    gain_net(x, y, cells::get8(weights, e), g)
+}
+
+// The gain with the first `count` nets of a list.
+fn gain_sum(
+    words: &[u64],
+    nets: usize,
+    here: usize,
+    there: usize,
+    weights: &[u8],
+    list: &[u16],
+    count: usize,
+) -> f64
+    requires { do ⌜ (nets < 65536) × (here < 65536) × (there < 65536) × (count ≤ (← ⟦list.len()⟧)) ⌝ }
+    ensures { λ r. ⌜ r ≡ gainSum (now (words .entry)) nets here there (now (weights .entry)) (take count (now (list .entry))) ⌝ }
+{
+    let mut g = 0.0;
+    for k in 0..count {
+        g = gain_step(words, nets, here, there, weights, cells::at16(list, k), g);
     }
     g
 }
