@@ -5,7 +5,8 @@ ghost use lib.ListN.{length, take};
 ghost use Rattle.spec.specs.Floats.{wholeFloat};
 ghost use Rattle.spec.specs.Fm.{gainNet};
 ghost use Rattle.partition.specs.Common.{commonOf};
-ghost use Rattle.partition.specs.Layout.{gainStep, gainSum};
+ghost use Rattle.partition.specs.Layout.{Laid, gainStep, gainSum};
+ghost use Rattle.partition.specs.Gains.{IsGain};
 
 // How many members slots `a` and `b` have in common.
 pub fn common(words: &[u64], w: usize, a: usize, b: usize) -> usize
@@ -76,4 +77,26 @@ fn gain_sum(
         g = gain_step(words, nets, here, there, weights, cells::at16(list, k), g);
     }
     g
+}
+
+// The gain of the move of vertex `v`, in a hypergraph of `m` nets and `n` vertices. The list is for the nets of `v`.
+pub fn gain(
+    words: &[u64],
+    nets: usize,
+    vertices: usize,
+    sides: usize,
+    m: usize,
+    n: usize,
+    weights: &[u8],
+    v: usize,
+    list: &mut [u16],
+) -> f64
+    requires { do ⌜ (nets < 32768) × (vertices < 32768) × (sides < 32768) × (v < n) × (256 ≤ (← ⟦list.len()⟧)) × Laid (now words) nets vertices sides m n ⌝ }
+    ensures { λ r. ⌜ IsGain (now (words .entry)) nets sides m n (now (weights .entry)) v r ⌝ }
+{
+    let count = slots::members(words, 4, vertices + v, list, 0);
+    if slots::has(words, 2, sides + 1, v) {
+        return gain_sum(words, nets, sides + 1, sides, weights, list, count);
+    }
+    gain_sum(words, nets, sides, sides + 1, weights, list, count)
 }
