@@ -1,12 +1,13 @@
 -- Refinement of a partition by moves of single vertices (Fiduccia and Mattheyses): `fm`. Definitions only. Assumes nothing.
--- The Rust has a heap of entries (key, stamp, vertex), and passes over those that are stale. Here are just the live ones, at most one a vertex.
+-- The Rust has a heap of entries (key, stamp, vertex), and passes over those that are stale. Here each vertex has at most one entry.
 use mathlib.Core.Bool.{Bool, true, false, not, _&&_, _||_, cond}
 use mathlib.Core.List.{List, [], _∷_}
+use mathlib.Core.Option.{Option, none, some}
 use Prim.Native.Nat.{ℕ, zero, suc, _+_, _-_, _*_, _/_}
 use lib.Dec.{eqb, ltb}
 use lib.ListN.{length, getD, set, take, replicate}
 use lib.Ieee.{Float, binary64, add, sub, mul, lt, le, eq}
-use Rattle.spec.specs.Lists.{memb, keep, range}
+use Rattle.spec.specs.Lists.{memb, range}
 use Rattle.spec.specs.Floats.{zeroFloat, micro, nano, roundTo}
 use Rattle.spec.specs.Draws.{Words, Drawn, drawn, unitDraw}
 use Rattle.spec.specs.Hypergraph.{until, foldOver, Net, Hypergraph, vertexCount, vertexWeight, netsAt, allPins, sideOf, otherSide, pinsOn, Sides, sidesOf, sideWeight, moved}
@@ -40,18 +41,34 @@ above e f =
     lt (f .key) (e .key)
     || (eq (e .key) (f .key) && (ltb (f .stamp) (e .stamp) || (eqb (e .stamp) (f .stamp) && ltb (f .vertex) (e .vertex))))
 
-abbrev pub largest : Entry → List Entry → Entry
-largest e [] = e
-largest e (f ∷ l) = largest (cond (above f e) f e) l
-
-abbrev pub without : ℕ → List Entry → List Entry
-without v l = keep (λ e. not (eqb (e .vertex) v)) l
-
--- the live entries, the stamp of each vertex, the words
+-- The entries by vertex: key and stamp of each vertex, and whether it waits, which is 1 if it has an entry. The words.
 pub record Queue : Type 0 where
-  pub entries : List Entry
+  pub keys : List Float
   pub stamps : List ℕ
+  pub waiting : List ℕ
   pub words : Words
+
+abbrev pub waits : Queue → ℕ → Bool
+waits q v = eqb (getD (q .waiting) v 0) 1
+
+abbrev pub entryOf : Queue → ℕ → Entry
+entryOf q v = record { key = getD (q .keys) v zeroFloat; stamp = getD (q .stamps) v 0; vertex = v }
+
+-- the entry that comes first, of the first one so far and of v's, if it has one
+abbrev pub orAbove : Option Entry → Entry → Entry
+orAbove none e = e
+orAbove (some b) e = cond (above e b) e b
+
+abbrev pub offered : Queue → ℕ → Option Entry → Option Entry
+offered q v best =
+    let new = some (orAbove best (entryOf q v)) in
+    cond (waits q v) new best
+
+abbrev pub largest : ℕ → Queue → Option Entry
+largest n q = foldOver (offered q) (range n) none
+
+abbrev pub takenOut : ℕ → Queue → Queue
+takenOut v q = record { keys = q .keys; stamps = q .stamps; waiting = set (q .waiting) v 0; words = q .words }
 
 -- v is entered with its gain and a little noise, in place of its entry so far; each takes a draw
 abbrev pub keyOf : Float → Float → Float
@@ -61,15 +78,22 @@ abbrev pub enteredAs : Hypergraph → List ℕ → ℕ → ℕ → Queue → Que
 enteredAs G part stamp v q =
     let d = unitDraw (q .words) in
     record {
-      entries = record { key = keyOf (gain G part v) (d .value); stamp = stamp; vertex = v } ∷ without v (q .entries);
+      keys = set (q .keys) v (keyOf (gain G part v) (d .value));
       stamps = set (q .stamps) v stamp;
+      waiting = set (q .waiting) v 1;
       words = d .words;
     }
 
 -- all vertices are entered with the stamp 0
 abbrev pub firstQueue : Hypergraph → List ℕ → Words → Queue
 firstQueue G part ws =
-    foldOver (enteredAs G part 0) (range (vertexCount G)) (record { entries = []; stamps = replicate (vertexCount G) 0; words = ws })
+    foldOver (enteredAs G part 0) (range (vertexCount G))
+    (record {
+      keys = replicate (vertexCount G) zeroFloat;
+      stamps = replicate (vertexCount G) 0;
+      waiting = replicate (vertexCount G) 0;
+      words = ws;
+    })
 
 -- a vertex that has not moved is entered again, with the next stamp
 abbrev pub enteredAgain : Hypergraph → List ℕ → List ℕ → ℕ → Queue → Queue
@@ -126,17 +150,18 @@ module _ (G : Hypergraph) (maxw : Float) where
   -- the entry e comes off: its vertex moves, unless the other side can't take it
   abbrev pub takenOff : Entry → Pass → Pass
   takenOff e p =
-      let q : Queue = record { entries = without (e .vertex) (p .queue .entries); stamps = p .queue .stamps; words = p .queue .words } in
+      let q = takenOut (e .vertex) (p .queue) in
       let made = afterMove (e .vertex) q (moved G (e .vertex) (p .sides)) (counted (e .vertex) (e .key) (p .gains)) in
       let stays : Pass = record { sides = p .sides; queue = q; gains = p .gains; over = false } in
       cond (fitsIn (e .vertex) (p .sides)) made stays
 
-  abbrev pub turnOf : List Entry → Pass → Pass
-  turnOf [] p = record { sides = p .sides; queue = p .queue; gains = p .gains; over = true }
-  turnOf (e ∷ l) p = takenOff (largest e l) p
+  -- without an entry the pass is over
+  abbrev pub turnOf : Option Entry → Pass → Pass
+  turnOf none p = record { sides = p .sides; queue = p .queue; gains = p .gains; over = true }
+  turnOf (some e) p = takenOff e p
 
   abbrev pub passTurn : Pass → Pass
-  passTurn p = turnOf (p .queue .entries) p
+  passTurn p = turnOf (largest (vertexCount G) (p .queue)) p
 
   -- Each turn takes an entry off, and at most one move a vertex puts entries on: (n + 1)² turns are enough.
   abbrev pub runPass : Pass → Pass
