@@ -2,6 +2,8 @@
 ghost use mathlib.Core.Path.{_≡_};
 ghost use Prim.Native.Nat.{_<_, _≤_};
 ghost use Rattle.spec.specs.Fm.{above, keyOf, offered, largest};
+ghost use Rattle.draws.specs.Cursor.{wordsAt};
+ghost use Rattle.fm.specs.Enters.{place, Placed, Entered};
 ghost use Rattle.fm.specs.Queues.{entry, queueOf, noWords, entryAt};
 
 // A gain and a little noise.
@@ -60,4 +62,33 @@ pub fn largest(keys: &[f64], stamps: &[u64], waiting: &[u8], n: usize) -> usize
         b = offer(keys, stamps, waiting, n, v, b);
     }
     b
+}
+
+// Enters vertex `v` with its gain and a draw, in place of its entry so far, and returns the cursor after the draw. The list is for its nets.
+fn enter(
+    words: &[u64],
+    nets: usize,
+    vertices: usize,
+    sides: usize,
+    m: usize,
+    n: usize,
+    weights: &[u8],
+    list: &mut [u16],
+    draws: &[u64],
+    at: usize,
+    keys: &mut [f64],
+    stamps: &mut [u64],
+    waiting: &mut [u8],
+    v: usize,
+    stamp: u64,
+) -> usize
+    requires { do ⌜ (v < n) × (256 ≤ (← ⟦list.len()⟧)) × Placed (now words) (place nets vertices sides m n) ⌝ }
+    ensures { λ r. ⌜ Entered (now (words .entry)) (place nets vertices sides m n) (now (weights .entry)) stamp v (queueOf (now (keys .entry)) (now (stamps .entry)) (now (waiting .entry)) (wordsAt (now (draws .entry)) at)) (queueOf (now (keys .exit)) (now (stamps .exit)) (now (waiting .exit)) (wordsAt (now (draws .entry)) r)) ⌝ }
+{
+    let g = partition::gain(words, nets, vertices, sides, m, n, weights, v, list);
+    let k = key_of(g, draws::unit(draws, at));
+    cells::putf(keys, v, k);
+    cells::put64(stamps, v, stamp);
+    cells::put8(waiting, v, 1);
+    draws::after(draws, at)
 }
