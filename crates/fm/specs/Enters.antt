@@ -1,16 +1,17 @@
 -- Vertices are entered into the queue. Assumes nothing.
 use mathlib.Core.Path.{_≡_, refl, sym, ap, _∙_}
 use mathlib.Core.List.{List}
-use Prim.Native.Nat.{ℕ, _≤_, _<_}
+use Prim.Native.Nat.{ℕ, _+_, _≤_, _<_}
 use lib.Ieee.{Float}
 use lib.ListN.{set}
 use Rattle.spec.specs.Draws.{Words, draw, unitDraw}
-use Rattle.spec.specs.Hypergraph.{Hypergraph}
+use Rattle.spec.specs.Lists.{range}
+use Rattle.spec.specs.Hypergraph.{Hypergraph, foldOver}
 use Rattle.spec.specs.Fm.{Queue, gain, keyOf, enteredAs}
 use Rattle.draws.specs.Cursor.{wordsAt}
 use Rattle.partition.specs.Layout.{graphIn, sidesIn, Laid}
 use Rattle.partition.specs.Gains.{IsGain}
-use Rattle.fm.specs.Queues.{queueOf}
+use Rattle.fm.specs.Queues.{queueOf, range-next}
 
 -- where a hypergraph and a partition of it lie
 pub record Place : Type 0 where
@@ -41,3 +42,13 @@ module _ (ws : List ℕ) (o : Place) where
       → Entered weights stamp v (queueOf keys stamps waiting (wordsAt draws at)) (queueOf keys′ stamps′ waiting′ (wordsAt draws next))
   entered-is weights draws at stamp v next keys stamps waiting keys′ stamps′ waiting′ g u k p q e a b c d vw =
       λ i. queueOf ((a ∙ ap (set keys v) (e ∙ (λ j. keyOf (p vw j) (q j)))) i) (b i) (c i) (d i)
+
+  -- the first k vertices were entered with the stamp 0
+  abbrev pub AllEntered : List ℕ → ℕ → Queue → Queue → Type 0
+  AllEntered weights k q r = (vw : List Float) → r ≡ foldOver (enteredIn weights vw 0) (range k) q
+
+  pub one-more : (weights : List ℕ) (k : ℕ) (q g r : Queue) → AllEntered weights k q g → Entered weights 0 k g r → AllEntered weights (k + 1) q r
+  one-more weights k q g r p e vw = range-next (enteredIn weights vw 0) q g r k (p vw) (e vw)
+
+  pub all-of : (weights : List ℕ) (k n : ℕ) (q r : Queue) → k ≡ n → AllEntered weights k q r → AllEntered weights n q r
+  all-of weights k n q r e p vw = p vw ∙ ap (λ (z : ℕ). foldOver (enteredIn weights vw 0) (range z) q) e

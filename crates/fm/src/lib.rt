@@ -3,7 +3,7 @@ ghost use mathlib.Core.Path.{_≡_};
 ghost use Prim.Native.Nat.{_<_, _≤_};
 ghost use Rattle.spec.specs.Fm.{above, keyOf, offered, largest};
 ghost use Rattle.draws.specs.Cursor.{wordsAt};
-ghost use Rattle.fm.specs.Enters.{place, Placed, Entered};
+ghost use Rattle.fm.specs.Enters.{place, Placed, Entered, AllEntered};
 ghost use Rattle.fm.specs.Queues.{entry, queueOf, noWords, entryAt};
 
 // A gain and a little noise.
@@ -91,4 +91,46 @@ fn enter(
     cells::put64(stamps, v, stamp);
     cells::put8(waiting, v, 1);
     draws::after(draws, at)
+}
+
+// Enters all vertices with the stamp 0, and returns the cursor after the draws.
+pub fn enter_all(
+    words: &[u64],
+    nets: usize,
+    vertices: usize,
+    sides: usize,
+    m: usize,
+    n: usize,
+    weights: &[u8],
+    list: &mut [u16],
+    draws: &[u64],
+    at: usize,
+    keys: &mut [f64],
+    stamps: &mut [u64],
+    waiting: &mut [u8],
+) -> usize
+    requires { do ⌜ (256 ≤ (← ⟦list.len()⟧)) × Placed (now words) (place nets vertices sides m n) ⌝ }
+    ensures { λ r. ⌜ AllEntered (now (words .entry)) (place nets vertices sides m n) (now (weights .entry)) n (queueOf (now (keys .entry)) (now (stamps .entry)) (now (waiting .entry)) (wordsAt (now (draws .entry)) at)) (queueOf (now (keys .exit)) (now (stamps .exit)) (now (waiting .exit)) (wordsAt (now (draws .entry)) r)) ⌝ }
+{
+    let mut t = at;
+    for v in 0..n {
+        t = enter(
+            words,
+            nets,
+            vertices,
+            sides,
+            m,
+            n,
+            weights,
+            list,
+            draws,
+            t,
+            keys,
+            stamps,
+            waiting,
+            v,
+            0,
+        );
+    }
+    t
 }
