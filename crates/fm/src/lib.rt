@@ -3,6 +3,7 @@ ghost use mathlib.Core.Path.{_≡_};
 ghost use Prim.Native.Nat.{_<_, _≤_};
 ghost use Rattle.spec.specs.Fm.{above, keyOf, offered, largest};
 ghost use Rattle.draws.specs.Cursor.{wordsAt};
+ghost use Rattle.fm.specs.Again.{Stamped, Again};
 ghost use Rattle.fm.specs.Enters.{place, Placed, Entered, AllEntered};
 ghost use Rattle.fm.specs.Queues.{entry, queueOf, noWords, entryAt};
 
@@ -133,4 +134,48 @@ pub fn enter_all(
         );
     }
     t
+}
+
+// Enters vertex `u` again, with the next stamp, unless it is in the slot `locked`.
+fn enter_again(
+    words: &[u64],
+    nets: usize,
+    vertices: usize,
+    sides: usize,
+    m: usize,
+    n: usize,
+    weights: &[u8],
+    list: &mut [u16],
+    draws: &[u64],
+    at: usize,
+    keys: &mut [f64],
+    stamps: &mut [u64],
+    waiting: &mut [u8],
+    locked: usize,
+    u: usize,
+) -> usize
+    requires { do ⌜ (u < n) × (256 ≤ (← ⟦list.len()⟧)) × (locked < 32768) × Placed (now words) (place nets vertices sides m n) × Stamped 4294967295 (now stamps) ⌝ }
+    ensures { λ r. ⌜ Again (now (words .entry)) (place nets vertices sides m n) (now (weights .entry)) locked u (queueOf (now (keys .entry)) (now (stamps .entry)) (now (waiting .entry)) (wordsAt (now (draws .entry)) at)) (queueOf (now (keys .exit)) (now (stamps .exit)) (now (waiting .exit)) (wordsAt (now (draws .entry)) r)) ⌝ }
+{
+    if slots::has(words, 2, locked, u) {
+        return at;
+    }
+    let stamp = cells::get64(stamps, u) + 1;
+    enter(
+        words,
+        nets,
+        vertices,
+        sides,
+        m,
+        n,
+        weights,
+        list,
+        draws,
+        at,
+        keys,
+        stamps,
+        waiting,
+        u,
+        stamp,
+    )
 }
