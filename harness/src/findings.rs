@@ -91,6 +91,12 @@ fn greedy_takes_an_empty_table_first() {
 }
 
 #[test]
+fn bisection_takes_an_empty_table_first() {
+    let run = rust::bisection(&network(&[0, 1], &[&[0], &[], &[1]]), 200, 2, vec![0; 48]).unwrap();
+    assert_eq!((run.children, run.taken, run.missed), (vec![[1, 0], [2, 3]], 48, 0));
+}
+
+#[test]
 fn slicing_takes_another_index_within_its_tolerance() {
     let all = [0, 1, 2, 3, 4, 5, 6];
     let network = hypergraph(&network(&[8, 5, 8, 4, 4, 7, 8], &[&all, &all, &[]]));

@@ -1,6 +1,7 @@
 //! The port beside the Rust that it comes from. See README.md.
 
 mod bench;
+mod bisect;
 mod case;
 mod compare;
 mod edges;
@@ -30,7 +31,7 @@ const REPLAY: &str = concat!(env!("CARGO_MANIFEST_DIR"), "/../crates/replay");
 /// The crate whose input and output `greedy-record` writes.
 const GREEDY_RUNS: &str = concat!(env!("CARGO_MANIFEST_DIR"), "/../crates/greedyruns");
 
-const USAGE: &str = "usage: harness compare|greedy [NETWORKS [SEED]] | bench | greedy-bench | record | greedy-record";
+const USAGE: &str = "usage: harness compare|greedy [NETWORKS [SEED]] | bisect [NETWORKS [SEED [LEAVES]]] | bench | greedy-bench | record | greedy-record";
 
 fn compare(count: usize, seed: u64) -> ExitCode {
     if !port::AT_HAND {
@@ -68,6 +69,13 @@ fn main() -> ExitCode {
             Ok(()) => ExitCode::SUCCESS,
             Err(error) => {
                 println!("crates/greedyruns: {error}");
+                ExitCode::FAILURE
+            }
+        },
+        (Some("bisect"), Some(count), Some(seed)) => match bisect::run(count as usize, seed, number(3, 128).unwrap_or(128) as usize) {
+            Ok(()) => ExitCode::SUCCESS,
+            Err(error) => {
+                eprintln!("{error}");
                 ExitCode::FAILURE
             }
         },
