@@ -3,7 +3,7 @@ use mathlib.Core.Path.{_≡_, refl, sym, ap, _∙_, subst}
 use mathlib.Core.List.{List, [], _∷_, _++_, append-nil, append-assoc}
 use Prim.Native.Nat.{ℕ, _+_, _/_, _%_, _<_, _≤_}
 use native.Mathlib.Omega.{arith}
-use lib.ListN.{length, length-append}
+use lib.ListN.{length}
 use Rattle.spec.specs.Text.{decimal, spaced, lineOf}
 use Rattle.laws.specs.TextLaws.{decimal-small, decimal-more, decimal-length}
 use Rattle.putfields.specs.Put.{Put, put-both}

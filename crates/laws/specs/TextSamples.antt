@@ -1,14 +1,12 @@
 -- Samples of what the program writes, beside the table's, by computation. Assumes nothing.
-use mathlib.Core.List.{List, [], _∷_}
+use mathlib.Core.List.{[], _∷_}
 use mathlib.Core.Option.{none, some}
 use mathlib.Core.Path.{_≡_, refl}
-use Prim.Native.Nat.{ℕ, _^_}
-use lib.Ieee.{round, mul, sub, lt, ofInt}
-use Rattle.spec.specs.Network.{Network, named}
+use Prim.Native.Nat.{_^_}
+use Rattle.spec.specs.Network.{named}
 use Rattle.spec.specs.Tree.{treeAt, valid, pairsOf, flatOf}
 use Rattle.spec.specs.Price.{kept, listing}
 use Rattle.spec.specs.Greedy.{greedyFrom, greedy}
-use Rattle.spec.specs.Undercut.{undercuts}
 use Rattle.spec.specs.Improve.{weigh, keeps, passed, splitWork, splitCount, frontier, locals, reconfNode, visit, pass, arrayFor, improve}
 use Rattle.spec.specs.Calls.{greedyCall, improveCall}
 use Rattle.spec.specs.Refusal.{drawsExhausted, refused}

@@ -11,12 +11,11 @@ use lib.ListN.{List·getD-eq-default}
 use Rattle.spec.specs.Lists.{memb, range, keep}
 use Rattle.spec.specs.Network.{Network, leafCount, indexCount, weight, legs, InRange}
 use Rattle.spec.specs.Tree.{Pair, Tree, leaf, node, treeAt, root, innerOf}
-use Rattle.spec.specs.Price.{Step, kept, lists, listsOf, listAt, union, bits, childrenAt, stepAt, listing, total, largest, Total, Prices, priceOf}
-use Rattle.spec.specs.Slicing.{Plan}
-use Rattle.spec.specs.Program.{Printed, printed}
+use Rattle.spec.specs.Price.{kept, listsOf, listAt, union, bits, childrenAt, stepAt, listing, total, largest, priceOf}
+use Rattle.spec.specs.Program.{printed}
 use Rattle.laws.specs.Booleans.{clash, or-intror, and-right}
 use Rattle.laws.specs.ListLaws.{memb-head, memb-keep, from-memb, keep-ext}
-use Rattle.pricing.specs.Tables.{leaves-are, map-same-from, map-map}
+use Rattle.pricing.specs.Tables.{leaves-are, map-map}
 
 kept-low : (p : ℕ → Bool) (j k : ℕ) → memb j (keep p (range k)) ≡ true → j < k
 kept-low p j k e = omega (arith, from-memb j 0 k (and-right (p j) (memb j (range k)) (sym (memb-keep j p (range k)) ∙ e)))

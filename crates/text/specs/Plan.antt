@@ -14,7 +14,7 @@ use Rattle.spec.specs.Memory.{over, placed}
 use Rattle.spec.specs.Network.{Network, leafCount, indexCount}
 use Rattle.spec.specs.Tree.{Pair, node, valid}
 use Rattle.spec.specs.Price.{Step, listAt, stepAt, listing, flatSteps, madeNodes, kept, Prices, priceOf, Orders}
-use Rattle.spec.specs.Refusal.{Result, done}
+use Rattle.spec.specs.Refusal.{done}
 use Rattle.spec.specs.Calls.{flagAt, nodePlaces, stepPlaces}
 use Rattle.spec.specs.Slicing.{Plan}
 use Rattle.spec.specs.Program.{Printed, printed}

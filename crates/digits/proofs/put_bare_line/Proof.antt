@@ -2,9 +2,6 @@
 use borrow.Author.Needs.{needs}
 use Rattle.digits.specs.Digits.{put-bare}
 use native.Mathlib.Omega.{arith}
-use Prim.Native.Nat.{ℕ, _+_, _-_, _*_, _<_, _≤_}
-use mathlib.Core.Path.{_≡_, refl, sym, ap, _∙_, subst}
-use lib.ListN.{length, getD, set, length-set}
 use Rattle.digits.proofs.put_bare_line.Statement.{statement}
 use Rattle.digits.proofs.put_bare_line.Tie as tie
 

@@ -6,9 +6,7 @@ use Rattle.spec.specs.Text.{spaced}
 use Rattle.spec.specs.Lists.{keep, range}
 use Rattle.putfields.specs.Put.{Put, put-length}
 use native.Mathlib.Omega.{arith}
-use Prim.Native.Nat.{ℕ, _+_, _-_, _*_, _<_, _≤_}
-use mathlib.Core.Path.{_≡_, refl, sym, ap, _∙_, subst}
-use lib.ListN.{length, getD, set, length-set}
+use Prim.Native.Nat.{_-_, _≤_}
 use Rattle.steplines.proofs.put_kept.Statement.{statement}
 use Rattle.steplines.proofs.put_kept.Tie as tie
 

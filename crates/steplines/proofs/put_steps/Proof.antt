@@ -5,9 +5,8 @@ use Rattle.steplines.specs.Steps.{stepsFrom}
 use Rattle.spec.specs.Text.{linesOf, stepLine}
 use Rattle.putfields.specs.Put.{Put, put-length}
 use native.Mathlib.Omega.{arith}
-use Prim.Native.Nat.{ℕ, _+_, _-_, _*_, _<_, _≤_}
-use mathlib.Core.Path.{_≡_, refl, sym, ap, _∙_, subst}
-use lib.ListN.{length, getD, set, length-set}
+use Prim.Native.Nat.{_+_, _-_, _*_, _≤_}
+use mathlib.Core.Path.{_≡_}
 use Rattle.steplines.proofs.put_steps.Statement.{statement}
 use Rattle.steplines.proofs.put_steps.Tie as tie
 

@@ -2,9 +2,6 @@
 use borrow.Author.Needs.{needs}
 use Rattle.text.specs.Lines.{head-put}
 use native.Mathlib.Omega.{arith}
-use Prim.Native.Nat.{ℕ, _+_, _-_, _*_, _<_, _≤_}
-use mathlib.Core.Path.{_≡_, refl, sym, ap, _∙_, subst}
-use lib.ListN.{length, getD, set, length-set}
 use Rattle.text.proofs.put_head.Statement.{statement}
 use Rattle.text.proofs.put_head.Tie as tie
 

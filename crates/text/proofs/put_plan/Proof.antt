@@ -1,15 +1,11 @@
 -- Assumes nothing.
 use borrow.Author.Needs.{needs}
-use Rattle.putfields.specs.Put.{put-length}
 use Rattle.steplines.specs.Lines.{put-same}
 use Rattle.text.specs.Lines.{plan-put}
 use Rattle.steplines.specs.Steps.{stepsFrom}
 use Rattle.text.specs.Lists.{printedFrom}
 use Rattle.spec.specs.Text.{linesOf, stepLine}
 use native.Mathlib.Omega.{arith}
-use Prim.Native.Nat.{ℕ, _+_, _-_, _*_, _<_, _≤_}
-use mathlib.Core.Path.{_≡_, refl, sym, ap, _∙_, subst}
-use lib.ListN.{length, getD, set, length-set}
 use Rattle.text.proofs.put_plan.Statement.{statement}
 use Rattle.text.proofs.put_plan.Tie as tie
 

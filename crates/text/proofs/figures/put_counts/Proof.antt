@@ -2,9 +2,6 @@
 use borrow.Author.Needs.{needs}
 use Rattle.putfields.specs.Put.{put-both}
 use native.Mathlib.Omega.{arith}
-use Prim.Native.Nat.{ℕ, _+_, _-_, _*_, _<_, _≤_}
-use mathlib.Core.Path.{_≡_, refl, sym, ap, _∙_, subst}
-use lib.ListN.{length, getD, set, length-set}
 use Rattle.text.proofs.figures.put_counts.Statement.{statement}
 use Rattle.text.proofs.figures.put_counts.Tie as tie
 

@@ -2,9 +2,6 @@
 use borrow.Author.Needs.{needs}
 use Rattle.text.specs.Lines.{flag-clear, flag-set, slice-in, slice-out, slice-length}
 use native.Mathlib.Omega.{arith}
-use Prim.Native.Nat.{ℕ, _+_, _-_, _*_, _<_, _≤_}
-use mathlib.Core.Path.{_≡_, refl, sym, ap, _∙_, subst}
-use lib.ListN.{length, getD, set, length-set}
 use Rattle.text.proofs.figures.put_slice.Statement.{statement}
 use Rattle.text.proofs.figures.put_slice.Tie as tie
 

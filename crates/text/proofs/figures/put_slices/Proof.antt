@@ -7,9 +7,8 @@ use Rattle.spec.specs.Calls.{flagAt}
 use Rattle.spec.specs.Lists.{keep, range}
 use Rattle.putfields.specs.Put.{Put, put-length}
 use native.Mathlib.Omega.{arith}
-use Prim.Native.Nat.{ℕ, _+_, _-_, _*_, _<_, _≤_}
-use mathlib.Core.Path.{_≡_, refl, sym, ap, _∙_, subst}
-use lib.ListN.{length, getD, set, length-set}
+use Prim.Native.Nat.{_+_, _-_, _*_, _≤_}
+use mathlib.Core.Path.{_≡_}
 use Rattle.text.proofs.figures.put_slices.Statement.{statement}
 use Rattle.text.proofs.figures.put_slices.Tie as tie
 

@@ -4,9 +4,7 @@ use Rattle.steplines.specs.Lines.{put-same}
 use Rattle.cost.specs.Back.{totalFrom}
 use Rattle.spec.specs.Text.{totalLine}
 use native.Mathlib.Omega.{arith}
-use Prim.Native.Nat.{ℕ, _+_, _-_, _*_, _<_, _≤_}
-use mathlib.Core.Path.{_≡_, refl, sym, ap, _∙_, subst}
-use lib.ListN.{length, getD, set, length-set}
+use mathlib.Core.Path.{sym}
 use Rattle.text.proofs.figures.put_total.Statement.{statement}
 use Rattle.text.proofs.figures.put_total.Tie as tie
 
