@@ -53,7 +53,7 @@ fn too_few(n: usize, words: usize, sets: usize, sizes: usize, works: usize, step
 }
 
 // Are there more flags than the `m` indices, or is a flag above 1.
-fn wrong_flags(m: usize, flags: &[u8]) -> bool
+pub fn wrong_flags(m: usize, flags: &[u8]) -> bool
     ensures { λ r. ⌜ r ≡ wrongFlags m (now (flags .entry)) ⌝ }
 {
     if m < flags.len() {

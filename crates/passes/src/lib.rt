@@ -153,7 +153,7 @@ pub fn passes<'a>(
     let mut tried: u64 = 0;
     let mut left = most;
     while 0 < left {
-        let d = pass(
+        let made = pass(
             words,
             sets,
             sizes,
@@ -170,9 +170,9 @@ pub fn passes<'a>(
             k,
             limit,
         );
-        rebuilt += d.rebuilt;
-        tried += d.tried;
-        left = passes_left(left, d.rebuilt);
+        rebuilt += made.rebuilt;
+        tried += made.tried;
+        left = passes_left(left, made.rebuilt);
     }
     Visited { rebuilt, tried }
 }

@@ -2,16 +2,14 @@
 use mathlib.Core.Bool.{Bool, false}
 use mathlib.Core.List.{List}
 use mathlib.Core.Option.{Option}
-use mathlib.Core.Path.{_≡_, sym, ap, _∙_, subst}
+use mathlib.Core.Path.{_≡_, sym, ap, subst}
 use Prim.Native.Nat.{ℕ, _+_, _-_, _^_, _≤_, _<_}
 use native.Mathlib.Omega.{arith}
-use lib.ListN.{getD}
-use Rattle.spec.specs.Network.{Network, leafCount, indexCount, weight}
+use Rattle.spec.specs.Network.{Network, leafCount}
 use Rattle.spec.specs.Layout.{networkOf}
 use Rattle.spec.specs.Tree.{Tree, pairsOf, ValidTree}
 use Rattle.spec.specs.Price.{listing, work}
 use Rattle.spec.specs.Calls.{flagAt, wrongTree, totalIsBeyond, dangling}
-use Rattle.spec.specs.Improve.{visit}
 use Rattle.laws.specs.Arrays.{valid-once}
 use Rattle.laws.specs.TreePrices.{totalBelow}
 use Rattle.laws.specs.ImprovedTotal.{visit-lower}

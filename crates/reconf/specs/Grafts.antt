@@ -3,21 +3,21 @@ use mathlib.Core.Bool.{Bool, cond}
 use mathlib.Core.List.{List, [], _∷_, map}
 use mathlib.Core.Option.{none}
 use mathlib.Core.Path.{_≡_, refl, ap, ap₂, _∙_}
-use Prim.Native.Nat.{ℕ, zero, suc, _+_, _-_, _≤_, _<_}
+use Prim.Native.Nat.{ℕ, suc, _+_, _-_, _≤_, _<_}
 use native.Mathlib.Nat.{lt-of-not-le}
 use native.Mathlib.Omega.{arith}
 use lib.Dec.{eqb}
 use lib.ListN.{length, getD, length-map}
 use borrow.Author.Tests.{eqb-true}
 use mathlib.Mathlib.Data.Bool.Basic.{eq-false-of-not-eq-true}
-use Rattle.spec.specs.Lists.{memb, count, range, sumOf}
+use Rattle.spec.specs.Lists.{count, range, sumOf}
 use Rattle.spec.specs.Members.{All}
 use Rattle.spec.specs.Network.{Network}
 use Rattle.spec.specs.Tree.{Tree, leaf, node, number, numbers, Pair, Describes, ValidTree}
-use Rattle.spec.specs.Improve.{Region, one, join, Front, member, Rebuilt, build, graft, subtree}
+use Rattle.spec.specs.Improve.{Region, one, join, Front, member, Rebuilt, build, graft}
 use Rattle.laws.specs.Booleans.{by-cases}
 use Rattle.laws.specs.ListLaws.{sum-map, count-memb, count-not-memb}
-use Rattle.laws.specs.Regions.{sum-places, joins, over, build-length, build-sum, count-node, Swapped, here, onLeft, onRight, graft-swapped, swapped-part, swapped-number, swapped-sum}
+use Rattle.laws.specs.Regions.{sum-places, joins, over, build-sum, count-node, Swapped, here, onLeft, onRight, graft-swapped, swapped-part, swapped-number, swapped-sum}
 use Rattle.laws.specs.Rebuilds.{Kept, kept-count, FrontOf, build-kept}
 use Rattle.laws.specs.ArrayRebuild.{Wrote, write, buildArray, Same, times, Written, Each, build-writes, swapped-described}
 use Rattle.laws.specs.Arrays.{valid-once}

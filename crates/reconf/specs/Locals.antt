@@ -1,7 +1,7 @@
 -- The local indices that the code lists are the definition's, and so are the sets and weights in their numbers. Assumes nothing.
 use mathlib.Core.Bool.{Bool, true, false, not, _&&_, _||_, cond, and-comm, or-false, or-assoc}
 use mathlib.Core.List.{List, [], _∷_, _++_, append-nil}
-use mathlib.Core.Path.{_≡_, refl, sym, ap, ap₂, _∙_, subst}
+use mathlib.Core.Path.{_≡_, refl, sym, ap, ap₂, _∙_}
 use mathlib.Mathlib.Data.Bool.Basic.{eq-false-of-not-eq-true}
 use Prim.Native.Nat.{ℕ, zero, suc, _+_, _-_, _^_, _≤_, _<_}
 use native.Mathlib.Omega.{arith}
@@ -17,7 +17,7 @@ use Rattle.spec.specs.Price.{lists}
 use Rattle.spec.specs.Calls.{flagAt}
 use Rattle.spec.specs.Improve.{Front, member}
 use Rattle.laws.specs.Booleans.{by-cases, and-left, and-right}
-use Rattle.laws.specs.ListLaws.{keep-ext, keep-none-from, keep-passes, memb-keep, range-length, any-member, from-memb}
+use Rattle.laws.specs.ListLaws.{keep-ext, keep-none-from, memb-keep, range-length, any-member, from-memb}
 use Rattle.slots.specs.Slots.{held}
 use Rattle.slots.specs.Rising.{keep-add}
 use Rattle.nodesets.specs.Places.{getD-in}

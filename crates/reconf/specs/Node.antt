@@ -1,13 +1,13 @@
 -- The visit of a node on lists: its subtree, its frontier as the lists have it, what its opened nodes cost; it is left, stays or is rebuilt.
 -- Assumes nothing.
 use mathlib.Core.Bool.{Bool, true, false, not, _||_}
-use mathlib.Core.List.{List, map}
+use mathlib.Core.List.{List}
 use mathlib.Core.Option.{Option}
 use mathlib.Core.Path.{_≡_, refl, sym, ap, ap₂, _∙_, subst}
 use Prim.Native.Nat.{ℕ, suc, _+_, _-_, _%_, _^_, _≤_, _<_}
 use native.Mathlib.Omega.{arith}
 use lib.Dec.{eqb}
-use lib.ListN.{length, getD, set, take}
+use lib.ListN.{length, getD, set}
 use lib.Seq.{getD-take}
 use Rattle.spec.specs.Lists.{memb}
 use Rattle.spec.specs.Network.{Network, leafCount, indexCount, weight}
@@ -26,9 +26,9 @@ use Rattle.laws.specs.TreePrices.{totalBelow}
 use Rattle.laws.specs.ImprovedWork.{listing-work, not-beyond}
 use Rattle.laws.specs.VisitSplits.{members-most}
 use Rattle.slots.specs.Slots.{held}
-use Rattle.frontier.specs.Opens.{State, state, openings, freed}
+use Rattle.frontier.specs.Opens.{State, state, openings}
 use Rattle.frontier.specs.Costs.{costBelow}
-use Rattle.frontier.specs.Fronts.{Read, Fronts, frontier-fronts, fronts-cost}
+use Rattle.frontier.specs.Fronts.{Fronts, frontier-fronts, fronts-cost}
 use Rattle.frontier.specs.Swaps.{number-at}
 use Rattle.reprice.specs.Held.{treeOf, PriceHeld}
 use Rattle.reprice.specs.Laws.{Spot, valid-spot, right-valid, tree-of}

@@ -15,7 +15,7 @@ use Rattle.spec.specs.Network.{Network, leafCount}
 use Rattle.spec.specs.Tree.{Tree, number, pairsOf, ValidTree}
 use Rattle.spec.specs.Calls.{flagAt}
 use Rattle.spec.specs.Undercut.{undercuts}
-use Rattle.spec.specs.Improve.{Region, Found, Front, member, build, graft, oldCost, locals, searched, triedAt, acceptBest, reconfNode}
+use Rattle.spec.specs.Improve.{Region, Front, build, graft, oldCost, locals, searched, triedAt, acceptBest}
 use Rattle.laws.specs.Booleans.{by-cases, and-left}
 use Rattle.laws.specs.ListLaws.{range-length}
 use Rattle.laws.specs.Regions.{joins, over}

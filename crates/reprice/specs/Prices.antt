@@ -1,10 +1,9 @@
 -- What the passes over the nodes leave is the price list. Assumes nothing.
-use mathlib.Core.Bool.{false}
 use mathlib.Core.List.{List, map}
-use mathlib.Core.Path.{_≡_, sym, ap, _∙_}
-use Prim.Native.Nat.{ℕ, _+_, _*_, _≤_, _<_}
+use mathlib.Core.Path.{_≡_, ap, _∙_}
+use Prim.Native.Nat.{ℕ, _*_, _≤_, _<_}
 use native.Mathlib.Omega.{arith}
-use lib.ListN.{length, getD}
+use lib.ListN.{length}
 use Rattle.spec.specs.Lists.{memb, range}
 use Rattle.spec.specs.Memory.{over}
 use Rattle.spec.specs.Layout.{firsts, networkOf}
