@@ -32,14 +32,14 @@ abbrev pub pricedSets : Network → List ℕ → Result price.Prices → List �
 pricedSets N kids (refused r) l = l
 pricedSets N kids (done p) l = withSets l setWords (λ v j. memb j (listAt N (pairsOf kids) v)) (nodePlaces N)
 
--- the answer and the lists follow the call c, and what is listed is sound
+-- the answer and the lists follow the call c, and the listing that is handed out is sound
 pub record Answered (N : Network) (flags kids : List ℕ) (c : Result price.Prices) (sets₀ sizes₀ works₀ steps₀ sets sizes works steps : List ℕ) (r : Priced) : Type 0 where
   pub answer : r ≡ answerOf c
   pub steps-are : steps ≡ pricedSteps N flags kids c steps₀
   pub sets-are : sets ≡ pricedSets N kids c sets₀
   pub sizes-are : sizes ≡ pricedSizes N flags kids c sizes₀
   pub works-are : works ≡ pricedWorks N flags kids c works₀
-  pub sound : (p : price.Prices) → c ≡ done p → ListingSound N (flagAt flags) (pairsOf kids)
+  pub sound : (p : price.Prices) → c ≡ done p → ListingSound setWords N (flagAt flags) (pairsOf kids) sets steps
 
 -- the whole promise: the call is pricing's, and the stated words are cleared
 pub record TreeCost (N : Network) (flags kids ws₀ sets₀ sizes₀ works₀ steps₀ ws sets sizes works steps : List ℕ) (r : Priced) : Type 0 where

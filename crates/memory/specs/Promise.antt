@@ -11,7 +11,7 @@ use Rattle.spec.specs.FileClaims.{refusalIn}
 use Rattle.spec.specs.Network.{Network, refusalOf}
 use Rattle.spec.specs.Tree.{pairsOf}
 use Rattle.spec.specs.Price.{Prices}
-use Rattle.spec.specs.Calls.{plainWords, flagAt, touches, priceCall, workspaceAfter, pricedSteps, pricedSizes, pricedWorks}
+use Rattle.spec.specs.Calls.{plainWords, setWords, flagAt, touches, priceCall, workspaceAfter, pricedSteps, pricedSizes, pricedWorks}
 use Rattle.spec.specs.Host.{lentNetwork, priceNumbers, memoryCall, answerAfter}
 use Rattle.laws.specs.Results.{not-done}
 use Rattle.network.specs.Codes.{largeOf, refused-large, large-layout}
@@ -24,7 +24,7 @@ use Rattle.cost.specs.Back.{pricesFrom, of-refused, of-done}
 use Rattle.memory.specs.Call.{as-priced, as-refused, as-short, untouched}
 use Rattle.memory.specs.Numbers.{orShort}
 
--- every list follows the call c, and what is listed is sound
+-- every list follows the call c, and the listing that is handed out is sound
 pub record Follows (N : Network) (flags kids : List ℕ) (c : Result Prices) (ws₀ sets₀ sizes₀ works₀ steps₀ answer₀ ws sets sizes works steps answer : List ℕ) (r : ℕ) : Type 0 where
   pub number : r ≡ codeOf (refusalIn c)
   pub answer-is : answer ≡ answerAfter c answer₀
@@ -33,7 +33,7 @@ pub record Follows (N : Network) (flags kids : List ℕ) (c : Result Prices) (ws
   pub sizes-are : sizes ≡ pricedSizes N flags kids c sizes₀
   pub works-are : works ≡ pricedWorks N flags kids c works₀
   pub workspace : ws ≡ workspaceAfter plainWords c ws₀
-  pub sound : (p : Prices) → c ≡ done p → ListingSound N (flagAt flags) (pairsOf kids)
+  pub sound : (p : Prices) → c ≡ done p → ListingSound setWords N (flagAt flags) (pairsOf kids) sets steps
 
 -- the whole promise: the call is `memoryCall`
 abbrev pub MemoryCost : (N : Network) (flags kids ws₀ sets₀ sizes₀ works₀ steps₀ answer₀ ws sets sizes works steps answer : List ℕ) (r : ℕ) → Type 0

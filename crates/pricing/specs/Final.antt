@@ -1,19 +1,21 @@
 -- Pricing on lent lists, put together: what each call asks is there, and the price list and the answer follow. Assumes nothing.
-use mathlib.Core.Bool.{cond}
-use mathlib.Core.Path.{_≡_, sym, _∙_, ap}
+use mathlib.Core.Bool.{true, cond}
+use mathlib.Core.Path.{_≡_, sym, _∙_, ap, subst}
 use mathlib.Core.List.{List, [], map}
-use Prim.Native.Nat.{ℕ, _*_, _≤_}
+use Prim.Native.Nat.{ℕ, _+_, _*_, _≤_}
 use native.Mathlib.Omega.{arith}
 use lib.ListN.{length}
 use Rattle.spec.specs.Lists.{memb, range, sumOf}
 use Rattle.spec.specs.Memory.{over}
 use Rattle.spec.specs.Layout.{firsts, networkOf}
 use Rattle.spec.specs.Network.{Network, leafCount, indexCount, weight}
-use Rattle.spec.specs.Tree.{Pair, pairsOf}
+use Rattle.spec.specs.Tree.{Pair, pairsOf, valid}
 use Rattle.spec.specs.Price.{listAt, listing, work, upTo, widest, sliceBits, priceOf}
 use Rattle.spec.specs.Calls.{flagAt, nodePlaces}
 use Rattle.laws.specs.Integers.{ℤ-semiring}
+use Rattle.spec.specs.RunClaims.{RunsToDirectSum}
 use Rattle.laws.specs.Theorem.{listing-runs}
+use Rattle.laws.specs.OrderLaws.{valid-length}
 use Rattle.slots.specs.Weigh.{openWeight, Light, open-light}
 use Rattle.network.specs.Layouts.{layout-leaf-count, layout-index-count, layout-weights, layout-weight, layout-legs}
 use Rattle.nodesets.specs.Passes.{leftOf, rightOf, nodes, withSets}
@@ -28,6 +30,7 @@ use Rattle.pricing.specs.Sums.{workSum, sliceShare}
 use Rattle.pricing.specs.Lines.{lines}
 use Rattle.pricing.specs.Tables.{sum-same-from, slice-sum}
 use Rattle.pricing.specs.Promise.{Priceable, ListingSound, PriceList}
+use Rattle.pricing.specs.Handed.{handed-is}
 use Rattle.pricing.specs.Whole.{NodesRight, nodes-right, sizes-are, works-are, steps-are, total-is, widest-is}
 
 module _ {W m n o : ℕ} {weights counts rows outputs kids order : List ℕ} (p : Priceable W m n o weights counts rows outputs kids order) where
@@ -54,14 +57,23 @@ module _ {W m n o : ℕ} {weights counts rows outputs kids order : List ℕ} (p 
       ∙ ap (λ (k : ℕ). sumOf (λ j. cond (flagAt flags j) (weight N j) 0) (range k)) (sym e)
       ∙ sym (slice-sum N (flagAt flags))
 
-  pub listing-sound : (flags : List ℕ) → ListingSound N (flagAt flags) a
-  listing-sound flags two sliceable tables =
-      listing-runs ℤ-semiring N tables (flagAt flags) a (record {
+  pub listing-sound : (flags : List ℕ) {sets₀ sizes₀ works₀ steps₀ sets sizes works steps : List ℕ}
+      → nodes n kids * W ≤ length sets₀ → length order * 5 ≤ length steps₀
+      → PriceList W N (flagAt flags) a sets₀ sizes₀ works₀ steps₀ sets sizes works steps → ListingSound W N (flagAt flags) a sets steps
+  listing-sound flags {sets₀} {sizes₀} {works₀} {steps₀} {sets} {sizes} {works} {steps} room room′ l two sliceable tables =
+      let v : valid (leafCount N) a ≡ true = rw leaf-count (p .ordered .is-valid) in
+      let s = ordered-steps (p .ordered) in
+      let q : leafCount N + length a ≡ nodePlaces N = omega (arith, valid-length (leafCount N) a v, two) in
+      let fits : indexCount N ≤ W * 64 = omega (arith, p .fits, layout-index-count m n o weights counts rows outputs) in
+      let e = handed-is N (flagAt flags) a v (omega (arith, two)) W sets₀ sets steps₀ steps fits q
+      (rw places room) (omega (arith, room′, s .steps, leaf-count)) (l .sets-are) (l .steps-are) in
+      subst (RunsToDirectSum ℤ-semiring N tables (flagAt flags) a) (sym e)
+      (listing-runs ℤ-semiring N tables (flagAt flags) a (record {
         two = two;
         inRange = p .accepted .inRange;
-        isValid = rw leaf-count (p .ordered .is-valid);
+        isValid = v;
         sliceable = sliceable;
-      })
+      }))
 
   module _ (flags effective sets₀ sets : List ℕ) (eff : Effective (firsts m weights) flags effective) (room : nodes n kids * W ≤ length sets₀)
       (are : SetsAre W n o counts rows outputs kids sets₀ sets) where

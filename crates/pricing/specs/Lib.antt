@@ -6,4 +6,5 @@ pub mod Nodes
 pub mod Tables
 pub mod Promise
 pub mod Whole
+pub mod Handed
 pub mod Final

@@ -65,10 +65,11 @@ returns c = let d = c .before .before .before .before .before .before .before .b
     let e : a .n + length (a .order .now) ≡ nodes (a .n) (a .kids .now) = omega (arith, s .steps, s .numbers) in
     let es = c .before .before .before .before .before .before .before .before .before .before .before .before .before .before .before .node-bits .ensures .0 in
     let ew = c .before .before .before .before .before .before .before .before .before .before .before .before .before .before .before .node-bits .ensures .1 in
+    let l = price-list (d .pre .0) (a .flags .now) (c .before .before .before .before .before .before .before .before .before .before .before .before .before .before .before .before .before .before .before .before .before .before .before .before .before .before .before .before .effective-weights .last .0) (a .sets .now) (c .before .before .before .before .before .before .before .before .before .before .before .before .before .before .before .before .before .before .before .before .before .before .before .before .node-sets .last .0) (c .before .before .before .before .before .before .before .before .before .before .before .before .before .before .before .before .before .before .before .before .before .before .before .before .before .before .before .before .effective-weights .ensures) (d .pre .1 .for-sets) (c .before .before .before .before .before .before .before .before .before .before .before .before .before .before .before .before .before .before .before .before .before .before .before .before .node-sets .ensures) (a .sizes .now) (a .works .now) (a .steps .now) (c .before .before .before .before .before .before .before .before .before .before .before .before .before .before .before .node-bits .last .0) (c .before .before .before .before .before .before .before .before .before .before .before .before .before .before .before .node-bits .last .1 .0) (c .before .before .before .before .before .before .before .list-steps .last .0) (d .pre .1 .for-sizes) (d .pre .1 .for-works) es ew (c .before .before .before .before .before .before .before .list-steps .ensures) in
     record {
-      list = price-list (d .pre .0) (a .flags .now) (c .before .before .before .before .before .before .before .before .before .before .before .before .before .before .before .before .before .before .before .before .before .before .before .before .before .before .before .before .effective-weights .last .0) (a .sets .now) (c .before .before .before .before .before .before .before .before .before .before .before .before .before .before .before .before .before .before .before .before .before .before .before .before .node-sets .last .0) (c .before .before .before .before .before .before .before .before .before .before .before .before .before .before .before .before .before .before .before .before .before .before .before .before .before .before .before .before .effective-weights .ensures) (d .pre .1 .for-sets) (c .before .before .before .before .before .before .before .before .before .before .before .before .before .before .before .before .before .before .before .before .before .before .before .before .node-sets .ensures) (a .sizes .now) (a .works .now) (a .steps .now) (c .before .before .before .before .before .before .before .before .before .before .before .before .before .before .before .node-bits .last .0) (c .before .before .before .before .before .before .before .before .before .before .before .before .before .before .before .node-bits .last .1 .0) (c .before .before .before .before .before .before .before .list-steps .last .0) (d .pre .1 .for-sizes) (d .pre .1 .for-works) es ew (c .before .before .before .before .before .before .before .list-steps .ensures);
+      list = l;
       answer = price-answer (d .pre .0) (a .flags .now) (c .before .before .before .before .before .before .before .before .before .before .before .before .before .before .before .before .before .before .before .before .before .before .before .before .before .before .before .before .effective-weights .last .0) (a .sets .now) (c .before .before .before .before .before .before .before .before .before .before .before .before .before .before .before .before .before .before .before .before .before .before .before .before .node-sets .last .0) (c .before .before .before .before .before .before .before .before .before .before .before .before .before .before .before .before .before .before .before .before .before .before .before .before .before .before .before .before .effective-weights .ensures) (d .pre .1 .for-sets) (c .before .before .before .before .before .before .before .before .before .before .before .before .before .before .before .before .before .before .before .before .before .before .before .before .node-sets .ensures) (a .sizes .now) (a .works .now) (a .steps .now) (c .before .before .before .before .before .before .before .before .before .before .before .before .before .before .before .node-bits .last .0) (c .before .before .before .before .before .before .before .before .before .before .before .before .before .before .before .node-bits .last .1 .0) (c .before .before .before .before .before .before .before .list-steps .last .0) (d .pre .1 .for-sizes) (d .pre .1 .for-works) es ew (c .before .before .before .before .before .before .before .list-steps .ensures) (c .before .before .before .total-of .result) (c .before .widest-of .result) (c .slice-bits .result) (c .before .before .before .total-of .ensures) (c .before .widest-of .ensures ∙ ap (λ (x : ℕ). widestOf (widestIn (firsts x (c .before .before .before .before .before .before .before .before .before .before .before .before .before .before .before .node-bits .last .0)))) e) (c .slice-bits .ensures);
-      sound = listing-sound (d .pre .0) (a .flags .now);
+      sound = listing-sound (d .pre .0) (a .flags .now) (d .pre .1 .for-sets) (d .pre .1 .for-steps) l;
     }
 
 pub price-spec : {M : Type 1} → statement M
