@@ -93,7 +93,7 @@ module _ (N : Network) (n₀ : ℕ) (tree : ℕ → Tree) where
   abbrev pub codeFor : ℕ → ℕ → ℕ
   codeFor x y = codeOf (mergedSize N (pairAt n₀ tree x y)) x
 
-  -- the pair of x and y is not too over, and that of u with y, if they share an index, is not either and does not come before it
+  -- the pair of x and y is not too wide, and that of u with y, if they share an index, is not either and does not come before it
   abbrev pub NotBefore : ℕ → ℕ → ℕ → Type 0
   NotBefore y x u = Share u y ≡ true → (TooWide u y ≡ false) × (Before u y x y ≡ false)
 
@@ -149,7 +149,7 @@ module _ (N : Network) (n₀ : ℕ) (tree : ℕ → Tree) where
         abbrev next : ℕ → ℕ
         next best = considered ws W wt sizes n₀ y best x
 
-        -- the pair of place k is too over
+        -- the pair of place k is too wide
         step-refused : (best : ℕ) → (best ≡ 257 → ⊥) → Share x y ≡ true → TooWide x y ≡ true → RowTo L q (suc k) (next best)
         step-refused best n s w =
             let c : next best ≡ 257 =

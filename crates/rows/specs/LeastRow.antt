@@ -25,7 +25,7 @@ module _ (N : Network) (n₀ : ℕ) (tree : ℕ → Tree) (L rows sizes : List �
     abbrev slot : ℕ → ℕ
     slot i = getD L i 0
 
-    -- the pair at places j and p, if its tables share an index, is not too over and does not come before the pair at places i and q
+    -- the pair at places j and p, if its tables share an index, is not too wide and does not come before the pair at places i and q
     abbrev pub NoneBefore : ℕ → ℕ → ℕ → ℕ → Type 0
     NoneBefore i q j p = Share N n₀ tree (slot j) (slot p) ≡ true
         → (TooWide N n₀ tree (slot j) (slot p) ≡ false) × (Before N n₀ tree (slot j) (slot p) (slot i) (slot q) ≡ false)

@@ -38,7 +38,7 @@ keyAt sizes n₀ x y m =
 abbrev pub overForty : List ℕ → ℕ → ℕ → Bool
 overForty sizes x y = ltb 40 (getD sizes x 0) || ltb 40 (getD sizes y 0)
 
--- The least pair of a table so far, as one number: 256 for none, 257 if a pair is too over, and else 512 times the merged size bits and the
+-- The least pair of a table so far, as one number: 256 for none, 257 if a pair is too wide, and else 512 times the merged size bits and the
 -- other slot.
 abbrev pub codeOf : ℕ → ℕ → ℕ
 codeOf m x = m * 512 + x
@@ -76,7 +76,7 @@ module _ (ws : List ℕ) (W : ℕ) (wt sizes : List ℕ) (n₀ y best x : ℕ) w
     unfolding considered
     to-scored over none before p q r = rw (ne-eqb best 257 n, s, ← p, ← q, ← r)
 
-    -- the merged table, or one of the two, is too over
+    -- the merged table, or one of the two, is too wide
     pub consider-over : 40 < bits → 257 ≡ considered ws W wt sizes n₀ y best x
     consider-over h = to-scored true _ _ (ap (λ (b : Bool). b || overForty sizes x y) (lt-ltb 40 bits h)) refl refl
 

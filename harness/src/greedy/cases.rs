@@ -41,7 +41,7 @@ fn weights_of(bits: usize) -> Vec<u8> {
 }
 
 /// Two leaves that share an index, whose merged table has so many bits; the shared index has one bit and is no output.
-fn merging_to(bits: usize) -> Network {
+pub fn merging_to(bits: usize) -> Network {
     let mut weights = weights_of(bits);
     let shared = weights.len() as u16;
     weights.push(1);
@@ -52,11 +52,18 @@ fn merging_to(bits: usize) -> Network {
 }
 
 /// Two leaves that share an index, the first a table of so many bits, of which none but `kept` are kept.
-fn table_of(bits: usize, kept: bool) -> Network {
+pub fn table_of(bits: usize, kept: bool) -> Network {
     let weights = weights_of(bits);
     let all: Vec<u16> = (0..weights.len() as u16).collect();
     let outputs = if kept { all.clone() } else { Vec::new() };
     Network { weights, leaves: vec![all, vec![0]], outputs }
+}
+
+/// Three leaves in a row: a pair of leaves makes under 40 bits, and what two of them make with the third has so many.
+pub fn later(bits: usize) -> Network {
+    let sixth = |k: usize| ((bits + k) / 6) as u8;
+    let weights = (0..6).map(sixth).chain([1, 1]).collect();
+    Network { weights, leaves: vec![vec![0, 1, 6], vec![2, 3, 6, 7], vec![4, 5, 7]], outputs: (0..6).collect() }
 }
 
 /// Networks on both sides of 40 bits.
@@ -73,12 +80,7 @@ pub fn wide() -> Vec<Network> {
         let mut second = table_of(bits, false);
         second.leaves.swap(0, 1);
         networks.push(second);
-        let mut later = merging_to(bits);
-        let last = later.weights.len() as u16;
-        later.weights.push(1);
-        later.leaves[1].push(last);
-        later.leaves.push(vec![last]);
-        networks.push(later);
+        networks.push(later(bits));
     }
     networks
 }

@@ -23,6 +23,8 @@ struct Counts {
     networks: usize,
     /// Both trees are the same.
     same: usize,
+    /// The port's tree is the second reading's; there is no Rust at hand.
+    alone: usize,
     /// Refused 12 by the port, as the second reading has it. The Rust has no such refusal.
     too_wide: usize,
     /// The rest is in another order, for the empty sum's −0.0.
@@ -35,6 +37,7 @@ struct Counts {
 #[derive(Clone, Copy, Debug, PartialEq, Eq)]
 enum Outcome {
     Same,
+    Alone,
     TooWide,
     Rest,
 }
@@ -72,7 +75,7 @@ fn outcome(network: &Network) -> Result<Outcome, String> {
         (Ok(tree), Ok(read)) if tree == read => tree,
         (port, read) => return Err(format!("port {port:?}, second reading {read:?}")),
     };
-    let Some((rust, valid)) = rust_tree(network) else { return Ok(Outcome::Same) };
+    let Some((rust, valid)) = rust_tree(network) else { return Ok(Outcome::Alone) };
     ensure(valid, || format!("is_valid says no of {rust:?}"))?;
     if rust == tree {
         return Ok(Outcome::Same);
@@ -88,6 +91,7 @@ impl Comparison {
         counts.networks += 1;
         match outcome(network) {
             Ok(Outcome::Same) => counts.same += 1,
+            Ok(Outcome::Alone) => counts.alone += 1,
             Ok(Outcome::TooWide) => counts.too_wide += 1,
             Ok(Outcome::Rest) => counts.rest += 1,
             Err(what) => {
@@ -103,9 +107,10 @@ impl Comparison {
     fn tell(&self, name: &str, before: Counts) {
         let now = self.counts;
         println!(
-            "{name:<34} {:>7} networks: {:>7} same, {:>6} refused 12, {:>6} by the rest of size 0, {} unnamed",
+            "{name:<34} {:>7} networks: {:>7} same, {:>7} without the Rust, {:>6} refused 12, {:>6} by the rest of size 0, {} unnamed",
             now.networks - before.networks,
             now.same - before.same,
+            now.alone - before.alone,
             now.too_wide - before.too_wide,
             now.rest - before.rest,
             now.unnamed - before.unnamed,

@@ -25,10 +25,13 @@ fn the_rest_by_whole_bits_and_by_minus_zero() {
 }
 
 #[test]
-fn two_tables_of_the_sample() {
+fn the_sample() {
     // the sample network of the scope document
     let network = Network { weights: vec![1, 2, 1], leaves: vec![vec![0, 1], vec![1, 2], vec![2]], outputs: vec![0] };
     assert_eq!(model::greedy(&network, Rest::WholeBits).unwrap(), [[0, 1], [3, 2]]);
+    if port::AT_HAND {
+        assert_eq!(call::answer(&Given::new(&network)).unwrap(), Ok(vec![[0, 1], [3, 2]]));
+    }
 }
 
 /// The port's number for 40 bits and for 41, as a merged table and as a table of a pair; a table that shares nothing may have any size.
@@ -36,6 +39,12 @@ fn two_tables_of_the_sample() {
 fn forty_bits_and_forty_one() {
     if !port::AT_HAND {
         return;
+    }
+    let number = |network: &Network| call::answer(&Given::new(network)).unwrap().err().unwrap_or(0);
+    for (bits, refused) in [(39, 0), (40, 0), (41, 12)] {
+        assert_eq!(number(&cases::merging_to(bits)), refused);
+        assert_eq!(number(&cases::table_of(bits, false)), refused);
+        assert_eq!(number(&cases::later(bits)), refused);
     }
     for network in cases::wide() {
         let given = Given::new(&network);
