@@ -3,7 +3,7 @@ ghost use mathlib.Core.Path.{_≡_};
 ghost use Prim.Native.Nat.{_<_, _≤_};
 ghost use Rattle.spec.specs.Fm.{above, keyOf, offered, largest};
 ghost use Rattle.draws.specs.Cursor.{wordsAt};
-ghost use Rattle.fm.specs.Again.{Stamped, Again};
+ghost use Rattle.fm.specs.Again.{Stamped, Under, Again, AllAgain};
 ghost use Rattle.fm.specs.Enters.{place, Placed, Entered, AllEntered};
 ghost use Rattle.fm.specs.Queues.{entry, queueOf, noWords, entryAt};
 
@@ -178,4 +178,50 @@ fn enter_again(
         u,
         stamp,
     )
+}
+
+// Enters the first `count` vertices of a list again, each unless it is in the slot `locked`.
+fn enter_pins(
+    words: &[u64],
+    nets: usize,
+    vertices: usize,
+    sides: usize,
+    m: usize,
+    n: usize,
+    weights: &[u8],
+    list: &mut [u16],
+    draws: &[u64],
+    at: usize,
+    keys: &mut [f64],
+    stamps: &mut [u64],
+    waiting: &mut [u8],
+    locked: usize,
+    pins: &[u16],
+    count: usize,
+) -> usize
+    requires { do ⌜ (256 ≤ (← ⟦list.len()⟧)) × (locked < 32768) × (count ≤ 65536) × (count ≤ (← ⟦pins.len()⟧)) × Placed (now words) (place nets vertices sides m n) × Stamped 2147483648 (now stamps) × Under n count (now pins) ⌝ }
+    ensures { λ r. ⌜ AllAgain (now (words .entry)) (place nets vertices sides m n) (now (weights .entry)) locked (now (pins .entry)) count (queueOf (now (keys .entry)) (now (stamps .entry)) (now (waiting .entry)) (wordsAt (now (draws .entry)) at)) (queueOf (now (keys .exit)) (now (stamps .exit)) (now (waiting .exit)) (wordsAt (now (draws .entry)) r)) ⌝ }
+{
+    let mut t = at;
+    for i in 0..count {
+        let u = cells::at16(pins, i);
+        t = enter_again(
+            words,
+            nets,
+            vertices,
+            sides,
+            m,
+            n,
+            weights,
+            list,
+            draws,
+            t,
+            keys,
+            stamps,
+            waiting,
+            locked,
+            u,
+        );
+    }
+    t
 }
