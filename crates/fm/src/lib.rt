@@ -4,6 +4,7 @@ ghost use Prim.Native.Nat.{_<_, _≤_};
 ghost use Rattle.spec.specs.Fm.{above, keyOf, offered, largest};
 ghost use Rattle.draws.specs.Cursor.{wordsAt};
 ghost use Rattle.fm.specs.Again.{Stamped, Under, Again, AllAgain};
+ghost use Rattle.fm.specs.NetAgain.{NetAgain};
 ghost use Rattle.fm.specs.Enters.{place, Placed, Entered, AllEntered};
 ghost use Rattle.fm.specs.Queues.{entry, queueOf, noWords, entryAt};
 
@@ -224,4 +225,47 @@ fn enter_pins(
         );
     }
     t
+}
+
+// Enters the pins of net `e` again, each unless it is in the slot `locked`. The list `pins` is for them.
+fn enter_net(
+    words: &[u64],
+    nets: usize,
+    vertices: usize,
+    sides: usize,
+    m: usize,
+    n: usize,
+    weights: &[u8],
+    list: &mut [u16],
+    draws: &[u64],
+    at: usize,
+    keys: &mut [f64],
+    stamps: &mut [u64],
+    waiting: &mut [u8],
+    locked: usize,
+    pins: &mut [u16],
+    e: usize,
+) -> usize
+    requires { do ⌜ (256 ≤ (← ⟦list.len()⟧)) × (locked < 32768) × (e < m) × (128 ≤ (← ⟦pins.len()⟧)) × Placed (now words) (place nets vertices sides m n) × Stamped 2147483648 (now stamps) ⌝ }
+    ensures { λ r. ⌜ NetAgain (now (words .entry)) (place nets vertices sides m n) (now (weights .entry)) locked e (queueOf (now (keys .entry)) (now (stamps .entry)) (now (waiting .entry)) (wordsAt (now (draws .entry)) at)) (queueOf (now (keys .exit)) (now (stamps .exit)) (now (waiting .exit)) (wordsAt (now (draws .entry)) r)) ⌝ }
+{
+    let count = slots::members(words, 2, nets + e, pins, 0);
+    enter_pins(
+        words,
+        nets,
+        vertices,
+        sides,
+        m,
+        n,
+        weights,
+        list,
+        draws,
+        at,
+        keys,
+        stamps,
+        waiting,
+        locked,
+        pins,
+        count,
+    )
 }
