@@ -2,3 +2,4 @@ pub mod Queues
 pub mod Enters
 pub mod Again
 pub mod NetAgain
+pub mod NetsAgain

@@ -5,6 +5,7 @@ ghost use Rattle.spec.specs.Fm.{above, keyOf, offered, largest};
 ghost use Rattle.draws.specs.Cursor.{wordsAt};
 ghost use Rattle.fm.specs.Again.{Stamped, Under, Again, AllAgain};
 ghost use Rattle.fm.specs.NetAgain.{NetAgain};
+ghost use Rattle.fm.specs.NetsAgain.{NetsAgain};
 ghost use Rattle.fm.specs.Enters.{place, Placed, Entered, AllEntered};
 ghost use Rattle.fm.specs.Queues.{entry, queueOf, noWords, entryAt};
 
@@ -268,4 +269,52 @@ fn enter_net(
         pins,
         count,
     )
+}
+
+// Enters the pins of the first `count` nets of a list again, net by net, each unless it is in the slot `locked`.
+fn enter_nets(
+    words: &[u64],
+    nets: usize,
+    vertices: usize,
+    sides: usize,
+    m: usize,
+    n: usize,
+    weights: &[u8],
+    list: &mut [u16],
+    draws: &[u64],
+    at: usize,
+    keys: &mut [f64],
+    stamps: &mut [u64],
+    waiting: &mut [u8],
+    locked: usize,
+    pins: &mut [u16],
+    own: &[u16],
+    count: usize,
+) -> usize
+    requires { do ⌜ (256 ≤ (← ⟦list.len()⟧)) × (locked < 32768) × (count ≤ 256) × (128 ≤ (← ⟦pins.len()⟧)) × (count ≤ (← ⟦own.len()⟧)) × Placed (now words) (place nets vertices sides m n) × Stamped 1073741824 (now stamps) × Under m count (now own) ⌝ }
+    ensures { λ r. ⌜ NetsAgain (now (words .entry)) (place nets vertices sides m n) (now (weights .entry)) locked (now (own .entry)) count (queueOf (now (keys .entry)) (now (stamps .entry)) (now (waiting .entry)) (wordsAt (now (draws .entry)) at)) (queueOf (now (keys .exit)) (now (stamps .exit)) (now (waiting .exit)) (wordsAt (now (draws .entry)) r)) ⌝ }
+{
+    let mut t = at;
+    for i in 0..count {
+        let e = cells::at16(own, i);
+        t = enter_net(
+            words,
+            nets,
+            vertices,
+            sides,
+            m,
+            n,
+            weights,
+            list,
+            draws,
+            t,
+            keys,
+            stamps,
+            waiting,
+            locked,
+            pins,
+            e,
+        );
+    }
+    t
 }
