@@ -3,3 +3,4 @@ pub mod Enters
 pub mod Again
 pub mod NetAgain
 pub mod NetsAgain
+pub mod Neighbours

@@ -23,7 +23,7 @@ use Rattle.fm.specs.Again.{Stamped, Under, againIn, Locks, AllAgain}
 
 -- ---- what is kept of a range ----
 
-kept-each : (p : ℕ → Bool) (k n : ℕ) → All (λ v. (p v ≡ true) × (v < k + n)) (keep p (from k n))
+pub kept-each : (p : ℕ → Bool) (k n : ℕ) → All (λ v. (p v ≡ true) × (v < k + n)) (keep p (from k n))
 kept-each p k zero = tt
 kept-each p k (suc n) =
     let rest : All (λ v. (p v ≡ true) × (v < k + suc n)) (keep p (from (suc k) n)) =
@@ -32,7 +32,7 @@ kept-each p k (suc n) =
     (λ e. rw e ((e, omega arith), rest))
     (λ e. rw e rest)
 
-all-at : (P : ℕ → Type 0) (l : List ℕ) (k : ℕ) → All P l → k < length l → P (getD l k 0)
+pub all-at : (P : ℕ → Type 0) (l : List ℕ) (k : ℕ) → All P l → k < length l → P (getD l k 0)
 all-at P [] k h b = absurd (omega arith)
 all-at P (x ∷ l) zero h b = h .0
 all-at P (x ∷ l) (suc k) h b = all-at P l k (h .1) (omega arith)

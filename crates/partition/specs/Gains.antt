@@ -46,7 +46,7 @@ map-from f k (suc n) zero h = ap f (omega arith)
 map-from f k (suc n) (suc v) h = map-from f (suc k) n v (omega arith) ∙ ap f (omega arith)
 
 -- a member of what is kept of a range
-kept-below : (p : ℕ → Bool) (n v : ℕ) → memb v (keep p (range n)) ≡ true → v < n
+pub kept-below : (p : ℕ → Bool) (n v : ℕ) → memb v (keep p (range n)) ≡ true → v < n
 kept-below p n v m =
     by-cases (memb v (range n))
     (λ e. omega (arith, from-memb v 0 n e))
@@ -82,7 +82,7 @@ module _ (ws : List ℕ) (nets vertices sides m n : ℕ) (weights : List ℕ) (h
       (λ v q. k v (h .within e v b (kept-below (held ws 2 (nets + e)) 128 v q) (keep-passes v (held ws 2 (nets + e)) (range 128) q))))
 
   -- the nets of a vertex
-  nets-at : (v : ℕ) (vw : List Float) → v < n → netsAt (graphIn ws nets weights m vw) v ≡ map (netIn ws nets weights) (risingOf ws 4 (vertices + v))
+  pub nets-at : (v : ℕ) (vw : List Float) → v < n → netsAt (graphIn ws nets weights m vw) v ≡ map (netIn ws nets weights) (risingOf ws 4 (vertices + v))
   unfolding graphIn risingOf
   nets-at v vw b =
       let split : 256 ≡ m + (256 - m) = omega (arith, h .few .0) in
@@ -135,7 +135,7 @@ keep-length p (u ∷ l) = by-cases (p u) (λ e. rw e (omega (arith, keep-length 
 kept-few : (p : ℕ → Bool) (n : ℕ) → length (keep p (range n)) ≤ n
 kept-few p n = omega (arith, keep-length p (range n), range-length 0 n)
 
-rising-few : (ws : List ℕ) (s : ℕ) → length (risingOf ws 4 s) ≤ 256
+pub rising-few : (ws : List ℕ) (s : ℕ) → length (risingOf ws 4 s) ≤ 256
 unfolding risingOf
 rising-few ws s = kept-few (held ws 4 s) 256
 
