@@ -15,7 +15,7 @@ use Rattle.spec.specs.Fm.{Queue, enteredAs, enteredAgain}
 use Rattle.slots.specs.Slots.{held}
 use Rattle.partition.specs.Folds.{fold-next}
 use Rattle.partition.specs.Layout.{graphIn, sidesIn}
-use Rattle.fm.specs.Enters.{Place, enteredIn, Entered}
+use Rattle.queue.specs.Enters.{Place, enteredIn, Entered}
 
 -- no stamp is above k
 abbrev pub Stamped : ℕ → List ℕ → Type 0

@@ -1,5 +1,3 @@
-pub mod Queues
-pub mod Enters
 pub mod Again
 pub mod NetAgain
 pub mod NetsAgain

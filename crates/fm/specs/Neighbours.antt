@@ -18,7 +18,7 @@ use Rattle.slots.specs.Slots.{held}
 use Rattle.slots.specs.Rising.{risingOf}
 use Rattle.partition.specs.Layout.{netIn, graphIn, Laid}
 use Rattle.partition.specs.Gains.{nets-at, rising-few, listed-nets}
-use Rattle.fm.specs.Enters.{Place}
+use Rattle.queue.specs.Enters.{Place}
 use Rattle.fm.specs.Again.{Stamped, Under, againIn, Locks}
 use Rattle.fm.specs.NetAgain.{kept-each, all-at}
 use Rattle.fm.specs.NetsAgain.{NetsAgain}

@@ -18,7 +18,7 @@ use Rattle.slots.specs.Slots.{held}
 use Rattle.slots.specs.Rising.{risingOf}
 use Rattle.partition.specs.Folds.{take-sets}
 use Rattle.partition.specs.Layout.{Laid}
-use Rattle.fm.specs.Enters.{Place, Placed}
+use Rattle.queue.specs.Enters.{Place, Placed}
 use Rattle.fm.specs.Again.{Stamped, Under, againIn, Locks, AllAgain}
 
 -- ---- what is kept of a range ----

@@ -11,7 +11,7 @@ use Rattle.spec.specs.Hypergraph.{foldOver, allPins}
 use Rattle.spec.specs.Fm.{Queue}
 use Rattle.slots.specs.Rising.{risingOf}
 use Rattle.partition.specs.Layout.{netIn}
-use Rattle.fm.specs.Enters.{Place}
+use Rattle.queue.specs.Enters.{Place}
 use Rattle.fm.specs.Again.{Stamped, againIn, Locks}
 use Rattle.fm.specs.NetAgain.{NetAgain}
 

@@ -2,7 +2,7 @@
 use borrow.Author.Needs.{needs}
 use Prim.Native.Nat.{_+_}
 use Rattle.partition.specs.Gains.{listed-fits, listed-nets}
-use Rattle.fm.specs.Enters.{place}
+use Rattle.queue.specs.Enters.{place}
 use Rattle.fm.specs.Neighbours.{own-few, own-under, neighbours-again}
 use Rattle.fm.proofs.enter_neighbours.Statement.{statement}
 use Rattle.fm.proofs.enter_neighbours.Tie as tie

@@ -1,7 +1,7 @@
 -- `fm::enter_net` meets its contract. Assumes nothing.
 use borrow.Author.Needs.{needs}
 use Prim.Native.Nat.{_+_}
-use Rattle.fm.specs.Enters.{place}
+use Rattle.queue.specs.Enters.{place}
 use Rattle.fm.specs.NetAgain.{pins-fit, pins-listed, pins-under, net-again}
 use Rattle.fm.proofs.enter_net.Statement.{statement}
 use Rattle.fm.proofs.enter_net.Tie as tie
