@@ -18,6 +18,7 @@ use Rattle.slots.specs.Slots.{held}
 use Rattle.slots.specs.Rising.{risingOf}
 use Rattle.partition.specs.Folds.{take-sets}
 use Rattle.partition.specs.Layout.{Laid}
+use Rattle.partition.specs.Gains.{kept-few}
 use Rattle.queue.specs.Enters.{Place, Placed}
 use Rattle.fm.specs.Again.{Stamped, Under, againIn, Locks, AllAgain}
 
@@ -36,13 +37,6 @@ pub all-at : (P : ℕ → Type 0) (l : List ℕ) (k : ℕ) → All P l → k < l
 all-at P [] k h b = absurd (omega arith)
 all-at P (x ∷ l) zero h b = h .0
 all-at P (x ∷ l) (suc k) h b = all-at P l k (h .1) (omega arith)
-
-keep-length : (p : ℕ → Bool) (l : List ℕ) → length (keep p l) ≤ length l
-keep-length p [] = omega arith
-keep-length p (u ∷ l) = by-cases (p u) (λ e. rw e (omega (arith, keep-length p l))) (λ e. rw e (omega (arith, keep-length p l)))
-
-kept-few : (p : ℕ → Bool) (n : ℕ) → length (keep p (range n)) ≤ n
-kept-few p n = omega (arith, keep-length p (range n), range-length 0 n)
 
 pub pins-few : (ws : List ℕ) (s : ℕ) → length (risingOf ws 2 s) ≤ 128
 unfolding risingOf

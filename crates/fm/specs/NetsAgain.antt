@@ -10,6 +10,7 @@ use lib.Seq.{take-suc}
 use Rattle.spec.specs.Hypergraph.{foldOver, allPins}
 use Rattle.spec.specs.Fm.{Queue}
 use Rattle.slots.specs.Rising.{risingOf}
+use Rattle.partition.specs.Folds.{fold-append}
 use Rattle.partition.specs.Layout.{netIn}
 use Rattle.queue.specs.Enters.{Place}
 use Rattle.fm.specs.Again.{Stamped, againIn, Locks}
@@ -18,10 +19,6 @@ use Rattle.fm.specs.NetAgain.{NetAgain}
 append-nil : (l : List ℕ) → l ++ [] ≡ l
 append-nil [] = refl
 append-nil (x ∷ l) = ap (λ k. x ∷ k) (append-nil l)
-
-fold-append : {S : Type 0} (f : ℕ → S → S) (k l : List ℕ) (s : S) → foldOver f (k ++ l) s ≡ foldOver f l (foldOver f k s)
-fold-append f [] l s = refl
-fold-append f (x ∷ k) l s = fold-append f k l (f x s)
 
 module _ (ws : List ℕ) (o : Place) (weights : List ℕ) (locked : ℕ) where
   -- the pins of the nets of a list

@@ -7,7 +7,8 @@ use mathlib.Core.Path.{_≡_, ap, _∙_}
 use Rattle.spec.specs.Lists.{range}
 use Rattle.spec.specs.Hypergraph.{foldOver}
 use Rattle.spec.specs.Fm.{offered}
-use Rattle.queue.specs.Queues.{queueOf, noWords, entryAt, entry-none, range-next}
+use Rattle.partition.specs.Folds.{range-next}
+use Rattle.queue.specs.Queues.{queueOf, noWords, entryAt, entry-none}
 use Rattle.queue.proofs.largest.Statement.{statement}
 use Rattle.queue.proofs.largest.Tie as tie
 
