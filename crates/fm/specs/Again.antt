@@ -1,6 +1,6 @@
 -- Vertices that have not moved are entered again. Assumes nothing.
 use mathlib.Core.Bool.{Bool, true, false, cond}
-use mathlib.Core.Path.{_≡_, refl, sym, ap, _∙_}
+use mathlib.Core.Path.{_≡_, refl, sym, ap, _∙_, subst}
 use mathlib.Core.List.{List, [], _∷_}
 use Prim.Native.Nat.{ℕ, suc, _+_, _≤_, _<_}
 use native.Mathlib.Omega.{arith}
@@ -15,11 +15,15 @@ use Rattle.spec.specs.Fm.{Queue, enteredAs, enteredAgain}
 use Rattle.slots.specs.Slots.{held}
 use Rattle.partition.specs.Folds.{fold-next}
 use Rattle.partition.specs.Layout.{graphIn, sidesIn}
-use Rattle.fm.specs.Enters.{Place, enteredIn, Entered}
+use Rattle.queue.specs.Enters.{Place, enteredIn, Entered}
 
 -- no stamp is above k
 abbrev pub Stamped : ℕ → List ℕ → Type 0
 Stamped k stamps = (u : ℕ) → getD stamps u 0 ≤ k
+
+-- the first i members of a list are below n
+abbrev pub Under : ℕ → ℕ → List ℕ → Type 0
+Under n i l = (k : ℕ) → k < i → getD l k 0 < n
 
 stamped-set : (k u s : ℕ) (stamps : List ℕ) → Stamped k stamps → s ≤ suc k → Stamped (suc k) (set stamps u s)
 stamped-set k u s stamps h b w =
@@ -74,3 +78,9 @@ module _ (ws : List ℕ) (o : Place) (weights : List ℕ) (locked : ℕ) where
         queue = λ vw moves h. fold-next (againIn vw moves) l q g r i b (p .queue vw moves h) (e .queue vw moves h);
         stamps = λ k h w. omega (arith, e .stamps (k + i) (p .stamps k h) w);
       }
+
+  pub same-again : (l : List ℕ) (i : ℕ) (q g r : Queue) (u : ℕ) → i < length l → u ≡ getD l i 0 → AllAgain l i q g → Again u g r → AllAgain l (i + 1) q r
+  same-again l i q g r u b e p a = one-again l i q g r b p (subst (λ (z : ℕ). Again z g r) e a)
+
+  pub all-again : (l : List ℕ) (i k : ℕ) (q r : Queue) → i ≡ k → AllAgain l i q r → AllAgain l k q r
+  all-again l i k q r e p = subst (λ (z : ℕ). AllAgain l z q r) e p

@@ -1,3 +1,4 @@
-pub mod Queues
-pub mod Enters
 pub mod Again
+pub mod NetAgain
+pub mod NetsAgain
+pub mod Neighbours

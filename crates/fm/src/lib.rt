@@ -1,140 +1,12 @@
-// Refinement of a partition by moves of single vertices: keys, entries, the queue.
-ghost use mathlib.Core.Path.{_≡_};
+// Refinement of a partition by moves of single vertices: after a move, the pins of its nets are entered again.
 ghost use Prim.Native.Nat.{_<_, _≤_};
-ghost use Rattle.spec.specs.Fm.{above, keyOf, offered, largest};
 ghost use Rattle.draws.specs.Cursor.{wordsAt};
-ghost use Rattle.fm.specs.Again.{Stamped, Again};
-ghost use Rattle.fm.specs.Enters.{place, Placed, Entered, AllEntered};
-ghost use Rattle.fm.specs.Queues.{entry, queueOf, noWords, entryAt};
-
-// A gain and a little noise.
-pub fn key_of(gain: f64, unit: f64) -> f64
-    ensures { λ r. ⌜ r ≡ keyOf gain unit ⌝ }
-{
-    gain + 1e-9 * unit
-}
-
-// Does an entry of vertex `v` with key `x` and stamp `s` come before one of vertex `u` with key `y` and stamp `t`.
-fn is_above(x: f64, s: u64, v: usize, y: f64, t: u64, u: usize) -> bool
-    ensures { λ r. ⌜ r ≡ above (entry x s v) (entry y t u) ⌝ }
-{
-    if y < x {
-        return true;
-    }
-    if x == y {
-        if t < s {
-            return true;
-        }
-        if s == t {
-            return u < v;
-        }
-        return false;
-    }
-    false
-}
-
-// Of vertex `b`, `n` for none, and vertex `v`, if it waits, the one whose entry comes first.
-fn offer(keys: &[f64], stamps: &[u64], waiting: &[u8], n: usize, v: usize, b: usize) -> usize
-    requires { ⌜ (v < n) × (b ≤ n) ⌝ }
-    ensures { λ r. ⌜ (r ≤ n) × (entryAt n (queueOf (now (keys .entry)) (now (stamps .entry)) (now (waiting .entry)) noWords) r ≡ offered (queueOf (now (keys .entry)) (now (stamps .entry)) (now (waiting .entry)) noWords) v (entryAt n (queueOf (now (keys .entry)) (now (stamps .entry)) (now (waiting .entry)) noWords) b)) ⌝ }
-{
-    if cells::get8(waiting, v) != 1 {
-        return b;
-    }
-    if b == n {
-        return v;
-    }
-    let x = cells::getf(keys, v);
-    let s = cells::get64(stamps, v);
-    let y = cells::getf(keys, b);
-    let t = cells::get64(stamps, b);
-    if is_above(x, s, v, y, t, b) {
-        return v;
-    }
-    b
-}
-
-// The vertex whose entry comes first of all, and `n` without one.
-pub fn largest(keys: &[f64], stamps: &[u64], waiting: &[u8], n: usize) -> usize
-    ensures { λ r. ⌜ (r ≤ n) × (entryAt n (queueOf (now (keys .entry)) (now (stamps .entry)) (now (waiting .entry)) noWords) r ≡ largest n (queueOf (now (keys .entry)) (now (stamps .entry)) (now (waiting .entry)) noWords)) ⌝ }
-{
-    let mut b = n;
-    for v in 0..n {
-        b = offer(keys, stamps, waiting, n, v, b);
-    }
-    b
-}
-
-// Enters vertex `v` with its gain and a draw, in place of its entry so far, and returns the cursor after the draw. The list is for its nets.
-fn enter(
-    words: &[u64],
-    nets: usize,
-    vertices: usize,
-    sides: usize,
-    m: usize,
-    n: usize,
-    weights: &[u8],
-    list: &mut [u16],
-    draws: &[u64],
-    at: usize,
-    keys: &mut [f64],
-    stamps: &mut [u64],
-    waiting: &mut [u8],
-    v: usize,
-    stamp: u64,
-) -> usize
-    requires { do ⌜ (v < n) × (256 ≤ (← ⟦list.len()⟧)) × Placed (now words) (place nets vertices sides m n) ⌝ }
-    ensures { λ r. ⌜ Entered (now (words .entry)) (place nets vertices sides m n) (now (weights .entry)) stamp v (queueOf (now (keys .entry)) (now (stamps .entry)) (now (waiting .entry)) (wordsAt (now (draws .entry)) at)) (queueOf (now (keys .exit)) (now (stamps .exit)) (now (waiting .exit)) (wordsAt (now (draws .entry)) r)) ⌝ }
-{
-    let g = partition::gain(words, nets, vertices, sides, m, n, weights, v, list);
-    let k = key_of(g, draws::unit(draws, at));
-    cells::putf(keys, v, k);
-    cells::put64(stamps, v, stamp);
-    cells::put8(waiting, v, 1);
-    draws::after(draws, at)
-}
-
-// Enters all vertices with the stamp 0, and returns the cursor after the draws.
-pub fn enter_all(
-    words: &[u64],
-    nets: usize,
-    vertices: usize,
-    sides: usize,
-    m: usize,
-    n: usize,
-    weights: &[u8],
-    list: &mut [u16],
-    draws: &[u64],
-    at: usize,
-    keys: &mut [f64],
-    stamps: &mut [u64],
-    waiting: &mut [u8],
-) -> usize
-    requires { do ⌜ (256 ≤ (← ⟦list.len()⟧)) × Placed (now words) (place nets vertices sides m n) ⌝ }
-    ensures { λ r. ⌜ AllEntered (now (words .entry)) (place nets vertices sides m n) (now (weights .entry)) n (queueOf (now (keys .entry)) (now (stamps .entry)) (now (waiting .entry)) (wordsAt (now (draws .entry)) at)) (queueOf (now (keys .exit)) (now (stamps .exit)) (now (waiting .exit)) (wordsAt (now (draws .entry)) r)) ⌝ }
-{
-    let mut t = at;
-    for v in 0..n {
-        t = enter(
-            words,
-            nets,
-            vertices,
-            sides,
-            m,
-            n,
-            weights,
-            list,
-            draws,
-            t,
-            keys,
-            stamps,
-            waiting,
-            v,
-            0,
-        );
-    }
-    t
-}
+ghost use Rattle.queue.specs.Queues.{queueOf};
+ghost use Rattle.queue.specs.Enters.{place, Placed};
+ghost use Rattle.fm.specs.Again.{Stamped, Under, Again, AllAgain};
+ghost use Rattle.fm.specs.NetAgain.{NetAgain};
+ghost use Rattle.fm.specs.NetsAgain.{NetsAgain};
+ghost use Rattle.fm.specs.Neighbours.{NeighboursAgain};
 
 // Enters vertex `u` again, with the next stamp, unless it is in the slot `locked`.
 fn enter_again(
@@ -161,7 +33,7 @@ fn enter_again(
         return at;
     }
     let stamp = cells::get64(stamps, u) + 1;
-    enter(
+    queue::enter(
         words,
         nets,
         vertices,
@@ -177,5 +49,187 @@ fn enter_again(
         waiting,
         u,
         stamp,
+    )
+}
+
+// Enters the first `count` vertices of a list again, each unless it is in the slot `locked`.
+fn enter_pins(
+    words: &[u64],
+    nets: usize,
+    vertices: usize,
+    sides: usize,
+    m: usize,
+    n: usize,
+    weights: &[u8],
+    list: &mut [u16],
+    draws: &[u64],
+    at: usize,
+    keys: &mut [f64],
+    stamps: &mut [u64],
+    waiting: &mut [u8],
+    locked: usize,
+    pins: &[u16],
+    count: usize,
+) -> usize
+    requires { do ⌜ (256 ≤ (← ⟦list.len()⟧)) × (locked < 32768) × (count ≤ 65536) × (count ≤ (← ⟦pins.len()⟧)) × Placed (now words) (place nets vertices sides m n) × Stamped 2147483648 (now stamps) × Under n count (now pins) ⌝ }
+    ensures { λ r. ⌜ AllAgain (now (words .entry)) (place nets vertices sides m n) (now (weights .entry)) locked (now (pins .entry)) count (queueOf (now (keys .entry)) (now (stamps .entry)) (now (waiting .entry)) (wordsAt (now (draws .entry)) at)) (queueOf (now (keys .exit)) (now (stamps .exit)) (now (waiting .exit)) (wordsAt (now (draws .entry)) r)) ⌝ }
+{
+    let mut t = at;
+    for i in 0..count {
+        let u = cells::at16(pins, i);
+        t = enter_again(
+            words,
+            nets,
+            vertices,
+            sides,
+            m,
+            n,
+            weights,
+            list,
+            draws,
+            t,
+            keys,
+            stamps,
+            waiting,
+            locked,
+            u,
+        );
+    }
+    t
+}
+
+// Enters the pins of net `e` again, each unless it is in the slot `locked`. The list `pins` is for them.
+fn enter_net(
+    words: &[u64],
+    nets: usize,
+    vertices: usize,
+    sides: usize,
+    m: usize,
+    n: usize,
+    weights: &[u8],
+    list: &mut [u16],
+    draws: &[u64],
+    at: usize,
+    keys: &mut [f64],
+    stamps: &mut [u64],
+    waiting: &mut [u8],
+    locked: usize,
+    pins: &mut [u16],
+    e: usize,
+) -> usize
+    requires { do ⌜ (256 ≤ (← ⟦list.len()⟧)) × (locked < 32768) × (e < m) × (128 ≤ (← ⟦pins.len()⟧)) × Placed (now words) (place nets vertices sides m n) × Stamped 2147483648 (now stamps) ⌝ }
+    ensures { λ r. ⌜ NetAgain (now (words .entry)) (place nets vertices sides m n) (now (weights .entry)) locked e (queueOf (now (keys .entry)) (now (stamps .entry)) (now (waiting .entry)) (wordsAt (now (draws .entry)) at)) (queueOf (now (keys .exit)) (now (stamps .exit)) (now (waiting .exit)) (wordsAt (now (draws .entry)) r)) ⌝ }
+{
+    let count = slots::members(words, 2, nets + e, pins, 0);
+    enter_pins(
+        words,
+        nets,
+        vertices,
+        sides,
+        m,
+        n,
+        weights,
+        list,
+        draws,
+        at,
+        keys,
+        stamps,
+        waiting,
+        locked,
+        pins,
+        count,
+    )
+}
+
+// Enters the pins of the first `count` nets of a list again, net by net, each unless it is in the slot `locked`.
+fn enter_nets(
+    words: &[u64],
+    nets: usize,
+    vertices: usize,
+    sides: usize,
+    m: usize,
+    n: usize,
+    weights: &[u8],
+    list: &mut [u16],
+    draws: &[u64],
+    at: usize,
+    keys: &mut [f64],
+    stamps: &mut [u64],
+    waiting: &mut [u8],
+    locked: usize,
+    pins: &mut [u16],
+    own: &[u16],
+    count: usize,
+) -> usize
+    requires { do ⌜ (256 ≤ (← ⟦list.len()⟧)) × (locked < 32768) × (count ≤ 256) × (128 ≤ (← ⟦pins.len()⟧)) × (count ≤ (← ⟦own.len()⟧)) × Placed (now words) (place nets vertices sides m n) × Stamped 1073741824 (now stamps) × Under m count (now own) ⌝ }
+    ensures { λ r. ⌜ NetsAgain (now (words .entry)) (place nets vertices sides m n) (now (weights .entry)) locked (now (own .entry)) count (queueOf (now (keys .entry)) (now (stamps .entry)) (now (waiting .entry)) (wordsAt (now (draws .entry)) at)) (queueOf (now (keys .exit)) (now (stamps .exit)) (now (waiting .exit)) (wordsAt (now (draws .entry)) r)) ⌝ }
+{
+    let mut t = at;
+    for i in 0..count {
+        let e = cells::at16(own, i);
+        t = enter_net(
+            words,
+            nets,
+            vertices,
+            sides,
+            m,
+            n,
+            weights,
+            list,
+            draws,
+            t,
+            keys,
+            stamps,
+            waiting,
+            locked,
+            pins,
+            e,
+        );
+    }
+    t
+}
+
+// After vertex `v` has moved: enters each pin of each of its nets again, unless it is in the slot `locked`. The list `own` is for its nets.
+pub fn enter_neighbours(
+    words: &[u64],
+    nets: usize,
+    vertices: usize,
+    sides: usize,
+    m: usize,
+    n: usize,
+    weights: &[u8],
+    list: &mut [u16],
+    draws: &[u64],
+    at: usize,
+    keys: &mut [f64],
+    stamps: &mut [u64],
+    waiting: &mut [u8],
+    locked: usize,
+    pins: &mut [u16],
+    own: &mut [u16],
+    v: usize,
+) -> usize
+    requires { do ⌜ (256 ≤ (← ⟦list.len()⟧)) × (locked < 32768) × (v < n) × (128 ≤ (← ⟦pins.len()⟧)) × (256 ≤ (← ⟦own.len()⟧)) × Placed (now words) (place nets vertices sides m n) × Stamped 1073741824 (now stamps) ⌝ }
+    ensures { λ r. ⌜ NeighboursAgain (now (words .entry)) (place nets vertices sides m n) (now (weights .entry)) locked v (queueOf (now (keys .entry)) (now (stamps .entry)) (now (waiting .entry)) (wordsAt (now (draws .entry)) at)) (queueOf (now (keys .exit)) (now (stamps .exit)) (now (waiting .exit)) (wordsAt (now (draws .entry)) r)) ⌝ }
+{
+    let count = slots::members(words, 4, vertices + v, own, 0);
+    enter_nets(
+        words,
+        nets,
+        vertices,
+        sides,
+        m,
+        n,
+        weights,
+        list,
+        draws,
+        at,
+        keys,
+        stamps,
+        waiting,
+        locked,
+        pins,
+        own,
+        count,
     )
 }

@@ -156,9 +156,6 @@ module _ (N : Network) (eps : Float) (cutoff : ℕ) where
       → Half N left a x → Half N right (x .built .pairs) y → Half N leaves a (joinHalves N eps cutoff x y)
   two-halves leaves left right a x y low lowₗ lowᵣ len cnt f g = made (x .built .tops) (y .built .tops) (f .tops) (g .tops)
     where
-      b : List Pair
-      b = y .built .pairs
-
       both : Forest (leafCount N) (λ v. count v leaves) (leafCount N + length a) (length a + length leaves) (y .built .pairs) (f .top ∷ g .top ∷ [])
       both =
           let m = g .grows in

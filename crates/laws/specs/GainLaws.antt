@@ -190,14 +190,14 @@ module _ (part : List ℕ) (v x : ℕ) (fits : v < length part) where
 
 -- ---- cut by numbers ----
 
-abbrev cutBy : ℕ → ℕ → Bool
+abbrev pub cutBy : ℕ → ℕ → Bool
 cutBy a b = not (eqb a 0) && not (eqb b 0)
 
 any-kept : (p : ℕ → Bool) (l : List ℕ) → anyb p l ≡ not (eqb (length (keep p l)) 0)
 any-kept p [] = refl
 any-kept p (x ∷ l) = by-cases (p x) (λ e. rw (e, ne-eqb (suc (length (keep p l))) 0 (λ q. omega arith))) (λ e. rw e (any-kept p l))
 
-cut-by : (part pins : List ℕ) → isCut part pins ≡ cutBy (pinsOn part 0 pins) (pinsOn part 1 pins)
+pub cut-by : (part pins : List ℕ) → isCut part pins ≡ cutBy (pinsOn part 0 pins) (pinsOn part 1 pins)
 cut-by part pins = ap₂ (λ a b. a && b) (any-kept (λ u. eqb (sideOf part u) 0) pins) (any-kept (λ u. eqb (sideOf part u) 1) pins)
 
 cut-swap : (a b : ℕ) → cutBy a b ≡ cutBy b a

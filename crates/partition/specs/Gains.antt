@@ -35,7 +35,7 @@ keep-map p f (x ∷ l) =
     (λ e. rw e (ap (λ k. f x ∷ k) (keep-map p f l)))
     (λ e. rw e (keep-map p f l))
 
-fold-cong : {S : Type 0} (f g : ℕ → S → S) (l : List ℕ) (s : S) → ((x : ℕ) → memb x l ≡ true → (t : S) → f x t ≡ g x t) → foldOver f l s ≡ foldOver g l s
+pub fold-cong : {S : Type 0} (f g : ℕ → S → S) (l : List ℕ) (s : S) → ((x : ℕ) → memb x l ≡ true → (t : S) → f x t ≡ g x t) → foldOver f l s ≡ foldOver g l s
 fold-cong f g [] s h = refl
 fold-cong f g (x ∷ l) s h =
     ap (foldOver f l) (h x (memb-head x l) s) ∙ fold-cong f g l (g x s) (λ y m t. h y (or-intror (eqb y x) (memb y l) m) t)
@@ -46,7 +46,7 @@ map-from f k (suc n) zero h = ap f (omega arith)
 map-from f k (suc n) (suc v) h = map-from f (suc k) n v (omega arith) ∙ ap f (omega arith)
 
 -- a member of what is kept of a range
-kept-below : (p : ℕ → Bool) (n v : ℕ) → memb v (keep p (range n)) ≡ true → v < n
+pub kept-below : (p : ℕ → Bool) (n v : ℕ) → memb v (keep p (range n)) ≡ true → v < n
 kept-below p n v m =
     by-cases (memb v (range n))
     (λ e. omega (arith, from-memb v 0 n e))
@@ -64,7 +64,7 @@ module _ (ws : List ℕ) (nets vertices sides m n : ℕ) (weights : List ℕ) (h
   side-at v b = map-from (λ v. cond (held ws 2 (sides + 1) v) 1 0) 0 n v b ∙ ap (λ (u : ℕ). cond (held ws 2 (sides + 1) u) 1 0) (omega arith)
 
   -- slot t holds the vertices of side s
-  abbrev Holds : ℕ → ℕ → Type 0
+  abbrev pub Holds : ℕ → ℕ → Type 0
   Holds s t = (v : ℕ) → v < n → eqb (sideOf (sidesIn ws sides n) v) s ≡ held ws 2 t v
 
   pub holds-one : Holds 1 (sides + 1)
@@ -74,7 +74,7 @@ module _ (ws : List ℕ) (nets vertices sides m n : ℕ) (weights : List ℕ) (h
   holds-zero v b = rw (side-at v b, h .apart v b) (by-cases (held ws 2 (sides + 1) v) (λ e. rw e) (λ e. rw e))
 
   -- a net's pins on a side
-  pins-common : (s t e : ℕ) → Holds s t → e < m → pinsOn (sidesIn ws sides n) s (risingOf ws 2 (nets + e)) ≡ length (commonOf ws 2 (nets + e) t)
+  pub pins-common : (s t e : ℕ) → Holds s t → e < m → pinsOn (sidesIn ws sides n) s (risingOf ws 2 (nets + e)) ≡ length (commonOf ws 2 (nets + e) t)
   unfolding commonOf risingOf
   pins-common s t e k b =
       ap length
@@ -82,7 +82,7 @@ module _ (ws : List ℕ) (nets vertices sides m n : ℕ) (weights : List ℕ) (h
       (λ v q. k v (h .within e v b (kept-below (held ws 2 (nets + e)) 128 v q) (keep-passes v (held ws 2 (nets + e)) (range 128) q))))
 
   -- the nets of a vertex
-  nets-at : (v : ℕ) (vw : List Float) → v < n → netsAt (graphIn ws nets weights m vw) v ≡ map (netIn ws nets weights) (risingOf ws 4 (vertices + v))
+  pub nets-at : (v : ℕ) (vw : List Float) → v < n → netsAt (graphIn ws nets weights m vw) v ≡ map (netIn ws nets weights) (risingOf ws 4 (vertices + v))
   unfolding graphIn risingOf
   nets-at v vw b =
       let split : 256 ≡ m + (256 - m) = omega (arith, h .few .0) in
@@ -132,10 +132,10 @@ keep-length : (p : ℕ → Bool) (l : List ℕ) → length (keep p l) ≤ length
 keep-length p [] = omega arith
 keep-length p (u ∷ l) = by-cases (p u) (λ e. rw e (omega (arith, keep-length p l))) (λ e. rw e (omega (arith, keep-length p l)))
 
-kept-few : (p : ℕ → Bool) (n : ℕ) → length (keep p (range n)) ≤ n
+pub kept-few : (p : ℕ → Bool) (n : ℕ) → length (keep p (range n)) ≤ n
 kept-few p n = omega (arith, keep-length p (range n), range-length 0 n)
 
-rising-few : (ws : List ℕ) (s : ℕ) → length (risingOf ws 4 s) ≤ 256
+pub rising-few : (ws : List ℕ) (s : ℕ) → length (risingOf ws 4 s) ≤ 256
 unfolding risingOf
 rising-few ws s = kept-few (held ws 4 s) 256
 

@@ -2,3 +2,4 @@ pub mod Common
 pub mod Folds
 pub mod Layout
 pub mod Gains
+pub mod Cuts

@@ -7,6 +7,7 @@ ghost use Rattle.spec.specs.Fm.{gainNet};
 ghost use Rattle.partition.specs.Common.{commonOf};
 ghost use Rattle.partition.specs.Layout.{Laid, gainStep, gainSum};
 ghost use Rattle.partition.specs.Gains.{IsGain};
+ghost use Rattle.partition.specs.Cuts.{cutStep, IsCutWeight};
 
 // How many members slots `a` and `b` have in common.
 pub fn common(words: &[u64], w: usize, a: usize, b: usize) -> usize
@@ -99,4 +100,38 @@ pub fn gain(
         return gain_sum(words, nets, sides + 1, sides, weights, list, count);
     }
     gain_sum(words, nets, sides, sides + 1, weights, list, count)
+}
+
+// The weight of the nets that are cut, with net `e`.
+fn cut_step(words: &[u64], nets: usize, sides: usize, weights: &[u8], e: usize, c: f64) -> f64
+    requires { ⌜ (nets < 32768) × (sides < 32768) × (e < 256) ⌝ }
+    ensures { λ r. ⌜ r ≡ cutStep (now (words .entry)) nets sides (now (weights .entry)) e c ⌝ }
+{
+    if common(words, 2, nets + e, sides) == 0 {
+        return c;
+    }
+    if common(words, 2, nets + e, sides + 1) == 0 {
+        return c;
+    }
+    c + (cells::get8(weights, e) as f64)
+}
+
+// The weight of the nets that are cut, in a hypergraph of `m` nets and `n` vertices.
+pub fn cut(
+    words: &[u64],
+    nets: usize,
+    vertices: usize,
+    sides: usize,
+    m: usize,
+    n: usize,
+    weights: &[u8],
+) -> f64
+    requires { ⌜ (nets < 32768) × (sides < 32768) × Laid (now words) nets vertices sides m n ⌝ }
+    ensures { λ r. ⌜ IsCutWeight (now (words .entry)) nets sides (now (weights .entry)) m n r ⌝ }
+{
+    let mut c = 0.0;
+    for e in 0..m {
+        c = cut_step(words, nets, sides, weights, e, c);
+    }
+    c
 }

@@ -1,6 +1,7 @@
--- What is claimed of bisection. Definitions only; proofs in BisectionLaws of laws. Assumes nothing.
+-- What is claimed of bisection. Definitions only; proofs in BisectionLaws, BisectionHalves and BisectionRefusals of laws. Assumes nothing.
 use mathlib.Core.Bool.{true, false}
 use mathlib.Core.List.{List}
+use mathlib.Core.Logic.{_⊎_}
 use mathlib.Core.Path.{_≡_}
 use Prim.Native.Nat.{ℕ, _+_, _<_, _≤_}
 use lib.Dec.{eqb}
@@ -9,7 +10,7 @@ use lib.ListN.{length}
 use Rattle.spec.specs.Lists.{count}
 use Rattle.spec.specs.Network.{Network, leafCount}
 use Rattle.spec.specs.Tree.{Pair, valid}
-use Rattle.spec.specs.Refusal.{done}
+use Rattle.spec.specs.Refusal.{Refusal, tableTooWide, drawsExhausted, refused, done}
 use Rattle.spec.specs.Draws.{Words}
 use Rattle.spec.specs.Bisection.{leftHalf, rightHalf, bisectRec, Bisected, bisection}
 
@@ -30,3 +31,8 @@ HalvesShrink = (part leaves : List ℕ) → eqb (length (leftHalf part leaves)) 
 abbrev pub FuelEnough : Type 0
 FuelEnough = (N : Network) (eps : Float) (cutoff fuel : ℕ) (leaves : List ℕ) (a : List Pair) (ws : Words) → length leaves ≤ fuel
     → bisectRec N eps cutoff fuel leaves a ws ≡ bisectRec N eps cutoff (length leaves) leaves a ws
+
+-- LAW B4. Bisection refuses by nothing but 12 and 13.
+abbrev pub OnlyWideOrSpent : Type 0
+OnlyWideOrSpent = (N : Network) (i cutoff : ℕ) (words : List ℕ) (r : Refusal) → bisection N i cutoff words ≡ refused r
+    → (r ≡ tableTooWide) ⊎ (r ≡ drawsExhausted)

@@ -3,7 +3,7 @@ use borrow.Author.Needs.{needs}
 use native.Mathlib.Omega.{arith}
 use Prim.Native.Nat.{_+_}
 use mathlib.Core.Path.{sym, ap, _∙_}
-use Rattle.fm.specs.Enters.{place}
+use Rattle.queue.specs.Enters.{place}
 use Rattle.fm.specs.Again.{again-locked, again-entered}
 use Rattle.fm.proofs.enter_again.Statement.{statement}
 use Rattle.fm.proofs.enter_again.Tie as tie

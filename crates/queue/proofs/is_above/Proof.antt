@@ -1,7 +1,7 @@
--- `fm::is_above` meets its contract, by its five ways. Assumes nothing.
+-- `queue::is_above` meets its contract, by its five ways. Assumes nothing.
 use borrow.Author.Tests.{lt-ltb, le-ltb, eq-eqb, ne-eqb}
-use Rattle.fm.proofs.is_above.Statement.{statement}
-use Rattle.fm.proofs.is_above.Tie as tie
+use Rattle.queue.proofs.is_above.Statement.{statement}
+use Rattle.queue.proofs.is_above.Tie as tie
 
 returns : tie.Need-returns
 returns c = simp (c .if1 .taken)

@@ -61,25 +61,6 @@ module _ (n : ℕ) (q : Queue) where
       ∙ ap (λ o. some (orAbove o (entryOf q v))) (at-vertex b k)
       ∙ ap (λ t. some (cond t (entryOf q v) (entryOf q b))) a)
 
--- ---- folds over a range ----
-
-from-last : (k n : ℕ) → from k (suc n) ≡ from k n ++ ((k + n) ∷ [])
-from-last k zero = let e : k ≡ k + 0 = omega arith in ap (λ (z : ℕ). z ∷ []) e
-from-last k (suc n) =
-    let e : suc k + n ≡ k + suc n = omega arith in
-    ap (λ l. k ∷ l) (from-last (suc k) n ∙ ap (λ (z : ℕ). from (suc k) n ++ (z ∷ [])) e)
-
-fold-append : {A S : Type 0} (f : A → S → S) (k l : List A) (s : S) → foldOver f (k ++ l) s ≡ foldOver f l (foldOver f k s)
-fold-append f [] l s = refl
-fold-append f (x ∷ k) l s = fold-append f k l (f x s)
-
-pub range-next : {S : Type 0} (f : ℕ → S → S) (s g r : S) (k : ℕ) → g ≡ foldOver f (range k) s → r ≡ f k g → r ≡ foldOver f (range (k + 1)) s
-range-next f s g r k p e =
-    let z : 0 + k ≡ k = omega arith in
-    e ∙ ap (f k) p
-    ∙ sym (ap (λ n. foldOver f (range n) s) (add-one k) ∙ ap (λ l. foldOver f l s) (from-last 0 k)
-    ∙ fold-append f (range k) ((0 + k) ∷ []) s ∙ ap (λ (n : ℕ). f n (foldOver f (range k) s)) z)
-
 -- ---- as the code has it ----
 
 pub above-at : (q : Queue) (v b s t : ℕ) (x y : Float) (r : Bool) → x ≡ getD (q .keys) v zeroFloat → s ≡ getD (q .stamps) v 0 → y ≡ getD (q .keys) b zeroFloat

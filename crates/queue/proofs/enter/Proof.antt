@@ -1,8 +1,8 @@
--- `fm::enter` meets its contract. Assumes nothing.
+-- `queue::enter` meets its contract. Assumes nothing.
 use borrow.Author.Needs.{needs}
-use Rattle.fm.specs.Enters.{place, entered-is}
-use Rattle.fm.proofs.enter.Statement.{statement}
-use Rattle.fm.proofs.enter.Tie as tie
+use Rattle.queue.specs.Enters.{place, entered-is}
+use Rattle.queue.proofs.enter.Statement.{statement}
+use Rattle.queue.proofs.enter.Tie as tie
 
 gain-requires : tie.Need-gain-requires
 gain-requires c κs = search needs

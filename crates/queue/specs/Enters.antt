@@ -11,7 +11,8 @@ use Rattle.spec.specs.Fm.{Queue, gain, keyOf, enteredAs}
 use Rattle.draws.specs.Cursor.{wordsAt}
 use Rattle.partition.specs.Layout.{graphIn, sidesIn, Laid}
 use Rattle.partition.specs.Gains.{IsGain}
-use Rattle.fm.specs.Queues.{queueOf, range-next}
+use Rattle.partition.specs.Folds.{range-next}
+use Rattle.queue.specs.Queues.{queueOf}
 
 -- where a hypergraph and a partition of it lie
 pub record Place : Type 0 where

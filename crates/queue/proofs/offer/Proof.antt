@@ -1,4 +1,4 @@
--- `fm::offer` meets its contract. Assumes nothing.
+-- `queue::offer` meets its contract. Assumes nothing.
 use borrow.Author.Needs.{needs}
 use borrow.Author.Tests.{eq-eqb, ne-eqb}
 use native.Mathlib.Omega.{arith}
@@ -6,9 +6,9 @@ use Prim.Native.Nat.{_<_}
 use mathlib.Core.Bool.{true}
 use mathlib.Core.Path.{_≡_, sym, _∙_}
 use Rattle.spec.specs.Fm.{above, waits, entryOf}
-use Rattle.fm.specs.Queues.{queueOf, noWords, offer-none, offer-first, offer-above, offer-below, above-at}
-use Rattle.fm.proofs.offer.Statement.{statement}
-use Rattle.fm.proofs.offer.Tie as tie
+use Rattle.queue.specs.Queues.{queueOf, noWords, offer-none, offer-first, offer-above, offer-below, above-at}
+use Rattle.queue.proofs.offer.Statement.{statement}
+use Rattle.queue.proofs.offer.Tie as tie
 
 get8-requires : tie.Need-get8-requires
 get8-requires c κs = search needs

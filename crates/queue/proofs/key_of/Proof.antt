@@ -1,8 +1,8 @@
--- `fm::key_of` meets its contract. Assumes nothing.
+-- `queue::key_of` meets its contract. Assumes nothing.
 use mathlib.Core.Path.{refl}
 use lib.Ieee.{ofBits, round}
-use Rattle.fm.proofs.key_of.Statement.{statement}
-use Rattle.fm.proofs.key_of.Tie as tie
+use Rattle.queue.proofs.key_of.Statement.{statement}
+use Rattle.queue.proofs.key_of.Tie as tie
 
 returns : tie.Need-returns
 unfolding ofBits round

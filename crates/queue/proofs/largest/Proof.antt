@@ -1,4 +1,4 @@
--- `fm::largest` meets its contract. The invariant: b has the first entry of the vertices below v. Assumes nothing.
+-- `queue::largest` meets its contract. The invariant: b has the first entry of the vertices below v. Assumes nothing.
 use borrow.Author.Needs.{needs}
 use native.Mathlib.Omega.{arith}
 use Prim.Native.Nat.{_-_, _≤_}
@@ -7,9 +7,10 @@ use mathlib.Core.Path.{_≡_, ap, _∙_}
 use Rattle.spec.specs.Lists.{range}
 use Rattle.spec.specs.Hypergraph.{foldOver}
 use Rattle.spec.specs.Fm.{offered}
-use Rattle.fm.specs.Queues.{queueOf, noWords, entryAt, entry-none, range-next}
-use Rattle.fm.proofs.largest.Statement.{statement}
-use Rattle.fm.proofs.largest.Tie as tie
+use Rattle.partition.specs.Folds.{range-next}
+use Rattle.queue.specs.Queues.{queueOf, noWords, entryAt, entry-none}
+use Rattle.queue.proofs.largest.Statement.{statement}
+use Rattle.queue.proofs.largest.Tie as tie
 
 abbrev Inv-loop : tie.InvT-loop
 Inv-loop keys stamps waiting n b₀ v₀ b v =

@@ -1,14 +1,14 @@
--- `fm::enter_all` meets its contract. The invariant: the vertices below v were entered. Assumes nothing.
+-- `queue::enter_all` meets its contract. The invariant: the vertices below v were entered. Assumes nothing.
 use borrow.Author.Needs.{needs}
 use native.Mathlib.Omega.{arith}
 use Prim.Native.Nat.{_-_, _≤_}
 use mathlib.Core.Path.{_≡_, refl}
 use lib.ListN.{length}
 use Rattle.draws.specs.Cursor.{wordsAt}
-use Rattle.fm.specs.Queues.{queueOf}
-use Rattle.fm.specs.Enters.{place, AllEntered, one-more, all-of}
-use Rattle.fm.proofs.enter_all.Statement.{statement}
-use Rattle.fm.proofs.enter_all.Tie as tie
+use Rattle.queue.specs.Queues.{queueOf}
+use Rattle.queue.specs.Enters.{place, AllEntered, one-more, all-of}
+use Rattle.queue.proofs.enter_all.Statement.{statement}
+use Rattle.queue.proofs.enter_all.Tie as tie
 
 abbrev Inv-loop : tie.InvT-loop
 Inv-loop words nets vertices sides m n weights list₀ draws at keys₀ stamps₀ waiting₀ t₀ v₀ list keys stamps waiting t v =
