@@ -6,7 +6,7 @@ use mathlib.Core.Option.{Option, none, some}
 use Prim.Native.Nat.{ℕ, zero, suc, _+_, _-_, _≤_, _<_}
 use native.Mathlib.Omega.{arith}
 use lib.Dec.{eqb}
-use lib.ListN.{length, getD, set, take}
+use lib.ListN.{length, getD, set, take, length-set}
 use lib.Ieee.{Float, binary64, add, mul, lt, le}
 use Rattle.spec.specs.Floats.{zeroFloat, micro, wholeFloat}
 use Rattle.spec.specs.Draws.{Words, Drawn, drawn, draw, unitDraw}
@@ -74,3 +74,9 @@ module _ (vw : List Float) (limit : Float) (words : List ℕ) (rating rating′ 
       and-no : (b : Bool) → (b && false) ≡ false
       and-no true = refl
       and-no false = refl
+
+-- ---- a pair, by the list of mates ----
+
+pub mated-length : (v u : ℕ) (found : Bool) (mates mates′ : List ℕ) → mates′ ≡ matedIn v found u mates → length mates′ ≡ length mates
+mated-length v u true mates mates′ e = ap length e ∙ length-set (set mates v u) u v ∙ length-set mates v u
+mated-length v u false mates mates′ e = ap length e ∙ length-set mates v v

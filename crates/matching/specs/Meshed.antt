@@ -1,6 +1,6 @@
 -- A hypergraph in slots, without sides: the nets of a vertex, and a matching by them. Assumes nothing.
 use mathlib.Core.Bool.{Bool, true, false, not, _&&_, cond}
-use mathlib.Core.Path.{_≡_, refl, sym, ap, _∙_}
+use mathlib.Core.Path.{_≡_, refl, sym, ap, _∙_, subst}
 use mathlib.Core.List.{List, [], _∷_, _++_, map}
 use mathlib.Core.Option.{Option, none, some}
 use Prim.Native.Nat.{ℕ, zero, suc, _+_, _-_, _*_, _≤_, _<_}
@@ -15,7 +15,7 @@ use Rattle.spec.specs.Memory.{filled}
 use Rattle.spec.specs.Floats.{zeroFloat}
 use Rattle.spec.specs.Draws.{Words, Drawn, drawn}
 use Rattle.spec.specs.Hypergraph.{foldOver, Net, Hypergraph, netsAt, vertexCount}
-use Rattle.spec.specs.Coarsen.{Ratings, Choice, ratedBy, ratings, lookedAt, mated, matched}
+use Rattle.spec.specs.Coarsen.{Ratings, Choice, ratedBy, ratings, lookedAt, mated, matched, shuffled, matching}
 use Rattle.laws.specs.Booleans.{by-cases}
 use Rattle.laws.specs.ListLaws.{keep-ext-from, keep-none-from, range-length}
 use Rattle.slots.specs.Slots.{held}
@@ -24,6 +24,7 @@ use Rattle.draws.specs.Cursor.{wordsAt}
 use Rattle.partition.specs.Layout.{netIn, graphIn}
 use Rattle.partition.specs.Folds.{fold-map, take-sets}
 use Rattle.ratings.specs.Rated.{ratingsIn, ratedNet, ratedNets, rated-net}
+use Rattle.matching.specs.Order.{Below, below-shuffled, below-range}
 use Rattle.matching.specs.Choices.{mateIf, choiceOf, looked, matedIn}
 
 -- Slots nets on hold the pins of m nets; slots vertices on, the nets of n vertices.
@@ -145,3 +146,27 @@ module _ (ws : List ℕ) (nets vertices m n : ℕ) (weights : List ℕ) (vw : Li
         where
           choiceEnd : Choice
           choiceEnd = foldOver (lookedAt G maxw v) (ratings G maxw mates v .touched) (choiceOf zeroFloat none (ratings G maxw mates v .rating) (wordsAt words at))
+
+  -- MATCHED IN A DRAWN ORDER
+  pub all-matched : (words order order′ order″ mates mates′ mates″ : List ℕ) (at at′ at″ : ℕ) → length vw ≡ n → length order ≡ n → length mates ≡ n
+      → order′ ≡ range (length order)
+      → drawn order″ (wordsAt words at′) ≡ shuffled (length order′ - 1) (drawn order′ (wordsAt words at))
+      → mates′ ≡ filled (length mates) n
+      → drawn mates″ (wordsAt words at″) ≡ foldOver (matched G maxw) order″ (drawn mates′ (wordsAt words at′))
+      → drawn mates″ (wordsAt words at″) ≡ matching G maxw (wordsAt words at)
+  unfolding graphIn filled
+  all-matched words order order′ order″ mates mates′ mates″ at at′ at″ ev eo em e₁ e₂ e₃ e₄ =
+      let l : length order′ ≡ length vw = ap length e₁ ∙ range-length 0 (length order) ∙ eo ∙ sym ev in
+      let z : drawn order″ (wordsAt words at′) ≡ shuffled (length vw - 1) (drawn (range (length vw)) (wordsAt words at)) =
+      e₂ ∙ (λ i. shuffled (l i - 1) (drawn order′ (wordsAt words at))) ∙ ap (λ x. shuffled (length vw - 1) (drawn x (wordsAt words at))) (e₁ ∙ ap (λ (k : ℕ). range k) (eo ∙ sym ev)) in
+      let y : mates′ ≡ replicate (length vw) (length vw) = e₃ ∙ ap (λ (k : ℕ). replicate k n) (em ∙ sym ev) ∙ ap (λ (k : ℕ). replicate (length vw) k) (sym ev) in
+      e₄ ∙ ap (λ x. foldOver (matched G maxw) order″ (drawn x (wordsAt words at′))) y
+      ∙ ap (λ (d : Drawn (List ℕ)). foldOver (matched G maxw) (d .value) (drawn (replicate (length vw) (length vw)) (d .words))) z
+
+  pub order-below : (words order order′ order″ : List ℕ) (at at′ : ℕ) → 0 < n → length order ≡ n
+      → order′ ≡ range (length order)
+      → drawn order″ (wordsAt words at′) ≡ shuffled (length order′ - 1) (drawn order′ (wordsAt words at))
+      → Below n order″
+  order-below words order order′ order″ at at′ b eo e₁ e₂ =
+      subst (λ (d : Drawn (List ℕ)). Below n (d .value)) (sym e₂)
+      (below-shuffled n (length order′ - 1) (drawn order′ (wordsAt words at)) (subst (Below n) (sym (e₁ ∙ ap (λ (k : ℕ). range k) eo)) (below-range n b)))

@@ -7,9 +7,11 @@ ghost use Rattle.spec.specs.Lists.{range};
 ghost use Rattle.spec.specs.Floats.{zeroFloat};
 ghost use Rattle.spec.specs.Draws.{drawn};
 ghost use Rattle.spec.specs.Hypergraph.{foldOver};
-ghost use Rattle.spec.specs.Coarsen.{shuffled};
+ghost use Rattle.spec.specs.Coarsen.{shuffled, matched, matching};
+ghost use Rattle.partition.specs.Layout.{graphIn};
 ghost use Rattle.draws.specs.Cursor.{wordsAt};
-ghost use Rattle.matching.specs.Order.{drawnSwap};
+ghost use Rattle.matching.specs.Order.{drawnSwap, Below};
+ghost use Rattle.matching.specs.Meshed.{Meshed};
 ghost use Rattle.matching.specs.Choices.{mateIf, choiceOf, looked, matedIn};
 
 // Makes a list 0, 1, 2, ..
@@ -114,4 +116,102 @@ fn pair(mates: &mut [u16], v: usize, found: bool, u: usize)
     } else {
         cells::put16(mates, v, v as u16);
     }
+}
+
+// `v` is matched, unless it has a mate already: `n`, the number of vertices, stands for none. The lists are for ratings, the vertices rated, pins and nets.
+fn match_vertex(
+    graph: &[u64],
+    nets: usize,
+    vertices: usize,
+    m: usize,
+    weights: &[u8],
+    vw: &[f64],
+    limit: f64,
+    words: &[u64],
+    at: usize,
+    mates: &mut [u16],
+    rating: &mut [f64],
+    touched: &mut [u16],
+    pins: &mut [u16],
+    list: &mut [u16],
+    v: usize,
+) -> usize
+    requires { ⌜ (nets < 32768) × (vertices < 32768) × (v < length (now vw)) × (length (now rating) ≡ length (now vw)) × (16384 ≤ length (now touched)) × (128 ≤ length (now pins)) × (256 ≤ length (now list)) × Meshed (now graph) nets vertices m (length (now vw)) ⌝ }
+    ensures { λ r. ⌜ (drawn (now (mates .exit)) (wordsAt (now (words .entry)) r) ≡ matched (graphIn (now (graph .entry)) nets (now (weights .entry)) m (now (vw .entry))) limit v (drawn (now (mates .entry)) (wordsAt (now (words .entry)) at))) × (length (now (mates .exit)) ≡ length (now (mates .entry))) × (length (now (rating .exit)) ≡ length (now (rating .entry))) × (length (now (touched .exit)) ≡ length (now (touched .entry))) × (length (now (pins .exit)) ≡ length (now (pins .entry))) × (length (now (list .exit)) ≡ length (now (list .entry))) ⌝ }
+{
+    let n = vw.len();
+    if cells::at16(mates, v) == n {
+        cells::fillf(rating, 0.0);
+        let len = slots::members(graph, 4, vertices + v, list, 0);
+        let count = ratings::rate_nets(
+            graph, nets, weights, pins, mates, n, v, rating, touched, list, len,
+        );
+        let best = choose(vw, limit, words, at, rating, v, touched, count);
+        pair(mates, v, best.found, best.mate);
+        return best.at;
+    }
+    at
+}
+
+// The vertices of a list, one after another.
+fn match_in_order(
+    graph: &[u64],
+    nets: usize,
+    vertices: usize,
+    m: usize,
+    weights: &[u8],
+    vw: &[f64],
+    limit: f64,
+    words: &[u64],
+    at: usize,
+    order: &[u16],
+    mates: &mut [u16],
+    rating: &mut [f64],
+    touched: &mut [u16],
+    pins: &mut [u16],
+    list: &mut [u16],
+) -> usize
+    requires { ⌜ (nets < 32768) × (vertices < 32768) × (0 < length (now vw)) × (length (now rating) ≡ length (now vw)) × (16384 ≤ length (now touched)) × (128 ≤ length (now pins)) × (256 ≤ length (now list)) × Meshed (now graph) nets vertices m (length (now vw)) × (length (now order) ≡ length (now vw)) × Below (length (now vw)) (now order) ⌝ }
+    ensures { λ r. ⌜ (drawn (now (mates .exit)) (wordsAt (now (words .entry)) r) ≡ foldOver (matched (graphIn (now (graph .entry)) nets (now (weights .entry)) m (now (vw .entry))) limit) (now (order .entry)) (drawn (now (mates .entry)) (wordsAt (now (words .entry)) at))) × (length (now (mates .exit)) ≡ length (now (mates .entry))) ⌝ }
+{
+    let mut cursor = at;
+    for k in 0..vw.len() {
+        let v = cells::at16(order, k);
+        cursor = match_vertex(
+            graph, nets, vertices, m, weights, vw, limit, words, cursor, mates, rating, touched,
+            pins, list, v,
+        );
+    }
+    cursor
+}
+
+// The mates of all vertices, taken in a drawn order. Returns the cursor.
+pub fn match_all(
+    graph: &[u64],
+    nets: usize,
+    vertices: usize,
+    m: usize,
+    weights: &[u8],
+    vw: &[f64],
+    limit: f64,
+    words: &[u64],
+    at: usize,
+    order: &mut [u16],
+    mates: &mut [u16],
+    rating: &mut [f64],
+    touched: &mut [u16],
+    pins: &mut [u16],
+    list: &mut [u16],
+) -> usize
+    requires { ⌜ (nets < 32768) × (vertices < 32768) × (0 < length (now vw)) × (length (now rating) ≡ length (now vw)) × (16384 ≤ length (now touched)) × (128 ≤ length (now pins)) × (256 ≤ length (now list)) × Meshed (now graph) nets vertices m (length (now vw)) × (length (now order) ≡ length (now vw)) × (length (now mates) ≡ length (now vw)) ⌝ }
+    ensures { λ r. ⌜ drawn (now (mates .exit)) (wordsAt (now (words .entry)) r) ≡ matching (graphIn (now (graph .entry)) nets (now (weights .entry)) m (now (vw .entry))) limit (wordsAt (now (words .entry)) at) ⌝ }
+{
+    let n = vw.len();
+    count_up(order);
+    let cursor = shuffle(order, words, at);
+    cells::fill16(mates, n as u16);
+    match_in_order(
+        graph, nets, vertices, m, weights, vw, limit, words, cursor, order, mates, rating, touched,
+        pins, list,
+    )
 }
