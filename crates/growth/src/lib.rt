@@ -1,0 +1,98 @@
+// A side that grows along its nets: how strongly the other vertices are connected to it.
+ghost use mathlib.Core.Path.{_≡_};
+ghost use Prim.Native.Nat.{_+_, _<_, _≤_};
+ghost use lib.ListN.{length, take};
+ghost use Rattle.spec.specs.Floats.{wholeFloat};
+ghost use Rattle.draws.specs.Cursor.{wordsAt};
+ghost use Rattle.matching.specs.Choices.{mateIf};
+ghost use Rattle.growth.specs.Links.{strongIn, offeredIn, strongestIn, linkedPin, linkedPins, linkedNet, linkedNets};
+
+// The strongest connection so far, and its vertex, if one was found; the cursor.
+pub struct Candidate {
+    pub link: f64,
+    pub vertex: usize,
+    pub found: bool,
+    pub at: usize,
+}
+
+// Vertex `u` is looked at if it is on side 0: its connection with a little noise, which takes a draw.
+fn offer(part: &[u8], links: &[f64], words: &[u64], u: usize, best: Candidate) -> Candidate
+    requires { ⌜ (u < length (now links)) × (best .vertex < length (now links)) ⌝ }
+    ensures { λ r. ⌜ (strongIn (r .link) (mateIf (r .found) (r .vertex)) (wordsAt (now (words .entry)) (r .at)) ≡ offeredIn (now (part .entry)) (now (links .entry)) u (strongIn (best .link) (mateIf (best .found) (best .vertex)) (wordsAt (now (words .entry)) (best .at)))) × (r .vertex < length (now (links .entry))) ⌝ }
+{
+    if cells::at8(part, u) == 0 {
+        let noise = draws::unit(words, best.at);
+        let next = draws::after(words, best.at);
+        let x = cells::getf(links, u) + 1e-6 * noise;
+        if best.link < x {
+            return Candidate { link: x, vertex: u, found: true, at: next };
+        }
+        return Candidate { link: best.link, vertex: best.vertex, found: best.found, at: next };
+    }
+    Candidate { link: best.link, vertex: best.vertex, found: best.found, at: best.at }
+}
+
+// The vertex of side 0 with the strongest connection.
+pub fn strongest(part: &[u8], links: &[f64], words: &[u64], at: usize) -> Candidate
+    requires { ⌜ (0 < length (now links)) × (length (now links) ≤ 65536) ⌝ }
+    ensures { λ r. ⌜ (strongIn (r .link) (mateIf (r .found) (r .vertex)) (wordsAt (now (words .entry)) (r .at)) ≡ strongestIn (now (part .entry)) (now (links .entry)) (length (now (links .entry))) (wordsAt (now (words .entry)) at)) × (r .vertex < length (now (links .entry))) ⌝ }
+{
+    let mut best = Candidate { link: -1.0, vertex: 0, found: false, at };
+    for u in 0..links.len() {
+        best = offer(part, links, words, u, best);
+    }
+    best
+}
+
+// Vertex `u` is connected more strongly by `x`.
+fn link(links: &mut [f64], u: usize, x: f64)
+    ensures { λ _. ⌜ now (links .exit) ≡ linkedPin x u (now (links .entry)) ⌝ }
+{
+    let y = cells::getf(links, u);
+    cells::putf(links, u, y + x);
+}
+
+// The first `len` pins of a list, of a net of weight `w`.
+fn link_pins(links: &mut [f64], pins: &[u16], len: usize, w: u8)
+    requires { ⌜ len ≤ length (now pins) ⌝ }
+    ensures { λ _. ⌜ now (links .exit) ≡ linkedPins (wholeFloat w) (take len (now (pins .entry))) (now (links .entry)) ⌝ }
+{
+    let x = w as f64;
+    for k in 0..len {
+        link(links, cells::at16(pins, k), x);
+    }
+}
+
+// Net `e`, whose weight is in `weights`. The list is for its pins.
+fn link_net(
+    graph: &[u64],
+    nets: usize,
+    weights: &[u8],
+    pins: &mut [u16],
+    links: &mut [f64],
+    e: usize,
+)
+    requires { ⌜ (nets < 65536) × (e < 65536) × (128 ≤ length (now pins)) ⌝ }
+    ensures { λ _. ⌜ (now (links .exit) ≡ linkedNet (now (graph .entry)) nets (now (weights .entry)) e (now (links .entry))) × (length (now (links .exit)) ≡ length (now (links .entry))) × (length (now (pins .exit)) ≡ length (now (pins .entry))) ⌝ }
+{
+    let len = slots::members(graph, 2, nets + e, pins, 0);
+    link_pins(links, pins, len, cells::get8(weights, e));
+}
+
+// The first `len` nets of a list: the vertices on them are connected more strongly.
+pub fn link_nets(
+    graph: &[u64],
+    nets: usize,
+    weights: &[u8],
+    pins: &mut [u16],
+    links: &mut [f64],
+    list: &[u16],
+    len: usize,
+)
+    requires { ⌜ (nets < 65536) × (len ≤ length (now list)) × (128 ≤ length (now pins)) ⌝ }
+    ensures { λ _. ⌜ (now (links .exit) ≡ linkedNets (now (graph .entry)) nets (now (weights .entry)) (take len (now (list .entry))) (now (links .entry))) × (length (now (links .exit)) ≡ length (now (links .entry))) × (length (now (pins .exit)) ≡ length (now (pins .entry))) ⌝ }
+{
+    for k in 0..len {
+        link_net(graph, nets, weights, pins, links, cells::at16(list, k));
+    }
+}
