@@ -25,11 +25,26 @@ fn offer(part: &[u8], links: &[f64], words: &[u64], u: usize, best: Candidate) -
         let next = draws::after(words, best.at);
         let x = cells::getf(links, u) + 1e-6 * noise;
         if best.link < x {
-            return Candidate { link: x, vertex: u, found: true, at: next };
+            return Candidate {
+                link: x,
+                vertex: u,
+                found: true,
+                at: next,
+            };
         }
-        return Candidate { link: best.link, vertex: best.vertex, found: best.found, at: next };
+        return Candidate {
+            link: best.link,
+            vertex: best.vertex,
+            found: best.found,
+            at: next,
+        };
     }
-    Candidate { link: best.link, vertex: best.vertex, found: best.found, at: best.at }
+    Candidate {
+        link: best.link,
+        vertex: best.vertex,
+        found: best.found,
+        at: best.at,
+    }
 }
 
 // The vertex of side 0 with the strongest connection.
@@ -37,7 +52,12 @@ pub fn strongest(part: &[u8], links: &[f64], words: &[u64], at: usize) -> Candid
     requires { ⌜ (0 < length (now links)) × (length (now links) ≤ 65536) ⌝ }
     ensures { λ r. ⌜ (strongIn (r .link) (mateIf (r .found) (r .vertex)) (wordsAt (now (words .entry)) (r .at)) ≡ strongestIn (now (part .entry)) (now (links .entry)) (length (now (links .entry))) (wordsAt (now (words .entry)) at)) × (r .vertex < length (now (links .entry))) ⌝ }
 {
-    let mut best = Candidate { link: -1.0, vertex: 0, found: false, at };
+    let mut best = Candidate {
+        link: -1.0,
+        vertex: 0,
+        found: false,
+        at,
+    };
     for u in 0..links.len() {
         best = offer(part, links, words, u, best);
     }

@@ -78,10 +78,20 @@ fn look(
     cells::putf(rating, u, 0.0);
     if best.rating < x {
         if cells::getf(vw, v) + cells::getf(vw, u) <= limit {
-            return Best { rating: x, mate: u, found: true, at: next };
+            return Best {
+                rating: x,
+                mate: u,
+                found: true,
+                at: next,
+            };
         }
     }
-    Best { rating: best.rating, mate: best.mate, found: best.found, at: next }
+    Best {
+        rating: best.rating,
+        mate: best.mate,
+        found: best.found,
+        at: next,
+    }
 }
 
 // The best mate of `v` among the first `count` vertices of a list.
@@ -98,7 +108,12 @@ fn choose(
     requires { do ⌜ count ≤ (← ⟦touched.len()⟧) ⌝ }
     ensures { λ r. ⌜ (choiceOf (r .rating) (mateIf (r .found) (r .mate)) (now (rating .exit)) (wordsAt (now (words .entry)) (r .at)) ≡ foldOver (looked (now (vw .entry)) limit v) (take count (now (touched .entry))) (choiceOf zeroFloat (mateIf false 0) (now (rating .entry)) (wordsAt (now (words .entry)) at))) × (r .mate < 65536) × (length (now (rating .exit)) ≡ length (now (rating .entry))) ⌝ }
 {
-    let mut best = Best { rating: 0.0, mate: 0, found: false, at };
+    let mut best = Best {
+        rating: 0.0,
+        mate: 0,
+        found: false,
+        at,
+    };
     for k in 0..count {
         best = look(vw, limit, words, rating, v, cells::at16(touched, k), best);
     }
@@ -144,7 +159,17 @@ fn match_vertex(
         cells::fillf(rating, 0.0);
         let len = slots::members(graph, 4, vertices + v, list, 0);
         let count = ratings::rate_nets(
-            graph, nets, weights, pins, mates, n, v, rating, touched, list, len,
+            graph,
+            nets,
+            weights,
+            pins,
+            mates,
+            n,
+            v,
+            rating,
+            touched,
+            list,
+            len,
         );
         let best = choose(vw, limit, words, at, rating, v, touched, count);
         pair(mates, v, best.found, best.mate);
@@ -178,8 +203,21 @@ fn match_in_order(
     for k in 0..vw.len() {
         let v = cells::at16(order, k);
         cursor = match_vertex(
-            graph, nets, vertices, m, weights, vw, limit, words, cursor, mates, rating, touched,
-            pins, list, v,
+            graph,
+            nets,
+            vertices,
+            m,
+            weights,
+            vw,
+            limit,
+            words,
+            cursor,
+            mates,
+            rating,
+            touched,
+            pins,
+            list,
+            v,
         );
     }
     cursor
@@ -211,7 +249,20 @@ pub fn match_all(
     let cursor = shuffle(order, words, at);
     cells::fill16(mates, n as u16);
     match_in_order(
-        graph, nets, vertices, m, weights, vw, limit, words, cursor, order, mates, rating, touched,
-        pins, list,
+        graph,
+        nets,
+        vertices,
+        m,
+        weights,
+        vw,
+        limit,
+        words,
+        cursor,
+        order,
+        mates,
+        rating,
+        touched,
+        pins,
+        list,
     )
 }

@@ -119,7 +119,19 @@ pub fn rate_nets(
 {
     let mut at: usize = 0;
     for k in 0..len {
-        at = rate_net(words, nets, weights, pins, mates, n, v, rating, touched, at, cells::at16(list, k));
+        at = rate_net(
+            words,
+            nets,
+            weights,
+            pins,
+            mates,
+            n,
+            v,
+            rating,
+            touched,
+            at,
+            cells::at16(list, k),
+        );
     }
     at
 }

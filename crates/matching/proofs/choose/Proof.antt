@@ -38,8 +38,12 @@ loop-less : tie.Need-loop-less Inv-loop μ-loop
 loop-less c = search needs
 
 loop-again : tie.Need-loop-again Inv-loop μ-loop
-loop-again c = let d = c .before .before .before .before .before .before .before .before .before .before .before in let a = d .args in let l = c .before .before .before .before .before .before .loop in let o = c .before .before .look in let g = choiceOf (l .best .rating) (mateIf (l .best .found) (l .best .mate)) (l .rating) (wordsAt (a .words .now) (l .best .at)) in (omega arith,
-    fold-next (looked (a .vw .now) (a .limit) (a .v)) (a .touched .now) (choiceOf zeroFloat (mateIf false 0) (a .rating .now) (wordsAt (a .words .now) (a .at))) g _ (l .k) (omega (arith, d .pre, c .before .before .before .before .before .loop-test .taken)) (l .inv .1) (o .ensures .0 ∙ ap (λ (u : ℕ). looked (a .vw .now) (a .limit) (a .v) u g) (c .before .before .before .at16 .ensures .0)), o .ensures .1, o .ensures .2 ∙ l .inv .3)
+loop-again c = let d = c .before .before .before .before .before .before .before .before .before .before .before in let a = d .args in let l = c .before .before .before .before .before .before .loop in let o = c .before .before .look in let g = choiceOf (l .best .rating) (mateIf (l .best .found) (l .best .mate)) (l .rating) (wordsAt (a .words .now) (l .best .at)) in (
+  omega arith,
+  fold-next (looked (a .vw .now) (a .limit) (a .v)) (a .touched .now) (choiceOf zeroFloat (mateIf false 0) (a .rating .now) (wordsAt (a .words .now) (a .at))) g _ (l .k) (omega (arith, d .pre, c .before .before .before .before .before .loop-test .taken)) (l .inv .1) (o .ensures .0 ∙ ap (λ (u : ℕ). looked (a .vw .now) (a .limit) (a .v) u g) (c .before .before .before .at16 .ensures .0)),
+  o .ensures .1,
+  o .ensures .2 ∙ l .inv .3,
+)
 
 same-length : tie.Need-same-length Inv-loop μ-loop
 same-length c = c .before .loop .inv .3

@@ -39,10 +39,16 @@ loop-less : tie.Need-loop-less Inv-loop μ-loop
 loop-less c = omega (arith, c .before .before .before .before .before .before .before .before .before .before .before .before .before .before .before .before .before .loop-test .taken)
 
 loop-again : tie.Need-loop-again Inv-loop μ-loop
-loop-again c = let d = c .before .before .before .before .before .before .before .before .before .before .before .before .before .before .before .before .before .before .before .before .before .before .before .before .before .before .before .before .before in let a = d .args in let l = c .before .before .before .before .before .before .before .before .before .before .before .before .before .before .before .before .before .before .loop in let o = c .before .before .before .before .before .before .before .before .before .before .match-vertex in let G = graphIn (a .graph .now) (a .nets) (a .weights .now) (a .m) (a .vw .now) in
-    (omega (arith, c .before .before .before .before .before .before .before .before .before .before .before .before .before .before .before .before .before .loop-test .taken), l .inv .1,
-    fold-next (matched G (a .limit)) (a .order .now) (drawn (a .mates .now) (wordsAt (a .words .now) (a .at))) (drawn (l .mates) (wordsAt (a .words .now) (l .cursor))) _ (l .k) (omega (arith, c .before .before .before .before .before .before .before .before .before .before .before .before .before .before .before .before .before .loop-test .taken, l .inv .1, d .pre .8)) (l .inv .2) (o .ensures .0 ∙ ap (λ (v : ℕ). matched G (a .limit) v (drawn (l .mates) (wordsAt (a .words .now) (l .cursor)))) (c .before .before .before .before .before .before .before .before .before .before .before .before .before .before .before .before .at16 .ensures .0)),
-    o .ensures .1 ∙ l .inv .3, o .ensures .2 ∙ l .inv .4, o .ensures .3 ∙ l .inv .5, o .ensures .4 ∙ l .inv .6, o .ensures .5 ∙ l .inv .7)
+loop-again c = let d = c .before .before .before .before .before .before .before .before .before .before .before .before .before .before .before .before .before .before .before .before .before .before .before .before .before .before .before .before .before in let a = d .args in let l = c .before .before .before .before .before .before .before .before .before .before .before .before .before .before .before .before .before .before .loop in let o = c .before .before .before .before .before .before .before .before .before .before .match-vertex in let G = graphIn (a .graph .now) (a .nets) (a .weights .now) (a .m) (a .vw .now) in (
+  omega (arith, c .before .before .before .before .before .before .before .before .before .before .before .before .before .before .before .before .before .loop-test .taken),
+  l .inv .1,
+  fold-next (matched G (a .limit)) (a .order .now) (drawn (a .mates .now) (wordsAt (a .words .now) (a .at))) (drawn (l .mates) (wordsAt (a .words .now) (l .cursor))) _ (l .k) (omega (arith, c .before .before .before .before .before .before .before .before .before .before .before .before .before .before .before .before .before .loop-test .taken, l .inv .1, d .pre .8)) (l .inv .2) (o .ensures .0 ∙ ap (λ (v : ℕ). matched G (a .limit) v (drawn (l .mates) (wordsAt (a .words .now) (l .cursor)))) (c .before .before .before .before .before .before .before .before .before .before .before .before .before .before .before .before .at16 .ensures .0)),
+  o .ensures .1 ∙ l .inv .3,
+  o .ensures .2 ∙ l .inv .4,
+  o .ensures .3 ∙ l .inv .5,
+  o .ensures .4 ∙ l .inv .6,
+  o .ensures .5 ∙ l .inv .7,
+)
 
 same-length : tie.Need-same-length Inv-loop μ-loop
 same-length c = c .before .loop .inv .3

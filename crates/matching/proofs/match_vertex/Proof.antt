@@ -53,9 +53,14 @@ same-length-5 c = search needs
 
 returns : tie.Need-returns
 unfolding ofBits
-returns c = let d = c .before .before .before .before .before .before .before .before .before .before .before .before .before .before .before .before .before .before .before .before .before .before .before .before .before .before .before .before .before .before .before .before .before .before .before .before .before .before .before .before .before in let a = d .args in let m = c .before .before .before .before .before .before .before .before .before .before .before .before .before .before .before .before .before .before .before .before .before .before .before .members in let o = c .before .before .before .before .before .before .before .before .before .before .before .before .before .before .before .rate-nets in let k = c .before .before .before .before .before .before .choose in
-    (matched-laid (a .graph .now) (a .nets) (a .vertices) (a .m) (length (a .vw .now)) (a .weights .now) (a .vw .now) (a .limit) (d .pre .7) (a .v) (a .words .now) (a .mates .now) _ (a .list .now) _ (a .touched .now) _ (a .rating .now) _ _ (m .result) (o .result) (a .at) (k .result .at) (k .result .mate) (k .result .found) (k .result .rating) (d .pre .2) refl (sym (c .before .before .before .before .before .before .before .before .before .before .before .before .before .before .before .before .before .before .before .before .before .before .before .before .before .before .before .before .before .before .at16 .ensures .0) ∙ c .before .before .before .before .before .before .before .before .before .before .before .before .before .before .before .before .before .before .before .before .before .before .before .before .before .before .before .before .before .if1 .taken) (d .pre .3) (listed-nets (a .graph .now) (a .list .now) _ (a .vertices + a .v) (m .result) (m .ensures .0) (m .ensures .1) (d .pre .6)) (c .before .before .before .before .before .before .before .before .before .before .before .before .before .before .before .before .before .before .before .before .before .before .before .before .before .before .before .fillf .ensures) (o .ensures .0) _ (k .ensures .0) (c .before .before .pair .ensures),
-    mated-length (a .v) (k .result .mate) (k .result .found) (a .mates .now) _ (c .before .before .pair .ensures), k .ensures .2 ∙ o .ensures .4 ∙ ap length (c .before .before .before .before .before .before .before .before .before .before .before .before .before .before .before .before .before .before .before .before .before .before .before .before .before .before .before .fillf .ensures) ∙ filled-length (length (a .rating .now)) zeroFloat, o .ensures .2, o .ensures .3, listed-length (a .graph .now) (a .list .now) _ (a .vertices + a .v) (m .result) (m .ensures .0) (m .ensures .1) (d .pre .6))
+returns c = let d = c .before .before .before .before .before .before .before .before .before .before .before .before .before .before .before .before .before .before .before .before .before .before .before .before .before .before .before .before .before .before .before .before .before .before .before .before .before .before .before .before .before in let a = d .args in let m = c .before .before .before .before .before .before .before .before .before .before .before .before .before .before .before .before .before .before .before .before .before .before .before .members in let o = c .before .before .before .before .before .before .before .before .before .before .before .before .before .before .before .rate-nets in let k = c .before .before .before .before .before .before .choose in (
+  matched-laid (a .graph .now) (a .nets) (a .vertices) (a .m) (length (a .vw .now)) (a .weights .now) (a .vw .now) (a .limit) (d .pre .7) (a .v) (a .words .now) (a .mates .now) _ (a .list .now) _ (a .touched .now) _ (a .rating .now) _ _ (m .result) (o .result) (a .at) (k .result .at) (k .result .mate) (k .result .found) (k .result .rating) (d .pre .2) refl (sym (c .before .before .before .before .before .before .before .before .before .before .before .before .before .before .before .before .before .before .before .before .before .before .before .before .before .before .before .before .before .before .at16 .ensures .0) ∙ c .before .before .before .before .before .before .before .before .before .before .before .before .before .before .before .before .before .before .before .before .before .before .before .before .before .before .before .before .before .if1 .taken) (d .pre .3) (listed-nets (a .graph .now) (a .list .now) _ (a .vertices + a .v) (m .result) (m .ensures .0) (m .ensures .1) (d .pre .6)) (c .before .before .before .before .before .before .before .before .before .before .before .before .before .before .before .before .before .before .before .before .before .before .before .before .before .before .before .fillf .ensures) (o .ensures .0) _ (k .ensures .0) (c .before .before .pair .ensures),
+  mated-length (a .v) (k .result .mate) (k .result .found) (a .mates .now) _ (c .before .before .pair .ensures),
+  k .ensures .2 ∙ o .ensures .4 ∙ ap length (c .before .before .before .before .before .before .before .before .before .before .before .before .before .before .before .before .before .before .before .before .before .before .before .before .before .before .before .fillf .ensures) ∙ filled-length (length (a .rating .now)) zeroFloat,
+  o .ensures .2,
+  o .ensures .3,
+  listed-length (a .graph .now) (a .list .now) _ (a .vertices + a .v) (m .result) (m .ensures .0) (m .ensures .1) (d .pre .6),
+)
 
 same-length-6 : tie.Need-same-length-6
 same-length-6 c = search needs

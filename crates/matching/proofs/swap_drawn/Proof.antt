@@ -34,8 +34,10 @@ same-length : tie.Need-same-length
 same-length c = search needs
 
 returns : tie.Need-returns
-returns c = let a = c .before .before .before .before .before .before .before .before .before .before .before .before .before .before .before .before .args in (swap-is (a .words .now) (a .order .now) _ _ (a .at) (a .i) (a .i + 1) (c .before .before .before .before .before .before .before .before .before .before .before .before .before .index .result) (c .before .before .before .before .before .before .before .before .before .before .before .get16 .result) (c .before .before .before .before .before .before .before .before .before .get162 .result) (c .after .result) refl (c .before .before .before .before .before .before .before .before .before .before .before .before .before .index .ensures .0) (c .before .before .before .before .before .before .before .before .before .before .before .get16 .ensures) (c .before .before .before .before .before .before .before .before .before .get162 .ensures) (c .before .before .before .before .before .before .before .put16 .ensures) (c .before .before .before .put162 .ensures) (c .after .ensures),
-    swap-length (a .order .now) _ _ (a .i) (c .before .before .before .before .before .before .before .before .before .before .before .before .before .index .result) (c .before .before .before .before .before .before .before .before .before .before .before .get16 .result) (c .before .before .before .before .before .before .before .before .before .get162 .result) (c .before .before .before .before .before .before .before .put16 .ensures) (c .before .before .before .put162 .ensures))
+returns c = let a = c .before .before .before .before .before .before .before .before .before .before .before .before .before .before .before .before .args in (
+  swap-is (a .words .now) (a .order .now) _ _ (a .at) (a .i) (a .i + 1) (c .before .before .before .before .before .before .before .before .before .before .before .before .before .index .result) (c .before .before .before .before .before .before .before .before .before .before .before .get16 .result) (c .before .before .before .before .before .before .before .before .before .get162 .result) (c .after .result) refl (c .before .before .before .before .before .before .before .before .before .before .before .before .before .index .ensures .0) (c .before .before .before .before .before .before .before .before .before .before .before .get16 .ensures) (c .before .before .before .before .before .before .before .before .before .get162 .ensures) (c .before .before .before .before .before .before .before .put16 .ensures) (c .before .before .before .put162 .ensures) (c .after .ensures),
+  swap-length (a .order .now) _ _ (a .i) (c .before .before .before .before .before .before .before .before .before .before .before .before .before .index .result) (c .before .before .before .before .before .before .before .before .before .before .before .get16 .result) (c .before .before .before .before .before .before .before .before .before .get162 .result) (c .before .before .before .before .before .before .before .put16 .ensures) (c .before .before .before .put162 .ensures),
+)
 
 pub swap-drawn-spec : {M : Type 1} → statement M
 swap-drawn-spec =

@@ -32,18 +32,24 @@ same-length-2 c = search needs
 
 returns : tie.Need-returns
 unfolding ofBits
-returns c = let d = c .before .before .before .before .before .before .before .before .before .before .before .before .before in
-    (rated-zero (d .args .rating .now) _ (d .args .touched .now) _ (d .args .count) (d .args .u) (c .before .before .before .before .before .before .before .before .before .getf .result) (d .args .r) (c .before .before .before .before .before .before .before .before .before .getf .ensures) (c .before .before .before .before .before .before .before .putf .ensures) (c .before .before .before .before .if1 .taken) (c .before .before .put16 .ensures) (d .pre .1),
-    omega arith, ap length (c .before .before .put16 .ensures) ∙ length-set (d .args .touched .now) (d .args .count) (d .args .u), ap length (c .before .before .before .before .before .before .before .putf .ensures) ∙ length-set (d .args .rating .now) (d .args .u) _)
+returns c = let d = c .before .before .before .before .before .before .before .before .before .before .before .before .before in (
+  rated-zero (d .args .rating .now) _ (d .args .touched .now) _ (d .args .count) (d .args .u) (c .before .before .before .before .before .before .before .before .before .getf .result) (d .args .r) (c .before .before .before .before .before .before .before .before .before .getf .ensures) (c .before .before .before .before .before .before .before .putf .ensures) (c .before .before .before .before .if1 .taken) (c .before .before .put16 .ensures) (d .pre .1),
+  omega arith,
+  ap length (c .before .before .put16 .ensures) ∙ length-set (d .args .touched .now) (d .args .count) (d .args .u),
+  ap length (c .before .before .before .before .before .before .before .putf .ensures) ∙ length-set (d .args .rating .now) (d .args .u) _,
+)
 
 same-length-3 : tie.Need-same-length-3
 same-length-3 c = search needs
 
 returns-2 : tie.Need-returns-2
 unfolding ofBits
-returns-2 c = let d = c .before .before .before .before .before .before .before .before .before in
-    (rated-more (d .args .rating .now) _ (d .args .touched .now) (d .args .touched .now) (d .args .count) (d .args .u) (c .before .before .before .before .before .getf .result) (d .args .r) (c .before .before .before .before .before .getf .ensures) (c .before .before .before .putf .ensures) (c .if1 .left),
-    omega arith, refl, ap length (c .before .before .before .putf .ensures) ∙ length-set (d .args .rating .now) (d .args .u) _)
+returns-2 c = let d = c .before .before .before .before .before .before .before .before .before in (
+  rated-more (d .args .rating .now) _ (d .args .touched .now) (d .args .touched .now) (d .args .count) (d .args .u) (c .before .before .before .before .before .getf .result) (d .args .r) (c .before .before .before .before .before .getf .ensures) (c .before .before .before .putf .ensures) (c .if1 .left),
+  omega arith,
+  refl,
+  ap length (c .before .before .before .putf .ensures) ∙ length-set (d .args .rating .now) (d .args .u) _,
+)
 
 pub rate-spec : {M : Type 1} → statement M
 rate-spec =

@@ -36,9 +36,13 @@ same-length-3 : tie.Need-same-length-3
 same-length-3 c = search needs
 
 returns : tie.Need-returns
-returns c = let d = c .before .before .before .before .before .before .before .before .before .before .before .before .before .before .before .before .before .before .before .before .before in let a = d .args in let m = c .before .before .before .before .before .before .before .before .before .before .before .before .before .members in let p = c .before .before .before .before .rate-pins .ensures in
-    (p .0 ∙ net-small (a .mates .now) (a .n) (a .v) (a .words .now) (a .nets + a .e) (m .result) _ (c .before .before .before .before .before .before .before .before .before .get8 .result) _ _ (ratingsIn (a .rating .now) (a .touched .now) (a .count)) (m .ensures .0) (c .before .before .before .before .before .before .before .before .before .before .if1 .taken) (listed-pins (a .words .now) (a .pins .now) _ (a .nets + a .e) (m .result) (m .ensures .0) (m .ensures .1) (d .pre .2)) (c .before .before .before .before .before .before .before .before .before .get8 .ensures) (c .before .before .before .before .before .before .before .before .rate-of .ensures),
-    omega (arith, p .1, c .before .before .before .before .before .before .before .before .before .before .if1 .taken), p .2, ap length (m .ensures .1) ∙ length-sets (a .pins .now) 0 (risingOf (a .words .now) 2 (a .nets + a .e)), p .3)
+returns c = let d = c .before .before .before .before .before .before .before .before .before .before .before .before .before .before .before .before .before .before .before .before .before in let a = d .args in let m = c .before .before .before .before .before .before .before .before .before .before .before .before .before .members in let p = c .before .before .before .before .rate-pins .ensures in (
+  p .0 ∙ net-small (a .mates .now) (a .n) (a .v) (a .words .now) (a .nets + a .e) (m .result) _ (c .before .before .before .before .before .before .before .before .before .get8 .result) _ _ (ratingsIn (a .rating .now) (a .touched .now) (a .count)) (m .ensures .0) (c .before .before .before .before .before .before .before .before .before .before .if1 .taken) (listed-pins (a .words .now) (a .pins .now) _ (a .nets + a .e) (m .result) (m .ensures .0) (m .ensures .1) (d .pre .2)) (c .before .before .before .before .before .before .before .before .before .get8 .ensures) (c .before .before .before .before .before .before .before .before .rate-of .ensures),
+  omega (arith, p .1, c .before .before .before .before .before .before .before .before .before .before .if1 .taken),
+  p .2,
+  ap length (m .ensures .1) ∙ length-sets (a .pins .now) 0 (risingOf (a .words .now) 2 (a .nets + a .e)),
+  p .3,
+)
 
 same-length-4 : tie.Need-same-length-4
 same-length-4 c = search needs

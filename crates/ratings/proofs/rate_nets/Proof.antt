@@ -35,11 +35,15 @@ loop-less : tie.Need-loop-less Inv-loop μ-loop
 loop-less c = search needs
 
 loop-again : tie.Need-loop-again Inv-loop μ-loop
-loop-again c = let d = c .before .before .before .before .before .before .before .before .before .before .before .before .before .before .before .before .before .before .before .before in let a = d .args in let l = c .before .before .before .before .before .before .before .before .before .before .before .before .loop in let o = c .before .before .before .before .before .before .rate-net in
-    (omega (arith, c .before .before .before .before .before .before .before .before .before .before .before .loop-test .taken),
-    fold-next (λ e. ratedNet (a .mates .now) (a .n) (a .v) (getD (a .weights .now) e 0) (risingOf (a .words .now) 2 (a .nets + e))) (a .list .now) (ratingsIn (a .rating .now) (a .touched .now) 0) (ratingsIn (l .rating) (l .touched) (l .at)) _ (l .k) (omega (arith, d .pre .2, c .before .before .before .before .before .before .before .before .before .before .before .loop-test .taken)) (l .inv .1)
-    (o .ensures .0 ∙ ap (λ (e : ℕ). ratedNet (a .mates .now) (a .n) (a .v) (getD (a .weights .now) e 0) (risingOf (a .words .now) 2 (a .nets + e)) (ratingsIn (l .rating) (l .touched) (l .at))) (c .before .before .before .before .before .before .before .at16 .ensures .0)),
-    omega (arith, o .ensures .1, l .inv .2), o .ensures .2 ∙ l .inv .3, o .ensures .3 ∙ l .inv .4, o .ensures .4 ∙ l .inv .5)
+loop-again c = let d = c .before .before .before .before .before .before .before .before .before .before .before .before .before .before .before .before .before .before .before .before in let a = d .args in let l = c .before .before .before .before .before .before .before .before .before .before .before .before .loop in let o = c .before .before .before .before .before .before .rate-net in (
+  omega (arith, c .before .before .before .before .before .before .before .before .before .before .before .loop-test .taken),
+  fold-next (λ e. ratedNet (a .mates .now) (a .n) (a .v) (getD (a .weights .now) e 0) (risingOf (a .words .now) 2 (a .nets + e))) (a .list .now) (ratingsIn (a .rating .now) (a .touched .now) 0) (ratingsIn (l .rating) (l .touched) (l .at)) _ (l .k) (omega (arith, d .pre .2, c .before .before .before .before .before .before .before .before .before .before .before .loop-test .taken)) (l .inv .1)
+      (o .ensures .0 ∙ ap (λ (e : ℕ). ratedNet (a .mates .now) (a .n) (a .v) (getD (a .weights .now) e 0) (risingOf (a .words .now) 2 (a .nets + e)) (ratingsIn (l .rating) (l .touched) (l .at))) (c .before .before .before .before .before .before .before .at16 .ensures .0)),
+  omega (arith, o .ensures .1, l .inv .2),
+  o .ensures .2 ∙ l .inv .3,
+  o .ensures .3 ∙ l .inv .4,
+  o .ensures .4 ∙ l .inv .5,
+)
 
 same-length : tie.Need-same-length Inv-loop μ-loop
 same-length c = search needs

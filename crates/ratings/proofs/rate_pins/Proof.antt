@@ -33,11 +33,14 @@ loop-less : tie.Need-loop-less Inv-loop μ-loop
 loop-less c = search needs
 
 loop-again : tie.Need-loop-again Inv-loop μ-loop
-loop-again c = let d = c .before .before .before .before .before .before .before .before .before .before .before .before .before .before in let a = d .args in let l = c .before .before .before .before .before .before .before .before .before .loop in let o = c .before .before .before .before .rate-open in
-    (omega arith,
-    fold-next (ratedOpen (a .mates .now) (a .n) (a .v) (a .r)) (a .pins .now) (ratingsIn (a .rating .now) (a .touched .now) (a .count)) (ratingsIn (l .rating) (l .touched) (l .at)) _ (l .k) (omega (arith, d .pre .0)) (l .inv .1)
-    (o .ensures .0 ∙ ap (λ (u : ℕ). ratedOpen (a .mates .now) (a .n) (a .v) (a .r) u (ratingsIn (l .rating) (l .touched) (l .at))) (c .before .before .before .before .before .at16 .ensures .0)),
-    omega (arith, o .ensures .1, l .inv .2), o .ensures .2 ∙ l .inv .3, o .ensures .3 ∙ l .inv .4)
+loop-again c = let d = c .before .before .before .before .before .before .before .before .before .before .before .before .before .before in let a = d .args in let l = c .before .before .before .before .before .before .before .before .before .loop in let o = c .before .before .before .before .rate-open in (
+  omega arith,
+  fold-next (ratedOpen (a .mates .now) (a .n) (a .v) (a .r)) (a .pins .now) (ratingsIn (a .rating .now) (a .touched .now) (a .count)) (ratingsIn (l .rating) (l .touched) (l .at)) _ (l .k) (omega (arith, d .pre .0)) (l .inv .1)
+      (o .ensures .0 ∙ ap (λ (u : ℕ). ratedOpen (a .mates .now) (a .n) (a .v) (a .r) u (ratingsIn (l .rating) (l .touched) (l .at))) (c .before .before .before .before .before .at16 .ensures .0)),
+  omega (arith, o .ensures .1, l .inv .2),
+  o .ensures .2 ∙ l .inv .3,
+  o .ensures .3 ∙ l .inv .4,
+)
 
 same-length : tie.Need-same-length Inv-loop μ-loop
 same-length c = search needs
