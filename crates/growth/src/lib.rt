@@ -4,7 +4,12 @@ ghost use Prim.Native.Nat.{_+_, _<_, _≤_};
 ghost use lib.ListN.{length, take};
 ghost use Rattle.spec.specs.Floats.{wholeFloat};
 ghost use Rattle.draws.specs.Cursor.{wordsAt};
+ghost use mathlib.Core.Option.{some};
+ghost use Rattle.spec.specs.Bisection.{half, growthTurn};
+ghost use Rattle.partition.specs.Layout.{graphIn};
 ghost use Rattle.matching.specs.Choices.{mateIf};
+ghost use Rattle.matching.specs.Meshed.{Meshed};
+ghost use Rattle.growth.specs.Grown.{growthOf};
 ghost use Rattle.growth.specs.Links.{strongIn, offeredIn, strongestIn, linkedPin, linkedPins, linkedNet, linkedNets};
 
 // The strongest connection so far, and its vertex, if one was found; the cursor.
@@ -114,5 +119,54 @@ pub fn link_nets(
 {
     for k in 0..len {
         link_net(graph, nets, weights, pins, links, cells::at16(list, k));
+    }
+}
+
+// A growth: the weight of side 1, the next vertex to come to it, if there is one, and the cursor.
+pub struct Growth {
+    pub weight: f64,
+    pub next: usize,
+    pub found: bool,
+    pub at: usize,
+}
+
+// The next vertex comes to side 1. Growth ends at `goal`, half of the weight. The lists are for pins and nets.
+fn grow(
+    graph: &[u64],
+    nets: usize,
+    vertices: usize,
+    m: usize,
+    weights: &[u8],
+    vw: &[f64],
+    goal: f64,
+    words: &[u64],
+    part: &mut [u8],
+    links: &mut [f64],
+    pins: &mut [u16],
+    list: &mut [u16],
+    growth: Growth,
+) -> Growth
+    requires { ⌜ (nets < 32768) × (vertices < 32768) × (growth .next < length (now vw)) × (length (now links) ≡ length (now vw)) × (128 ≤ length (now pins)) × (256 ≤ length (now list)) × Meshed (now graph) nets vertices m (length (now vw)) × (goal ≡ half (graphIn (now graph) nets (now weights) m (now vw))) ⌝ }
+    ensures { λ r. ⌜ (growthOf (now (part .exit)) (r .weight) (now (links .exit)) (mateIf (r .found) (r .next)) (wordsAt (now (words .entry)) (r .at)) ≡ growthTurn (graphIn (now (graph .entry)) nets (now (weights .entry)) m (now (vw .entry))) (some (growth .next)) (growthOf (now (part .entry)) (growth .weight) (now (links .entry)) (some (growth .next)) (wordsAt (now (words .entry)) (growth .at)))) × (r .next < length (now (vw .entry))) × (length (now (part .exit)) ≡ length (now (part .entry))) × (length (now (links .exit)) ≡ length (now (links .entry))) × (length (now (pins .exit)) ≡ length (now (pins .entry))) × (length (now (list .exit)) ≡ length (now (list .entry))) ⌝ }
+{
+    let v = growth.next;
+    cells::put8(part, v, 1);
+    let weight = growth.weight + cells::getf(vw, v);
+    if goal <= weight {
+        return Growth {
+            weight,
+            next: v,
+            found: false,
+            at: growth.at,
+        };
+    }
+    let len = slots::members(graph, 4, vertices + v, list, 0);
+    link_nets(graph, nets, weights, pins, links, list, len);
+    let s = strongest(part, links, words, growth.at);
+    Growth {
+        weight,
+        next: s.vertex,
+        found: s.found,
+        at: s.at,
     }
 }

@@ -79,7 +79,7 @@ module _ (ws : List ℕ) (nets vertices m n : ℕ) (weights : List ℕ) (vw : Li
   abbrev G : Hypergraph
   G = graphIn ws nets weights m vw
 
-  nets-at : (v : ℕ) → v < n → netsAt G v ≡ map (netIn ws nets weights) (risingOf ws 4 (vertices + v))
+  pub nets-at : (v : ℕ) → v < n → netsAt G v ≡ map (netIn ws nets weights) (risingOf ws 4 (vertices + v))
   unfolding graphIn risingOf
   nets-at v b =
       let split : 256 ≡ m + (256 - m) = omega (arith, h .few .0) in
