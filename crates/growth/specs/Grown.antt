@@ -3,13 +3,14 @@ use mathlib.Core.Bool.{Bool, true, false, cond}
 use mathlib.Core.Path.{_≡_, refl, sym, ap, _∙_}
 use mathlib.Core.List.{List, [], _∷_, map}
 use mathlib.Core.Option.{Option, none, some}
-use Prim.Native.Nat.{ℕ, zero, suc, _+_, _≤_, _<_}
+use Prim.Native.Nat.{ℕ, zero, suc, _+_, _-_, _≤_, _<_}
+use native.Mathlib.Omega.{arith}
 use lib.Ieee.{Float, binary64, add, le}
 use lib.ListN.{length, getD, set, take}
 use Rattle.spec.specs.Floats.{zeroFloat}
 use Rattle.spec.specs.Draws.{Words}
-use Rattle.spec.specs.Hypergraph.{foldOver, Net, Hypergraph, netsAt}
-use Rattle.spec.specs.Bisection.{Growth, Strongest, half, strongest, linkedBy, grownOn, grownBy, growthTurn}
+use Rattle.spec.specs.Hypergraph.{until, foldOver, Net, Hypergraph, netsAt}
+use Rattle.spec.specs.Bisection.{Growth, Strongest, half, strongest, linkedBy, grownOn, grownBy, growthTurn, ended}
 use Rattle.slots.specs.Rising.{risingOf}
 use Rattle.draws.specs.Cursor.{wordsAt}
 use Rattle.partition.specs.Folds.{fold-map}
@@ -57,3 +58,26 @@ module _ (ws : List ℕ) (nets vertices m n : ℕ) (weights : List ℕ) (vw : Li
         ap (λ (q : Strongest). growthOf part′ x links′ (q .vertex) (q .words)) (s ∙ ap (λ (j : ℕ). strongestIn part′ links′ j (wordsAt words at)) (el ∙ sym ev))
         ∙ ap (λ (l : List Float). grownOn G part′ x l (strongest G part′ l (wordsAt words at))) k
         ∙ sym (turned false e)
+
+-- ---- turn after turn ----
+
+module _ (G : Hypergraph) where
+  abbrev pub grownFrom : ℕ → Growth → Growth
+  grownFrom k g = until k (λ x. ended G (x .next)) (λ x. growthTurn G (x .next) x) g
+
+  stopped : (k : ℕ) (g : Growth) → g .next ≡ none → grownFrom k g ≡ g
+  stopped zero g e = refl
+  stopped (suc k) g e = ap (λ (o : Option ℕ). cond (ended G o) g (grownFrom k (growthTurn G o g))) e
+
+  one-more : (k : ℕ) (g : Growth) (o : Option ℕ) → g .next ≡ o → grownFrom (suc k) g ≡ grownFrom k (growthTurn G o g)
+  one-more k g none e = stopped (suc k) g e ∙ sym (stopped k g e)
+  one-more k g (some v) e = ap (λ (o : Option ℕ). cond (ended G o) g (grownFrom k (growthTurn G o g))) e
+
+  -- one turn more
+  pub grown-next : (n k : ℕ) (s g r : Growth) → k < n → grownFrom n s ≡ grownFrom (n - k) g → r ≡ growthTurn G (g .next) g → grownFrom n s ≡ grownFrom (n - (k + 1)) r
+  grown-next n k s g r h p q =
+      let e : n - k ≡ suc (n - (k + 1)) = omega arith in
+      p ∙ ap (λ (j : ℕ). grownFrom j g) e ∙ one-more (n - (k + 1)) g (g .next) refl ∙ ap (grownFrom (n - (k + 1))) (sym q)
+
+  pub grown-end : (n k : ℕ) (s g : Growth) → n ≤ k → grownFrom n s ≡ grownFrom (n - k) g → g ≡ grownFrom n s
+  grown-end n k s g h p = let e : n - k ≡ 0 = omega arith in sym (p ∙ ap (λ (j : ℕ). grownFrom j g) e)

@@ -9,7 +9,7 @@ ghost use Rattle.spec.specs.Bisection.{half, growthTurn};
 ghost use Rattle.partition.specs.Layout.{graphIn};
 ghost use Rattle.matching.specs.Choices.{mateIf};
 ghost use Rattle.matching.specs.Meshed.{Meshed};
-ghost use Rattle.growth.specs.Grown.{growthOf};
+ghost use Rattle.growth.specs.Grown.{growthOf, grownFrom};
 ghost use Rattle.growth.specs.Links.{strongIn, offeredIn, strongestIn, linkedPin, linkedPins, linkedNet, linkedNets};
 
 // The strongest connection so far, and its vertex, if one was found; the cursor.
@@ -169,4 +169,94 @@ fn grow(
         found: s.found,
         at: s.at,
     }
+}
+
+// The same, unless growth has ended.
+fn grow_on(
+    graph: &[u64],
+    nets: usize,
+    vertices: usize,
+    m: usize,
+    weights: &[u8],
+    vw: &[f64],
+    goal: f64,
+    words: &[u64],
+    part: &mut [u8],
+    links: &mut [f64],
+    pins: &mut [u16],
+    list: &mut [u16],
+    growth: Growth,
+) -> Growth
+    requires { ⌜ (nets < 32768) × (vertices < 32768) × (growth .next < length (now vw)) × (length (now links) ≡ length (now vw)) × (128 ≤ length (now pins)) × (256 ≤ length (now list)) × Meshed (now graph) nets vertices m (length (now vw)) × (goal ≡ half (graphIn (now graph) nets (now weights) m (now vw))) ⌝ }
+    ensures { λ r. ⌜ (growthOf (now (part .exit)) (r .weight) (now (links .exit)) (mateIf (r .found) (r .next)) (wordsAt (now (words .entry)) (r .at)) ≡ growthTurn (graphIn (now (graph .entry)) nets (now (weights .entry)) m (now (vw .entry))) (mateIf (growth .found) (growth .next)) (growthOf (now (part .entry)) (growth .weight) (now (links .entry)) (mateIf (growth .found) (growth .next)) (wordsAt (now (words .entry)) (growth .at)))) × (r .next < length (now (vw .entry))) × (length (now (part .exit)) ≡ length (now (part .entry))) × (length (now (links .exit)) ≡ length (now (links .entry))) × (length (now (pins .exit)) ≡ length (now (pins .entry))) × (length (now (list .exit)) ≡ length (now (list .entry))) ⌝ }
+{
+    if growth.found {
+        let g = Growth {
+            weight: growth.weight,
+            next: growth.next,
+            found: true,
+            at: growth.at,
+        };
+        return grow(
+            graph,
+            nets,
+            vertices,
+            m,
+            weights,
+            vw,
+            goal,
+            words,
+            part,
+            links,
+            pins,
+            list,
+            g,
+        );
+    }
+    Growth {
+        weight: growth.weight,
+        next: growth.next,
+        found: false,
+        at: growth.at,
+    }
+}
+
+// Turn after turn, until growth has ended: at most one a vertex and one more.
+pub fn grow_turns(
+    graph: &[u64],
+    nets: usize,
+    vertices: usize,
+    m: usize,
+    weights: &[u8],
+    vw: &[f64],
+    goal: f64,
+    words: &[u64],
+    part: &mut [u8],
+    links: &mut [f64],
+    pins: &mut [u16],
+    list: &mut [u16],
+    growth: Growth,
+) -> Growth
+    requires { ⌜ (nets < 32768) × (vertices < 32768) × (growth .next < length (now vw)) × (length (now links) ≡ length (now vw)) × (128 ≤ length (now pins)) × (256 ≤ length (now list)) × Meshed (now graph) nets vertices m (length (now vw)) × (goal ≡ half (graphIn (now graph) nets (now weights) m (now vw))) ⌝ }
+    ensures { λ r. ⌜ (growthOf (now (part .exit)) (r .weight) (now (links .exit)) (mateIf (r .found) (r .next)) (wordsAt (now (words .entry)) (r .at)) ≡ grownFrom (graphIn (now (graph .entry)) nets (now (weights .entry)) m (now (vw .entry))) (length (now (vw .entry)) + 1) (growthOf (now (part .entry)) (growth .weight) (now (links .entry)) (mateIf (growth .found) (growth .next)) (wordsAt (now (words .entry)) (growth .at)))) × (length (now (part .exit)) ≡ length (now (part .entry))) ⌝ }
+{
+    let mut g = growth;
+    for k in 0..vw.len() + 1 {
+        g = grow_on(
+            graph,
+            nets,
+            vertices,
+            m,
+            weights,
+            vw,
+            goal,
+            words,
+            part,
+            links,
+            pins,
+            list,
+            g,
+        );
+    }
+    g
 }
