@@ -6,11 +6,13 @@ use mathlib.Core.Option.{Option, none, some}
 use Prim.Native.Nat.{ℕ, zero, suc, _+_, _-_, _≤_, _<_}
 use native.Mathlib.Omega.{arith}
 use lib.Ieee.{Float, binary64, add, le}
-use lib.ListN.{length, getD, set, take}
+use lib.ListN.{length, getD, set, take, replicate}
 use Rattle.spec.specs.Floats.{zeroFloat}
-use Rattle.spec.specs.Draws.{Words}
+use native.Mathlib.Numerals.{add-one}
+use Rattle.spec.specs.Memory.{filled}
+use Rattle.spec.specs.Draws.{Words, Drawn, drawn, draw, indexDraw}
 use Rattle.spec.specs.Hypergraph.{until, foldOver, Net, Hypergraph, netsAt}
-use Rattle.spec.specs.Bisection.{Growth, Strongest, half, strongest, linkedBy, grownOn, grownBy, growthTurn, ended}
+use Rattle.spec.specs.Bisection.{Growth, Strongest, half, strongest, linkedBy, grownOn, grownBy, growthTurn, ended, grown}
 use Rattle.slots.specs.Rising.{risingOf}
 use Rattle.draws.specs.Cursor.{wordsAt}
 use Rattle.partition.specs.Folds.{fold-map}
@@ -81,3 +83,21 @@ module _ (G : Hypergraph) where
 
   pub grown-end : (n k : ℕ) (s g : Growth) → n ≤ k → grownFrom n s ≡ grownFrom (n - k) g → g ≡ grownFrom n s
   grown-end n k s g h p = let e : n - k ≡ 0 = omega arith in sym (p ∙ ap (λ (j : ℕ). grownFrom j g) e)
+
+  -- what is grown, as a partition, and the words after it
+  abbrev pub partGrown : Words → Drawn (List ℕ)
+  partGrown ws = drawn (grown G ws .part) (grown G ws .words)
+
+module _ (ws : List ℕ) (nets m : ℕ) (weights : List ℕ) (vw : List Float) where
+  -- A GROWTH FROM ITS DRAW
+  pub grown-is : (words part part′ part″ : List ℕ) (links links′ links″ : List Float) (at at′ at″ v : ℕ) (w : Float) (next : Option ℕ)
+      → length part ≡ length vw → length links ≡ length vw → part′ ≡ filled (length part) 0 → links′ ≡ filled (length links) zeroFloat
+      → v ≡ indexDraw (length vw) (wordsAt words at) .value → wordsAt words at′ ≡ draw (wordsAt words at) .words
+      → growthOf part″ w links″ next (wordsAt words at″) ≡ grownFrom (graphIn ws nets weights m vw) (length vw + 1) (growthOf part′ zeroFloat links′ (some v) (wordsAt words at′))
+      → drawn part″ (wordsAt words at″) ≡ partGrown (graphIn ws nets weights m vw) (wordsAt words at)
+  unfolding graphIn filled
+  grown-is words part part′ part″ links links′ links″ at at′ at″ v w next ep el e₁ e₂ ev ew e =
+      let p : part′ ≡ replicate (length vw) 0 = e₁ ∙ ap (λ (k : ℕ). replicate k 0) ep in
+      let l : links′ ≡ replicate (length vw) zeroFloat = e₂ ∙ ap (λ (k : ℕ). replicate k zeroFloat) el in
+      ap (λ (g : Growth). drawn (g .part) (g .words))
+      (e ∙ (λ i. grownFrom (graphIn ws nets weights m vw) (add-one (length vw) i) (growthOf (p i) zeroFloat (l i) (some (ev i)) (ew i))))

@@ -3,13 +3,14 @@ ghost use mathlib.Core.Path.{_≡_};
 ghost use Prim.Native.Nat.{_+_, _<_, _≤_};
 ghost use lib.ListN.{length, take};
 ghost use Rattle.spec.specs.Floats.{wholeFloat};
+ghost use Rattle.spec.specs.Draws.{drawn};
 ghost use Rattle.draws.specs.Cursor.{wordsAt};
 ghost use mathlib.Core.Option.{some};
 ghost use Rattle.spec.specs.Bisection.{half, growthTurn};
 ghost use Rattle.partition.specs.Layout.{graphIn};
 ghost use Rattle.matching.specs.Choices.{mateIf};
 ghost use Rattle.matching.specs.Meshed.{Meshed};
-ghost use Rattle.growth.specs.Grown.{growthOf, grownFrom};
+ghost use Rattle.growth.specs.Grown.{growthOf, grownFrom, partGrown};
 ghost use Rattle.growth.specs.Links.{strongIn, offeredIn, strongestIn, linkedPin, linkedPins, linkedNet, linkedNets};
 
 // The strongest connection so far, and its vertex, if one was found; the cursor.
@@ -259,4 +260,33 @@ pub fn grow_turns(
         );
     }
     g
+}
+
+// A first partition: side 1 grows from a drawn vertex, along its nets, to half of the weight. Returns the cursor.
+pub fn grown(
+    graph: &[u64],
+    nets: usize,
+    vertices: usize,
+    m: usize,
+    weights: &[u8],
+    vw: &[f64],
+    goal: f64,
+    words: &[u64],
+    at: usize,
+    part: &mut [u8],
+    links: &mut [f64],
+    pins: &mut [u16],
+    list: &mut [u16],
+) -> usize
+    requires { ⌜ (nets < 32768) × (vertices < 32768) × (0 < length (now vw)) × (length (now links) ≡ length (now vw)) × (length (now part) ≡ length (now vw)) × (128 ≤ length (now pins)) × (256 ≤ length (now list)) × Meshed (now graph) nets vertices m (length (now vw)) × (goal ≡ half (graphIn (now graph) nets (now weights) m (now vw))) ⌝ }
+    ensures { λ r. ⌜ drawn (now (part .exit)) (wordsAt (now (words .entry)) r) ≡ partGrown (graphIn (now (graph .entry)) nets (now (weights .entry)) m (now (vw .entry))) (wordsAt (now (words .entry)) at) ⌝ }
+{
+    cells::fill8(part, 0);
+    cells::fillf(links, 0.0);
+    let next = draws::index(words, at, vw.len());
+    let first = Growth { weight: 0.0, next, found: true, at: draws::after(words, at) };
+    let g = grow_turns(
+        graph, nets, vertices, m, weights, vw, goal, words, part, links, pins, list, first,
+    );
+    g.at
 }
