@@ -284,9 +284,26 @@ pub fn grown(
     cells::fill8(part, 0);
     cells::fillf(links, 0.0);
     let next = draws::index(words, at, vw.len());
-    let first = Growth { weight: 0.0, next, found: true, at: draws::after(words, at) };
+    let first = Growth {
+        weight: 0.0,
+        next,
+        found: true,
+        at: draws::after(words, at),
+    };
     let g = grow_turns(
-        graph, nets, vertices, m, weights, vw, goal, words, part, links, pins, list, first,
+        graph,
+        nets,
+        vertices,
+        m,
+        weights,
+        vw,
+        goal,
+        words,
+        part,
+        links,
+        pins,
+        list,
+        first,
     );
     g.at
 }
