@@ -1,0 +1,69 @@
+-- Assumes nothing.
+use borrow.Author.Needs.{needs}
+use Rattle.ratings.specs.Rated.{ratingsIn, ratedOpen, ratedPins}
+use Rattle.partition.specs.Folds.{fold-next}
+use Rattle.spec.specs.Coarsen.{Ratings}
+use lib.ListN.{take}
+use native.Mathlib.Omega.{arith}
+use Prim.Native.Nat.{ℕ, _+_, _-_, _*_, _<_, _≤_}
+use mathlib.Core.Path.{_≡_, refl, sym, ap, _∙_, subst}
+use lib.ListN.{length, getD, set, length-set}
+use Rattle.ratings.proofs.rate_pins.Statement.{statement}
+use Rattle.ratings.proofs.rate_pins.Tie as tie
+
+abbrev Inv-loop : tie.InvT-loop
+Inv-loop mates n v rating₀ touched₀ count r pins len at₀ k₀ rating touched at k = (k ≤ len) × (ratingsIn rating touched at ≡ ratedPins mates n v r (take k pins) (ratingsIn rating₀ touched₀ count)) × (at ≤ count + k) × (length touched ≡ length touched₀) × (length rating ≡ length rating₀)
+
+abbrev μ-loop : tie.MeasureT-loop
+μ-loop mates n v rating₀ touched₀ count r pins len at₀ k₀ rating touched at k = len - k
+
+loop-holds : tie.Need-loop-holds Inv-loop μ-loop
+loop-holds c = (omega arith, refl, omega arith, refl, refl)
+
+at16-requires : tie.Need-at16-requires Inv-loop μ-loop
+at16-requires c κs = search needs
+
+rate-open-requires : tie.Need-rate-open-requires Inv-loop μ-loop
+rate-open-requires c κs = search needs
+
+add-k : tie.Need-add-k Inv-loop μ-loop
+add-k c = search needs
+
+loop-less : tie.Need-loop-less Inv-loop μ-loop
+loop-less c = search needs
+
+loop-again : tie.Need-loop-again Inv-loop μ-loop
+loop-again c = let d = c .before .before .before .before .before .before .before .before .before .before .before .before .before .before in let a = d .args in let l = c .before .before .before .before .before .before .before .before .before .loop in let o = c .before .before .before .before .rate-open in (
+  omega arith,
+  fold-next (ratedOpen (a .mates .now) (a .n) (a .v) (a .r)) (a .pins .now) (ratingsIn (a .rating .now) (a .touched .now) (a .count)) (ratingsIn (l .rating) (l .touched) (l .at)) _ (l .k) (omega (arith, d .pre .0)) (l .inv .1)
+      (o .ensures .0 ∙ ap (λ (u : ℕ). ratedOpen (a .mates .now) (a .n) (a .v) (a .r) u (ratingsIn (l .rating) (l .touched) (l .at))) (c .before .before .before .before .before .at16 .ensures .0)),
+  omega (arith, o .ensures .1, l .inv .2),
+  o .ensures .2 ∙ l .inv .3,
+  o .ensures .3 ∙ l .inv .4,
+)
+
+same-length : tie.Need-same-length Inv-loop μ-loop
+same-length c = search needs
+
+same-length-2 : tie.Need-same-length-2 Inv-loop μ-loop
+same-length-2 c = search needs
+
+returns : tie.Need-returns Inv-loop μ-loop
+returns c = let a = c .before .before .before .before .before .before .args in let l = c .before .loop in let e : l .k ≡ a .len = omega arith in
+    (l .inv .1 ∙ ap (λ (k : ℕ). ratedPins (a .mates .now) (a .n) (a .v) (a .r) (take k (a .pins .now)) (ratingsIn (a .rating .now) (a .touched .now) (a .count))) e, omega (arith, l .inv .2), l .inv .3, l .inv .4)
+
+pub rate-pins-spec : {M : Type 1} → statement M
+rate-pins-spec =
+    tie.close
+    (tie.spec
+    Inv-loop
+    μ-loop
+    loop-holds
+    at16-requires
+    rate-open-requires
+    add-k
+    loop-less
+    loop-again
+    same-length
+    same-length-2
+    returns)
