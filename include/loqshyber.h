@@ -1,15 +1,28 @@
 /* Loqshyber for a C host: the prices of a contraction plan, and the greedy plan.
  *
- * Each function returns 0, or the number of the refusal (1 to 9, and 12). Each list is a pointer that is not null and a length in its own units,
- * and no list that is written overlaps another. */
+ * Each function returns 0, or the number of the refusal. Each list is a pointer and a length in its own units. The pointer is not null, and is aligned
+ * as C has it for the list's type; for an empty list any such pointer will do. No list that is written overlaps another. A list that is
+ * written and is shorter than stated is refused 7; one that is longer keeps its places past the stated ones. */
 #ifndef LOQSHYBER_H
 #define LOQSHYBER_H
 
 #include <stddef.h>
 #include <stdint.h>
 
+/* The refusals. Of a file's own the first that its bytes meet decides; of all others the lowest. */
+#define LOQSHYBER_TRUNCATED 1      /* a field of the file, or the file before its outputs, ends early */
+#define LOQSHYBER_WRONG_TAG 2      /* a tag that is not allowed at its place */
+#define LOQSHYBER_TOO_LARGE 3      /* over 128 leaves, 256 indices, 32 indices of a leaf or 32 outputs; a target field not of one byte */
+#define LOQSHYBER_OVERWEIGHT 4     /* a weight above 8 */
+#define LOQSHYBER_OUT_OF_RANGE 5   /* an index that is not below the number of indices */
+#define LOQSHYBER_REPEATED 6       /* an index twice in a leaf or in the outputs */
+#define LOQSHYBER_SHORT_BUFFER 7   /* a list to be written, or the workspace, is shorter than stated */
+#define LOQSHYBER_INVALID_TREE 8   /* a tree that is not valid for this number of leaves, or of odd length */
+#define LOQSHYBER_INVALID_FLAGS 9  /* more flags than indices, or a flag over 1 */
+#define LOQSHYBER_TABLE_TOO_WIDE 12 /* greedy: a scored pair has a table, or makes one, of over 40 bits */
+
 /* loqshyber_price reads a network file with its tree, and flags if it has them, and writes the plan's listing to `out`.
- * After a refusal `out` is as it was.
+ * It refuses 1 to 9; a file of two leaves or more without a tree is refused 8. After a refusal `out` is as it was.
  *
  * The listing, every number high byte first:
  *   steps        2 bytes
@@ -24,7 +37,8 @@
 
 uint32_t loqshyber_price(const uint8_t *file, size_t file_length, uint8_t *out, size_t out_length);
 
-/* loqshyber_tree_cost prices a tree of a network in memory. With n leaves there are n - 1 steps and 2n - 1 nodes (none without leaves).
+/* loqshyber_tree_cost prices a tree of a network in memory. It refuses 3 to 9. With n leaves there are n - 1 steps and 2n - 1 nodes
+ * (none without leaves): leaves are 0 to n - 1, inner node j is n + j.
  *
  * What is read:
  *   weights      the weight of each index
@@ -33,11 +47,11 @@ uint32_t loqshyber_price(const uint8_t *file, size_t file_length, uint8_t *out, 
  *   outputs      the output indices
  *   flags        1 for each index that is sliced; an index past the end is not
  *   tree         the left and the right child of each inner node
- * What is written, from the front, after an answer; after a refusal all but `ws` is as it was:
+ * What is written, from the front, after an answer, so many places of each; after a refusal all but `ws` is as it was:
  *   ws           LOQSHYBER_WORDS words, 0 afterwards; after refusals 3 to 7 as they were
- *   sets         LOQSHYBER_SET words a node: the indices that it lists, as digits
- *   sizes        the size bits of each node
- *   works        the work bits of each node, 0 for a leaf
+ *   sets         LOQSHYBER_SET words a node: the indices that it lists; index i is binary digit i % 64, lowest first, of word i / 64
+ *   sizes        a number a node: its size bits
+ *   works        a number a node: its work bits, 0 for a leaf
  *   steps        5 numbers a step: node, left, right, work bits, size bits
  *   answer       LOQSHYBER_ANSWER numbers: 0 and the total, or 1 and 0 if it is beyond; 0 without leaves, else one more than the widest
  *                table's size bits; the slice bits */

@@ -8,6 +8,7 @@ use crate::networks::practice_pedigree;
 use crate::port;
 use crate::rust::{self, Validity};
 use rand::draws;
+use std::io::{self, Write};
 
 fn hypergraph(network: &Network) -> Hypergraph {
     let wide = |list: &Vec<u16>| list.iter().map(|&i| i as u32).collect();
@@ -29,6 +30,10 @@ fn total(network: &Hypergraph, tree: &ContractionTree) -> f64 {
 /// The port's answer, if the port is linked, and the Rust's.
 fn both(case: &Case) -> (Option<Result<Listing, u32>>, rust::Answer) {
     rust::quiet_caught_panics();
+    if !port::AT_HAND {
+        // to the terminal even where the test's own output is kept back
+        writeln!(io::stderr(), "{}", port::MISSING).expect("stderr can be written");
+    }
     let answer = rust::answer(case).expect("path.rs is compiled in");
     let port = port::AT_HAND.then(|| {
         let mut out = [0; MOST];

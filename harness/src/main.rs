@@ -19,19 +19,23 @@ mod port;
 mod record;
 mod rust;
 mod small;
+mod tree_record;
 mod trees;
 
-use std::env;
 use std::path::Path;
 use std::process::ExitCode;
+use std::{env, io};
 
 /// The crate whose input and output `record` writes.
 const REPLAY: &str = concat!(env!("CARGO_MANIFEST_DIR"), "/../crates/replay");
 
+/// The crate whose input and output `tree-record` writes.
+const TREE_RUNS: &str = concat!(env!("CARGO_MANIFEST_DIR"), "/../crates/treeruns");
+
 /// The crate whose input and output `greedy-record` writes.
 const GREEDY_RUNS: &str = concat!(env!("CARGO_MANIFEST_DIR"), "/../crates/greedyruns");
 
-const USAGE: &str = "usage: harness compare|greedy [NETWORKS [SEED]] | bisect [NETWORKS [SEED [LEAVES]]] | bench | greedy-bench | record | greedy-record";
+const USAGE: &str = "usage: harness compare|greedy [NETWORKS [SEED]] | bisect [NETWORKS [SEED [LEAVES]]] | bench | greedy-bench | record | tree-record | greedy-record";
 
 fn compare(count: usize, seed: u64) -> ExitCode {
     if !port::AT_HAND {
@@ -54,6 +58,17 @@ fn compare(count: usize, seed: u64) -> ExitCode {
     }
 }
 
+/// What became of writing the input and output of a crate.
+fn recorded(name: &str, result: io::Result<()>) -> ExitCode {
+    match result {
+        Ok(()) => ExitCode::SUCCESS,
+        Err(error) => {
+            println!("crates/{name}: {error}");
+            ExitCode::FAILURE
+        }
+    }
+}
+
 fn main() -> ExitCode {
     rust::quiet_caught_panics();
     let words: Vec<String> = env::args().skip(1).collect();
@@ -65,13 +80,8 @@ fn main() -> ExitCode {
             greedy::bench::run();
             ExitCode::SUCCESS
         }
-        (Some("greedy-record"), ..) => match greedy::record::run(Path::new(GREEDY_RUNS)) {
-            Ok(()) => ExitCode::SUCCESS,
-            Err(error) => {
-                println!("crates/greedyruns: {error}");
-                ExitCode::FAILURE
-            }
-        },
+        (Some("greedy-record"), ..) => recorded("greedyruns", greedy::record::run(Path::new(GREEDY_RUNS))),
+        (Some("tree-record"), ..) => recorded("treeruns", tree_record::run(Path::new(TREE_RUNS))),
         (Some("bisect"), Some(count), Some(seed)) => match bisect::run(count as usize, seed, number(3, 128).unwrap_or(128) as usize) {
             Ok(()) => ExitCode::SUCCESS,
             Err(error) => {
@@ -83,13 +93,7 @@ fn main() -> ExitCode {
             bench::run();
             ExitCode::SUCCESS
         }
-        (Some("record"), ..) => match record::run(Path::new(REPLAY)) {
-            Ok(()) => ExitCode::SUCCESS,
-            Err(error) => {
-                println!("crates/replay: {error}");
-                ExitCode::FAILURE
-            }
-        },
+        (Some("record"), ..) => recorded("replay", record::run(Path::new(REPLAY))),
         _ => {
             println!("{USAGE}");
             ExitCode::FAILURE

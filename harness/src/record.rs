@@ -55,7 +55,8 @@ fn line(answer: &Answer) -> String {
     answer.cost.as_ref().map_or("refused 8".into(), priced)
 }
 
-fn cases() -> Vec<Case> {
+/// The cases: at the edges of totals, and at random.
+pub fn cases() -> Vec<Case> {
     let mut numbers = Numbers::new(SEED);
     let mut cases = edges::cases();
     for shape in SHAPES {

@@ -191,17 +191,23 @@ flags-count : priceCall sample 4096 (room 20 5 5 10) (0 ∷ 1 ∷ []) (2 ∷ 1 �
 unfolding priceCall listing valid treeAt pairsOf kept named
 flags-count = refl
 
+-- slice bits count every flagged index: an output, and one that no leaf names
+output-flagged : priceCall (network ((0 ∷ []) ∷ []) (0 ∷ []) (3 ∷ 5 ∷ [])) 4096 (room 4 1 1 0) (1 ∷ 1 ∷ []) []
+    ≡ done (record { total = exact 0; widest = some 0; sliceBits = 8 })
+unfolding priceCall listing valid treeAt pairsOf kept named
+output-flagged = refl
+
 sameness : (sameCall sample 4096 kids (1 ∷ 0 ∷ 2 ∷ 3 ∷ []) ≡ done true) × (sameCall sample 4096 kids (1 ∷ 2 ∷ 3 ∷ 0 ∷ []) ≡ done false)
 unfolding sameCall samePlan valid treeAt pairsOf
 sameness = (refl, refl)
 
--- ---- the workspace of two words after 3, 7, 8 and after an answer; lists of which more is lent than is written ----
+-- ---- the workspace of two words after 3, 7, 8, 9 and after an answer; lists of which more is lent than is written ----
 
 abbrev after : Result ℕ → List ℕ
 after r = workspaceAfter 2 r (7 ∷ 8 ∷ 9 ∷ [])
 
-workspace : map after (refused tooLarge ∷ refused shortBuffer ∷ refused invalidTree ∷ done 0 ∷ [])
-    ≡ (7 ∷ 8 ∷ 9 ∷ []) ∷ (7 ∷ 8 ∷ 9 ∷ []) ∷ (0 ∷ 0 ∷ 9 ∷ []) ∷ (0 ∷ 0 ∷ 9 ∷ []) ∷ []
+workspace : map after (refused tooLarge ∷ refused shortBuffer ∷ refused invalidTree ∷ refused invalidFlags ∷ done 0 ∷ [])
+    ≡ (7 ∷ 8 ∷ 9 ∷ []) ∷ (7 ∷ 8 ∷ 9 ∷ []) ∷ (0 ∷ 0 ∷ 9 ∷ []) ∷ (0 ∷ 0 ∷ 9 ∷ []) ∷ (0 ∷ 0 ∷ 9 ∷ []) ∷ []
 unfolding cleared over filled
 workspace = refl
 
@@ -222,5 +228,7 @@ priced : (pricedSteps sample (0 ∷ 1 ∷ []) tree (priceCall sample 4096 (room 
     × (pricedSizes sample [] tree (priceCall sample 4096 (room 20 6 6 11) [] tree) (filled 6 9) ≡ 3 ∷ 3 ∷ 1 ∷ 2 ∷ 1 ∷ 9 ∷ [])
     × (pricedWorks sample [] tree (priceCall sample 4096 (room 20 6 6 11) [] tree) (filled 6 9) ≡ 0 ∷ 0 ∷ 0 ∷ 3 ∷ 3 ∷ 9 ∷ [])
     × (pricedSteps sample [] tree (priceCall sample 4096 (room 20 5 5 9) [] tree) eleven ≡ eleven)
+    × (pricedSizes sample (0 ∷ 1 ∷ []) tree (priceCall sample 4096 (room 20 5 5 10) (0 ∷ 1 ∷ []) tree) (filled 5 9) ≡ 1 ∷ 1 ∷ 1 ∷ 0 ∷ 1 ∷ [])
+    × (pricedWorks sample (0 ∷ 1 ∷ []) tree (priceCall sample 4096 (room 20 5 5 10) (0 ∷ 1 ∷ []) tree) (filled 5 9) ≡ 0 ∷ 0 ∷ 0 ∷ 1 ∷ 1 ∷ [])
 unfolding priceCall listing flatSteps valid treeAt pairsOf kept named over filled
-priced = (refl, refl, refl, refl)
+priced = (refl, refl, refl, refl, refl, refl)

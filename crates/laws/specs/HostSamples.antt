@@ -1,8 +1,8 @@
--- The C host's pricing by computation: the listing's bytes of a small plan, and refusals. Assumes nothing.
+-- The C host's pricing by computation: the listing's bytes of small plans, their four numbers, and refusals. Assumes nothing.
 use mathlib.Core.List.{List, [], _∷_, _++_, map}
 use mathlib.Core.Option.{none, some}
 use mathlib.Core.Path.{_≡_, refl}
-use Prim.Native.Nat.{ℕ}
+use Prim.Native.Nat.{ℕ, _^_}
 use Rattle.spec.specs.Memory.{filled, over}
 use Rattle.spec.specs.Refusal.{codeOf, Result, done}
 use Rattle.spec.specs.Tree.{valid, treeAt, pairsOf}
@@ -13,7 +13,7 @@ use Rattle.spec.specs.Calls.{priceCall}
 use Rattle.spec.specs.File.{plain, flagged, Contents, fileOf, readOf}
 use Rattle.spec.specs.FileClaims.{refusalIn}
 use Rattle.spec.specs.Host.{fullRoom, listingCall, hostCall, lentNetwork, memoryCall, answerAfter}
-use Rattle.laws.specs.Samples.{sample}
+use Rattle.laws.specs.Samples.{network, sample, apart}
 
 abbrev contents : Contents
 contents = record { network = sample; tree = some (2 ∷ 1 ∷ 3 ∷ 0 ∷ []); ask = flagged (0 ∷ 1 ∷ []) }
@@ -54,3 +54,37 @@ memory = refl
 memory-refused : map (λ r. codeOf (refusalIn r)) (inMemory 3 sample ∷ inMemory 3 (record { leaves = []; outputs = []; weights = 9 ∷ [] }) ∷ []) ≡ 7 ∷ 4 ∷ []
 unfolding memoryCall priceCall listing valid treeAt pairsOf kept named
 memory-refused = refl
+
+-- four places are enough
+memory-fits : answerAfter (inMemory 4 sample) (9 ∷ 9 ∷ 9 ∷ 9 ∷ []) ≡ 0 ∷ 4 ∷ 2 ∷ 2 ∷ []
+unfolding memoryCall over priceCall listing valid treeAt pairsOf kept named
+memory-fits = refl
+
+-- ---- high bytes, a total beyond, no widest: two leaves of 52 and of 53 bits together, and no leaves ----
+
+-- a plan of one step, or none, as bytes and as four numbers
+abbrev bytes : Network → List ℕ → Result (List ℕ)
+bytes N kids = listingCall 26 N [] kids
+
+abbrev numbers : Network → List ℕ → List ℕ
+numbers N kids = answerAfter (memoryCall 4 N 4096 fullRoom [] kids) (9 ∷ 9 ∷ 9 ∷ 9 ∷ [])
+
+-- 2^52, 52 bits
+exact-bytes : bytes (apart 4) (0 ∷ 1 ∷ [])
+    ≡ done (0 ∷ 1 ∷ 0 ∷ 0 ∷ 16 ∷ 0 ∷ 0 ∷ 0 ∷ 0 ∷ 0 ∷ 0 ∷ 1 ∷ 0 ∷ 52 ∷ 0 ∷ 0 ∷ 0 ∷ 2 ∷ 0 ∷ 0 ∷ 0 ∷ 1 ∷ 0 ∷ 52 ∷ 0 ∷ 52 ∷ [])
+unfolding listingCall priceCall listing flatSteps valid treeAt pairsOf kept named
+exact-bytes = refl
+
+beyond-bytes : bytes (apart 5) (0 ∷ 1 ∷ [])
+    ≡ done (0 ∷ 1 ∷ 1 ∷ 0 ∷ 0 ∷ 0 ∷ 0 ∷ 0 ∷ 0 ∷ 0 ∷ 0 ∷ 1 ∷ 0 ∷ 53 ∷ 0 ∷ 0 ∷ 0 ∷ 2 ∷ 0 ∷ 0 ∷ 0 ∷ 1 ∷ 0 ∷ 53 ∷ 0 ∷ 53 ∷ [])
+unfolding listingCall priceCall listing flatSteps valid treeAt pairsOf kept named
+beyond-bytes = refl
+
+no-leaf-bytes : bytes (network [] [] []) [] ≡ done (0 ∷ 0 ∷ 0 ∷ 0 ∷ 0 ∷ 0 ∷ 0 ∷ 0 ∷ 0 ∷ 0 ∷ 0 ∷ 0 ∷ 0 ∷ 0 ∷ 0 ∷ 0 ∷ [])
+unfolding listingCall priceCall listing flatSteps valid treeAt pairsOf kept named
+no-leaf-bytes = refl
+
+in-numbers : (numbers (apart 4) (0 ∷ 1 ∷ []) ∷ numbers (apart 5) (0 ∷ 1 ∷ []) ∷ numbers (network [] [] []) [] ∷ [])
+    ≡ (0 ∷ 2 ^ 52 ∷ 53 ∷ 0 ∷ []) ∷ (1 ∷ 0 ∷ 54 ∷ 0 ∷ []) ∷ (0 ∷ 0 ∷ 0 ∷ 0 ∷ []) ∷ []
+unfolding memoryCall over priceCall listing valid treeAt pairsOf kept named
+in-numbers = refl

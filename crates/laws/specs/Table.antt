@@ -24,7 +24,7 @@ use Rattle.spec.specs.Slicing.{slice, asIs}
 use Rattle.spec.specs.Program.{planOf, program}
 use Rattle.spec.specs.Text.{ascii, lastDigits, decimal, spaced, linesOf, planText, outputOf}
 use Rattle.spec.specs.File.{target}
-use Rattle.laws.specs.Samples.{network, sample}
+use Rattle.laws.specs.Samples.{network, sample, apart}
 
 pub record Row : Type 0 where
   pub says : List ℕ
@@ -57,10 +57,6 @@ treeOver n kids = ofResult (validCall (bare n) plainWords kids)
 
 abbrev totalOver : Network → List ℕ → List ℕ
 totalOver N kids = ofTotal (total (listing N (λ j. false) (pairsOf kids)))
-
--- two leaves with no common index, all outputs
-abbrev apart : ℕ → Network
-apart w = network ((0 ∷ 1 ∷ 2 ∷ 3 ∷ []) ∷ (4 ∷ 5 ∷ 6 ∷ []) ∷ []) (range 7) (8 ∷ 8 ∷ 8 ∷ 8 ∷ 8 ∷ 8 ∷ w ∷ [])
 
 -- one leaf of n indices
 abbrev leafOf : ℕ → Network

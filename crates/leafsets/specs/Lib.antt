@@ -1,4 +1,4 @@
--- The leaves below each node, as sets in slots of words.
+-- The leaves below each node, as sets in slots of words. Assumes nothing.
 pub mod Passes
 pub mod Search
 pub mod Right

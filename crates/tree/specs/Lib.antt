@@ -1,2 +1,2 @@
--- The entries on trees.
+-- The entries on trees. Assumes nothing.
 pub mod Answers

@@ -1,4 +1,4 @@
--- The walks over a tree in lent words.
+-- The walks over a tree in lent words. Assumes nothing.
 pub mod Stack
 pub mod Marks
 pub mod Check
