@@ -1,6 +1,6 @@
-/* Loqshyber for a C host: the prices of a contraction plan.
+/* Loqshyber for a C host: the prices of a contraction plan, and the greedy plan.
  *
- * Each function returns 0, or the number of the refusal (1 to 9). Each list is a pointer that is not null and a length in its own units,
+ * Each function returns 0, or the number of the refusal (1 to 9, and 12). Each list is a pointer that is not null and a length in its own units,
  * and no list that is written overlaps another. */
 #ifndef LOQSHYBER_H
 #define LOQSHYBER_H
@@ -29,7 +29,7 @@ uint32_t loqshyber_price(const uint8_t *file, size_t file_length, uint8_t *out, 
  * What is read:
  *   weights      the weight of each index
  *   leg_counts   how many indices each leaf has
- *   legs         LOQSHYBER_LEGS places a leaf, of which the leaf's indices are the first
+ *   legs         LOQSHYBER_LEGS places a leaf, of which the leaf's indices are the first; a place past the end counts as 0
  *   outputs      the output indices
  *   flags        1 for each index that is sliced; an index past the end is not
  *   tree         the left and the right child of each inner node
@@ -51,5 +51,16 @@ uint32_t loqshyber_tree_cost(const uint8_t *weights, size_t weights_length, cons
     const uint16_t *tree, size_t tree_length, uint64_t *ws, size_t ws_length, uint64_t *sets, size_t sets_length,
     uint16_t *sizes, size_t sizes_length, uint16_t *works, size_t works_length, uint16_t *steps, size_t steps_length,
     uint64_t *answer, size_t answer_length);
+
+/* loqshyber_greedy plans a network in memory, which is read as above: the greedy plan (alpha 1, temperature 0).
+ *
+ * What is written:
+ *   tree         the left and the right child of each inner node, n - 1 nodes from the front; after a refusal `tree` is as it was
+ *   ws           LOQSHYBER_WORDS words, 0 afterwards; after refusals 3 to 7 as they were
+ * It refuses 3 to 7 for what it is lent, and 12 where two tables that share an index are scored and one of them, or the table that they make,
+ * is over 40 bits. */
+uint32_t loqshyber_greedy(const uint8_t *weights, size_t weights_length, const uint8_t *leg_counts, size_t leg_counts_length,
+    const uint16_t *legs, size_t legs_length, const uint16_t *outputs, size_t outputs_length, uint16_t *tree, size_t tree_length,
+    uint64_t *ws, size_t ws_length);
 
 #endif

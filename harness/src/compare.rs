@@ -3,7 +3,7 @@
 use crate::case::Case;
 use crate::listing::{sum_of_powers, Listing, Total, MOST};
 use crate::rust::{Answer, Cost, Validity};
-use crate::{port, rust};
+use crate::{memory, port, rust};
 use std::fmt::Write;
 
 /// How far apart logarithms may be.
@@ -138,7 +138,8 @@ impl Comparison {
             if let Ok(listing) = port {
                 consistent(case, listing)?;
             }
-            answer.as_ref().map_or(Ok(()), |answer| same_answer(case, port, answer))
+            answer.as_ref().map_or(Ok(()), |answer| same_answer(case, port, answer))?;
+            memory::check(case, port, answer.as_ref().and_then(|answer| answer.cost.as_ref()))
         });
         if let Err(what) = result {
             self.differences += 1;

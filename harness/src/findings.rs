@@ -1,8 +1,11 @@
-//! The Rust's side of docs/DIFFERENCES.md, and the draws of its bisection: runs of path.rs.
+//! The entries of docs/DIFFERENCES.md, and the draws of bisection: runs of path.rs and, of the calls that it has, the port.
 
-use crate::case::{Case, Network};
+use crate::case::{Case, Network, Tree};
 use crate::engine::path::{self, BisectParams, ContractionTree, GreedyParams, Hypergraph};
+use crate::listing::{Listing, Total, MOST};
+use crate::memory::{Given, Lent};
 use crate::networks::practice_pedigree;
+use crate::port;
 use crate::rust::{self, Validity};
 use rand::draws;
 
@@ -23,17 +26,74 @@ fn total(network: &Hypergraph, tree: &ContractionTree) -> f64 {
     path::tree_cost(network, tree, &[]).log2_total.exp2().round()
 }
 
+/// The port's answer, if the port is linked, and the Rust's.
+fn both(case: &Case) -> (Option<Result<Listing, u32>>, rust::Answer) {
+    rust::quiet_caught_panics();
+    let answer = rust::answer(case).expect("path.rs is compiled in");
+    let port = port::AT_HAND.then(|| {
+        let mut out = [0; MOST];
+        match port::price(&case.file(), &mut out) {
+            0 => Ok(Listing::decode(&out).expect("a listing").0),
+            refusal => Err(refusal),
+        }
+    });
+    (port, answer)
+}
+
+/// A case of so many leaves without indices.
+fn bare(leaf_count: usize, tree: Tree) -> Case {
+    Case { network: Network { leaves: vec![Vec::new(); leaf_count], ..Network::default() }, tree: Some(tree), flags: None }
+}
+
 #[test]
 fn is_valid_panics_on_a_child_above_the_root() {
-    rust::quiet_caught_panics();
-    let case = Case { network: network(&[], &[&[], &[]]), tree: Some(vec![[0, 7]]), flags: None };
-    assert_eq!(rust::answer(&case).unwrap().validity, Validity::Panics);
+    let (port, answer) = both(&bare(2, vec![[0, 3]]));
+    assert_eq!(answer.validity, Validity::Panics);
+    assert!(port.is_none_or(|port| port == Err(8)));
+}
+
+/// Both totals of a valid tree.
+fn totals(case: &Case) -> (Option<Total>, f64) {
+    let (port, answer) = both(case);
+    (port.map(|port| port.expect("a valid tree").total), answer.cost.expect("a valid tree").log2_total)
+}
+
+#[test]
+fn totals_are_exact_beyond_or_none() {
+    let (port, rust) = totals(&bare(4, vec![[0, 1], [4, 2], [5, 3]]));
+    assert!(port.is_none_or(|total| total == Total::Exact(3)) && (rust - 3f64.log2()).abs() <= 1e-9);
+    let (port, rust) = totals(&bare(0, Vec::new()));
+    assert!(port.is_none_or(|total| total == Total::Exact(0)) && rust == f64::NEG_INFINITY);
+    let weights = vec![8, 8, 8, 8, 8, 8, 5];
+    let network = Network { weights, leaves: vec![(0..7).collect(), Vec::new()], outputs: Vec::new() };
+    let (port, rust) = totals(&Case { network, tree: Some(vec![[0, 1]]), flags: None });
+    assert!(port.is_none_or(|total| total == Total::Beyond) && rust == 53.0);
+}
+
+#[test]
+fn a_leaf_has_no_work_and_no_leaves_no_widest() {
+    let (port, answer) = both(&bare(0, Vec::new()));
+    assert!(port.is_none_or(|port| port.is_ok_and(|listing| listing.widest.is_none())));
+    assert_eq!(answer.cost.unwrap().log2_max, f64::NEG_INFINITY);
+    let tree = ContractionTree { n_leaves: 1, children: Vec::new() };
+    assert_eq!(path::tree_cost(&hypergraph(&network(&[], &[&[]])), &tree, &[]).log2flops, [f64::NEG_INFINITY]);
+    if port::AT_HAND {
+        let given = Given::new(&bare(1, Vec::new()));
+        let mut lent = Lent::new(&given, 0);
+        assert_eq!((port::tree_cost(&given, &mut lent), lent.works), (0, vec![0]));
+    }
 }
 
 #[test]
 fn greedy_takes_an_empty_table_first() {
     let tree = path::greedy(&hypergraph(&network(&[0], &[&[0], &[]])), &GreedyParams::default(), 0);
     assert_eq!(tree.children, [[1, 0]]);
+}
+
+#[test]
+fn bisection_takes_an_empty_table_first() {
+    let run = rust::bisection(&network(&[0, 1], &[&[0], &[], &[1]]), 200, 2, vec![0; 48]).unwrap();
+    assert_eq!((run.children, run.taken, run.missed), (vec![[1, 0], [2, 3]], 48, 0));
 }
 
 #[test]

@@ -32,6 +32,11 @@ pub fn case(numbers: &mut Numbers, shape: Shape) -> Case {
     let leaf_count = leaf_count(numbers);
     // a dense network of many leaves is slow on both sides
     let leaf_count = if shape == Shape::Dense && numbers.chance(3, 4) { leaf_count % 24 } else { leaf_count };
+    case_of(numbers, shape, leaf_count)
+}
+
+/// A random case of so many leaves with a valid tree.
+pub fn case_of(numbers: &mut Numbers, shape: Shape, leaf_count: usize) -> Case {
     let network = network(numbers, shape, leaf_count);
     let flags = flags(numbers, network.weights.len());
     Case { tree: Some(trees::valid(numbers, leaf_count)), network, flags }

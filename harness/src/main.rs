@@ -1,6 +1,7 @@
 //! The port beside the Rust that it comes from. See README.md.
 
 mod bench;
+mod bisect;
 mod case;
 mod compare;
 mod edges;
@@ -8,8 +9,10 @@ mod edges;
 mod engine;
 #[cfg(all(test, path_rs))]
 mod findings;
+mod greedy;
 mod large;
 mod listing;
+mod memory;
 mod networks;
 mod numbers;
 mod port;
@@ -25,7 +28,10 @@ use std::process::ExitCode;
 /// The crate whose input and output `record` writes.
 const REPLAY: &str = concat!(env!("CARGO_MANIFEST_DIR"), "/../crates/replay");
 
-const USAGE: &str = "usage: harness compare [NETWORKS [SEED]] | bench | record";
+/// The crate whose input and output `greedy-record` writes.
+const GREEDY_RUNS: &str = concat!(env!("CARGO_MANIFEST_DIR"), "/../crates/greedyruns");
+
+const USAGE: &str = "usage: harness compare|greedy [NETWORKS [SEED]] | bisect [NETWORKS [SEED [LEAVES]]] | bench | greedy-bench | record | greedy-record";
 
 fn compare(count: usize, seed: u64) -> ExitCode {
     if !port::AT_HAND {
@@ -36,7 +42,7 @@ fn compare(count: usize, seed: u64) -> ExitCode {
         println!("{}", rust::MISSING);
     }
     let mut comparison = compare::Comparison::default();
-    small::run(&mut comparison);
+    small::run(&mut comparison, seed);
     edges::run(&mut comparison);
     large::run(&mut comparison, count, seed);
     comparison.tell("all", compare::Counts::default());
@@ -54,6 +60,25 @@ fn main() -> ExitCode {
     let number = |k: usize, usual: u64| words.get(k).map_or(Some(usual), |word| word.parse().ok());
     match (words.first().map(String::as_str), number(1, 100_000), number(2, 1)) {
         (Some("compare"), Some(count), Some(seed)) => compare(count as usize, seed),
+        (Some("greedy"), Some(count), Some(seed)) => greedy::run(count as usize, seed),
+        (Some("greedy-bench"), ..) => {
+            greedy::bench::run();
+            ExitCode::SUCCESS
+        }
+        (Some("greedy-record"), ..) => match greedy::record::run(Path::new(GREEDY_RUNS)) {
+            Ok(()) => ExitCode::SUCCESS,
+            Err(error) => {
+                println!("crates/greedyruns: {error}");
+                ExitCode::FAILURE
+            }
+        },
+        (Some("bisect"), Some(count), Some(seed)) => match bisect::run(count as usize, seed, number(3, 128).unwrap_or(128) as usize) {
+            Ok(()) => ExitCode::SUCCESS,
+            Err(error) => {
+                eprintln!("{error}");
+                ExitCode::FAILURE
+            }
+        },
         (Some("bench"), ..) => {
             bench::run();
             ExitCode::SUCCESS

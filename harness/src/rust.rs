@@ -2,7 +2,8 @@
 #![cfg_attr(not(path_rs), allow(dead_code))]
 
 use crate::bench::Call;
-use crate::case::{Case, Tree};
+use crate::bisect::Run;
+use crate::case::{Case, Network, Tree};
 
 /// Whether path.rs is compiled in.
 pub const AT_HAND: bool = cfg!(path_rs);
@@ -30,6 +31,8 @@ pub struct Step {
 /// `post_order` and `tree_cost` of a valid tree.
 #[derive(Clone, Debug)]
 pub struct Cost {
+    /// The indices and the size of each node, leaves included.
+    pub nodes: Vec<(Vec<u32>, f64)>,
     pub steps: Vec<Step>,
     pub log2_total: f64,
     pub log2_max: f64,
@@ -45,7 +48,7 @@ pub struct Answer {
 }
 
 #[cfg(path_rs)]
-pub use compiled::{greedy, quiet_caught_panics, tree_cost_call, valid_cost_call};
+pub use compiled::{bisection, greedy, greedy_call, quiet_caught_panics, tree_cost_call, valid_cost_call};
 
 /// Runs path.rs, if it is at hand. A case without a tree is one with no internal node.
 #[cfg(path_rs)]
@@ -56,7 +59,7 @@ pub fn answer(case: &Case) -> Option<Answer> {
 }
 
 #[cfg(not(path_rs))]
-pub use missing::{answer, greedy, quiet_caught_panics, tree_cost_call, valid_cost_call};
+pub use missing::{answer, bisection, greedy, greedy_call, quiet_caught_panics, tree_cost_call, valid_cost_call};
 
 #[cfg(not(path_rs))]
 mod missing {
@@ -67,6 +70,14 @@ mod missing {
     }
 
     pub fn greedy(_case: &Case) -> Option<Tree> {
+        None
+    }
+
+    pub fn greedy_call<'a>(_case: &Case) -> Call<'a> {
+        None
+    }
+
+    pub fn bisection(_network: &Network, _imbalance: u32, _cutoff: usize, _words: Vec<u64>) -> Option<Run> {
         None
     }
 
@@ -84,7 +95,8 @@ mod missing {
 #[cfg(path_rs)]
 mod compiled {
     use super::*;
-    use crate::engine::path::{self, ContractionTree, GreedyParams, Hypergraph};
+    use crate::engine::path::{self, BisectParams, ContractionTree, GreedyParams, Hypergraph};
+    use rand::draws;
     use std::cell::Cell;
     use std::hint::black_box;
     use std::panic;
@@ -119,16 +131,20 @@ mod compiled {
         list.iter().map(|&i| i as u32).collect()
     }
 
+    fn hypergraph(network: &Network) -> Hypergraph {
+        Hypergraph::new(
+            network.leaves.iter().map(|leaf| wide(leaf)).collect(),
+            wide(&network.outputs),
+            network.weights.iter().map(|&w| w as f64).collect(),
+        )
+    }
+
     impl Input {
         pub fn new(case: &Case) -> Self {
             let network = &case.network;
             let children = case.tree.iter().flatten().map(|pair| pair.map(u32::from)).collect();
             Self {
-                network: Hypergraph::new(
-                    network.leaves.iter().map(|leaf| wide(leaf)).collect(),
-                    wide(&network.outputs),
-                    network.weights.iter().map(|&w| w as f64).collect(),
-                ),
+                network: hypergraph(network),
                 tree: ContractionTree { n_leaves: network.leaves.len(), children },
                 sliced: case.flags.clone().unwrap_or_default(),
             }
@@ -155,7 +171,13 @@ mod compiled {
                     log2_size: cost.log2size[v as usize],
                 }
             });
-            Cost { steps: steps.collect(), log2_total: cost.log2_total, log2_max: cost.log2_max, log2_slices: cost.log2_slices }
+            Cost {
+                steps: steps.collect(),
+                nodes: cost.inds.into_iter().zip(cost.log2size).collect(),
+                log2_total: cost.log2_total,
+                log2_max: cost.log2_max,
+                log2_slices: cost.log2_slices,
+            }
         }
     }
 
@@ -163,6 +185,22 @@ mod compiled {
     pub fn greedy(case: &Case) -> Option<Tree> {
         let tree = path::greedy(&Input::new(case).network, &GreedyParams::default(), 0);
         Some(tree.children.iter().map(|pair| pair.map(|v| v as u16)).collect())
+    }
+
+    pub fn greedy_call<'a>(case: &Case) -> Call<'a> {
+        let input = Input::new(case);
+        Some(Box::new(move || {
+            black_box(path::greedy(&input.network, &GreedyParams::default(), 0));
+        }))
+    }
+
+    /// The tree of `bisection` with jitter 0, decay 0 and the imbalance in thousandths, its draws from the lent words.
+    pub fn bisection(network: &Network, imbalance: u32, cutoff: usize, words: Vec<u64>) -> Option<Run> {
+        let params = BisectParams { imbalance: imbalance as f64 / 1000.0, cutoff, ..BisectParams::default() };
+        draws::lend(words);
+        let tree = path::bisection(&hypergraph(network), &params, 0);
+        let taken = draws::taken();
+        Some(Run { children: tree.children, taken: taken.words.len(), missed: taken.missed })
     }
 
     pub fn tree_cost_call<'a>(case: &Case) -> Call<'a> {

@@ -2,7 +2,10 @@
 
 use crate::case::{Case, Network, Tree};
 use crate::compare::Comparison;
-use crate::trees::all_lists;
+use crate::large;
+use crate::networks::SHAPES;
+use crate::numbers::Numbers;
+use crate::trees::{all_lists, of_shape, shapes};
 
 /// The indices of a subset, given by its bits.
 fn subset(bits: usize) -> Vec<u16> {
@@ -79,6 +82,17 @@ fn lists(comparison: &mut Comparison, leaf_count: usize, end: u16) {
     comparison.tell(&format!("{leaf_count} leaves, every list"), before);
 }
 
+/// Every tree of so many leaves, up to the order of children and the numbers of nodes, each over a random network.
+fn every_shape(comparison: &mut Comparison, numbers: &mut Numbers, leaf_count: usize) {
+    let before = comparison.counts;
+    for k in 0..shapes(leaf_count) {
+        let mut case = large::case_of(numbers, SHAPES[k % SHAPES.len()], leaf_count);
+        case.tree = Some(of_shape(numbers, leaf_count, k));
+        comparison.run(&case);
+    }
+    comparison.tell(&format!("{leaf_count} leaves, every shape"), before);
+}
+
 /// Networks without a tree: none is due up to one leaf.
 fn without_tree(comparison: &mut Comparison) {
     let before = comparison.counts;
@@ -90,7 +104,7 @@ fn without_tree(comparison: &mut Comparison) {
     comparison.tell("no tree", before);
 }
 
-pub fn run(comparison: &mut Comparison) {
+pub fn run(comparison: &mut Comparison, seed: u64) {
     for leaf_count in 0..4 {
         for weights in [&[][..], &[2], &[1, 2], &[0, 8]] {
             networks(comparison, leaf_count, weights, true);
@@ -101,6 +115,10 @@ pub fn run(comparison: &mut Comparison) {
     lists(comparison, 2, 6);
     lists(comparison, 3, 8);
     lists(comparison, 4, 8);
+    let mut numbers = Numbers::new(seed);
+    for leaf_count in 5..9 {
+        every_shape(comparison, &mut numbers, leaf_count);
+    }
     without_tree(comparison);
 }
 

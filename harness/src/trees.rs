@@ -50,6 +50,38 @@ fn renumber(numbers: &mut Numbers, tree: &mut Tree, leaf_count: usize) {
     *tree = renumbered;
 }
 
+/// How many trees there are over so many leaves, up to the order of children and the numbers of nodes: 1 × 3 × 5 × ..
+pub fn shapes(leaf_count: usize) -> usize {
+    (2..leaf_count).map(|k| 2 * k - 1).product()
+}
+
+/// The tree of shape `k`, with children in any order and nodes numbered in any: each leaf joins one of the nodes that are there before it.
+pub fn of_shape(numbers: &mut Numbers, leaf_count: usize, k: usize) -> Tree {
+    let mut rest = k;
+    let mut tree = Tree::new();
+    let mut root = 0;
+    for leaf in 1..leaf_count {
+        let at = rest % (2 * leaf - 1);
+        rest /= 2 * leaf - 1;
+        let joined = if at < leaf { at } else { leaf_count + at - leaf } as u16;
+        let node = (leaf_count + tree.len()) as u16;
+        match tree.as_flattened_mut().iter_mut().find(|child| **child == joined) {
+            Some(child) => *child = node,
+            None => root = node,
+        }
+        tree.push(if numbers.chance(1, 2) { [joined, leaf as u16] } else { [leaf as u16, joined] });
+    }
+    if let Some(last) = tree.len().checked_sub(1) {
+        let (root, last) = (root, (leaf_count + last) as u16);
+        tree.swap((root as usize) - leaf_count, last as usize - leaf_count);
+        for child in tree.as_flattened_mut() {
+            *child = if *child == last { root } else { *child };
+        }
+        renumber(numbers, &mut tree, leaf_count);
+    }
+    tree
+}
+
 /// A tree with some damage. Now and then it is still valid.
 pub fn broken(numbers: &mut Numbers, leaf_count: usize) -> Tree {
     let mut tree = valid(numbers, leaf_count);
@@ -92,4 +124,36 @@ pub fn all_lists(leaf_count: usize, end: u16) -> impl Iterator<Item = Tree> {
         };
         (0..places / 2).map(|_| [digit(), digit()]).collect()
     })
+}
+
+#[cfg(test)]
+mod tests {
+    use super::*;
+    use std::collections::HashSet;
+
+    /// The leaf sets below the internal nodes.
+    fn sets(tree: &Tree, leaf_count: usize) -> Vec<u32> {
+        fn below(tree: &Tree, leaf_count: usize, v: u16, sets: &mut Vec<u32>) -> u32 {
+            let Some(j) = (v as usize).checked_sub(leaf_count) else { return 1 << v };
+            let set = tree[j].iter().map(|&child| below(tree, leaf_count, child, sets)).sum();
+            sets.push(set);
+            set
+        }
+        let mut sets = Vec::new();
+        below(tree, leaf_count, (leaf_count + tree.len() - 1) as u16, &mut sets);
+        sets.sort_unstable();
+        sets
+    }
+
+    #[test]
+    fn every_shape_once() {
+        let mut numbers = Numbers::new(3);
+        for leaf_count in 2..8 {
+            let count = shapes(leaf_count);
+            let made: HashSet<_> = (0..count).map(|k| sets(&of_shape(&mut numbers, leaf_count, k), leaf_count)).collect();
+            assert_eq!(made.len(), count);
+            assert!(made.iter().all(|sets| sets.len() == leaf_count - 1 && sets.contains(&((1 << leaf_count) - 1))));
+        }
+        assert_eq!(shapes(8), 135_135);
+    }
 }

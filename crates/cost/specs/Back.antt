@@ -25,11 +25,11 @@ widestFrom (Bits x) = some x
 abbrev pub pricesFrom : HandedPrices → Prices
 pricesFrom p = record { total = totalFrom (p .total); widest = widestFrom (p .widest); sliceBits = p .«slice_bits» }
 
-total-back : (t : Total) → totalFrom (totalOf t) ≡ t
+pub total-back : (t : Total) → totalFrom (totalOf t) ≡ t
 total-back (exact x) = refl
 total-back beyond = refl
 
-widest-back : (w : Option ℕ) → widestFrom (widestOf w) ≡ w
+pub widest-back : (w : Option ℕ) → widestFrom (widestOf w) ≡ w
 widest-back none = refl
 widest-back (some x) = refl
 

@@ -122,7 +122,7 @@ impl Scan {
 }
 
 // Is a tag allowed where `due` is due.
-pub fn tag_allowed(due: u8, tag: u8) -> bool
+fn tag_allowed(due: u8, tag: u8) -> bool
     ensures { λ r. ⌜ r ≡ allowed (dueOf due) tag ⌝ }
 {
     match due {

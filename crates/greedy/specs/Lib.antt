@@ -1,5 +1,3 @@
-pub mod Lends
-pub mod Begin
-pub mod Ends
+-- The entry of greedy: over all leaves, what it answers, what it leaves behind. Assumes nothing.
 pub mod Whole
 pub mod Answers

@@ -21,9 +21,9 @@ use Rattle.network.specs.Checks.{Lent}
 use Rattle.network.specs.Codes.{Facts}
 use Rattle.slots.specs.Weigh.{Light}
 use Rattle.start.specs.Leaves.{putAll, put-length, put-at}
-use Rattle.greedy.specs.Lends.{lends-layout}
-use Rattle.greedy.specs.Begin.{range-at, Fits, Asks}
-use Rattle.greedy.specs.Ends.{Greedied, isRefused, isBuilt}
+use Rattle.greedynodes.specs.Lends.{lends-layout}
+use Rattle.greedynodes.specs.Begin.{range-at, Fits, Asks}
+use Rattle.greedynodes.specs.Ends.{Greedied, isRefused, isBuilt}
 
 -- what greedy over all leaves answers: 65536 if it is refused; else the children of the array stand at the front of `kids`
 pub data Whole (N : Network) (kids₀ kids : List ℕ) (r : ℕ) : Type 0 where

@@ -1,4 +1,4 @@
-// Pricing for a C host: file bytes in, listing bytes and the number of a refusal out.
+// The functions that a C host calls: a file's bytes priced, a network in memory priced, its greedy plan.
 ghost use mathlib.Core.Path.{_≡_};
 ghost use Prim.Native.Nat.{_≤_};
 ghost use lib.ListN.{length, take};
@@ -7,6 +7,7 @@ ghost use Rattle.network.specs.Record.{netOf};
 ghost use Rattle.host.specs.Reading.{placesOf, countOf};
 ghost use Rattle.host.specs.Sound.{HandsOut};
 ghost use Rattle.memory.specs.Promise.{MemoryCost};
+ghost use Rattle.memoryplans.specs.Plan.{MemoryGreedy};
 use netfile::Answer;
 use netfile::Ask;
 use netfile::Found;
@@ -106,4 +107,19 @@ pub extern "C" fn loqshyber_tree_cost(
         steps,
         answer,
     ) as u32
+}
+
+#[no_mangle]
+pub extern "C" fn loqshyber_greedy(
+    weights: &[u8],
+    leg_counts: &[u8],
+    legs: &[u16],
+    outputs: &[u16],
+    tree: &mut [u16],
+    ws: &mut [u64],
+) -> u32
+    ensures { λ r. ⌜ MemoryGreedy (lentNetwork (now (weights .entry)) (now («leg_counts» .entry)) (now (legs .entry)) (now (outputs .entry)))
+        (now (tree .entry)) (now (ws .entry)) (now (tree .exit)) (now (ws .exit)) r ⌝ }
+{
+    memoryplans::greedy(weights, leg_counts, legs, outputs, tree, ws) as u32
 }

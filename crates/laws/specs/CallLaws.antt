@@ -10,6 +10,7 @@ checks-by-number N =
       same = λ words kids others. refl;
       price = λ words room flags kids. refl;
       greedy = λ words places. refl;
+      bisection = λ i words places. refl;
       improve = λ k passes words flags kids. refl;
       sliceImproving = λ words flagPlaces kids. refl;
       slice = λ words flagPlaces kids. refl;

@@ -54,7 +54,7 @@ Topped t = (v : ℕ) → memb v (numbers t) ≡ true → v ≤ number t
 abbrev pub fresh : ℕ → ℕ → ℕ → ℕ
 fresh lo hi v = cond (ltb v lo) 0 (cond (ltb v hi) 1 0)
 
-fresh-none : (lo hi v : ℕ) → hi ≤ v → fresh lo hi v ≡ 0
+pub fresh-none : (lo hi v : ℕ) → hi ≤ v → fresh lo hi v ≡ 0
 fresh-none lo hi v h = by-cases (ltb v lo) (λ e. rw e) (λ e. rw (e, le-ltb v hi h))
 
 fresh-step : (lo hi v : ℕ) → lo ≤ hi → fresh lo (suc hi) v ≡ fresh lo hi v + count v (hi ∷ [])
@@ -170,18 +170,18 @@ module _ (N : Network) {base : ℕ → ℕ} {lo all : ℕ} (a : List Pair) (ts t
 pub leaves-length : (n : ℕ) → length (leavesOf (range n)) ≡ n
 leaves-length n = length-map (range n) (λ i. leaf i) ∙ range-length 0 n
 
-leaves-count : (v : ℕ) (l : List ℕ) → sumOf (λ t. count v (numbers t)) (leavesOf l) ≡ count v l
+pub leaves-count : (v : ℕ) (l : List ℕ) → sumOf (λ t. count v (numbers t)) (leavesOf l) ≡ count v l
 leaves-count v [] = refl
 leaves-count v (i ∷ l) = by-cases (eqb v i) (λ e. rw e (omega (arith, leaves-count v l))) (λ e. rw e (omega (arith, leaves-count v l)))
 
-leaf-topped : (i : ℕ) → Topped (leaf i)
+pub leaf-topped : (i : ℕ) → Topped (leaf i)
 leaf-topped i v m = omega (arith, memb-one v i m)
 
 leaves-each : (n : ℕ) (a : List Pair) (k m : ℕ) → k + m ≤ n → All (λ t. Describes n a t × Topped t) (leavesOf (from k m))
 leaves-each n a k zero h = tt
 leaves-each n a k (suc m) h = ((omega arith, leaf-topped k), leaves-each n a (suc k) m (omega arith))
 
-leaves-flat : (l : List ℕ) → sumOf inners (leavesOf l) ≡ 0
+pub leaves-flat : (l : List ℕ) → sumOf inners (leavesOf l) ≡ 0
 leaves-flat [] = refl
 leaves-flat (i ∷ l) = omega (arith, leaves-flat l)
 

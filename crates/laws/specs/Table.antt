@@ -1,8 +1,8 @@
 -- THE TABLE: document 01's cases marked † that the definitions decide, in its order, and one theorem on all of them. A row has what the
--- document says and what the definitions give, as numbers: 1 for valid or accepted, a refusal's number, an order, a total, lines of output.
--- Assumes nothing.
+-- document says and what the definitions give, as numbers: 1 for valid or accepted, a refusal's number, an order, a total; and the sample
+-- plan's output, as bytes. Assumes nothing.
 use mathlib.Core.Bool.{false}
-use mathlib.Core.List.{List, [], _∷_, _++_, map}
+use mathlib.Core.List.{List, [], _∷_, map}
 use mathlib.Core.Option.{Option, none, some}
 use mathlib.Core.Path.{_≡_, refl}
 use Prim.Native.Nat.{ℕ, _^_}
@@ -13,7 +13,7 @@ use Rattle.spec.specs.Memory.{over}
 use Rattle.spec.specs.Refusal.{Refusal, numberOf, Result, refused, done}
 use Rattle.spec.specs.Network.{Network, named, refusalOf}
 use Rattle.spec.specs.Tree.{treeAt, valid, pairsOf, flatOf, stepOrder}
-use Rattle.spec.specs.Price.{kept, Step, listing, Total, exact, beyond, total}
+use Rattle.spec.specs.Price.{kept, listing, Total, exact, beyond, total}
 use Rattle.spec.specs.Calls.{plainWords, improveWords, validCall, greedyCall, improveCall, sliceCall, slicedFlags}
 use Rattle.spec.specs.Draws.{unitOf, indexOf}
 use Rattle.spec.specs.Greedy.{greedyFrom, greedy}
@@ -21,7 +21,8 @@ use Rattle.spec.specs.Undercut.{undercuts}
 use Rattle.spec.specs.Improve.{weigh, keeps, passed, splitWork, splitCount, frontier, locals, reconfNode, visit, pass, arrayFor, improve}
 use Rattle.spec.specs.ImproveClaims.{mostSplits}
 use Rattle.spec.specs.Slicing.{slice, asIs}
-use Rattle.spec.specs.Program.{planOf, Printed, program}
+use Rattle.spec.specs.Program.{planOf, program}
+use Rattle.spec.specs.Text.{ascii, lastDigits, decimal, spaced, linesOf, planText, outputOf}
 use Rattle.spec.specs.File.{target}
 use Rattle.laws.specs.Samples.{network, sample}
 
@@ -65,26 +66,6 @@ apart w = network ((0 ∷ 1 ∷ 2 ∷ 3 ∷ []) ∷ (4 ∷ 5 ∷ 6 ∷ []) ∷ [
 abbrev leafOf : ℕ → Network
 leafOf n = network (range n ∷ []) [] (replicate n 1)
 
--- the numbers of the output, line after line
-abbrev stepLine : Step → List ℕ
-stepLine c = c .made ∷ c .left ∷ c .right ∷ c .workBits ∷ c .sizeBits ∷ c .list
-
-abbrev joinLines : List (List ℕ) → List ℕ
-joinLines [] = []
-joinLines (l ∷ ls) = l ++ joinLines ls
-
-abbrev ofWidest : Option ℕ → List ℕ
-ofWidest none = []
-ofWidest (some w) = w ∷ []
-
-abbrev outputLines : Result Printed → List ℕ
-outputLines (refused r) = numberOf r ∷ []
-outputLines (done p) =
-    p .leaves
-    ∷ p .indices
-    ∷ (joinLines (map stepLine (p .steps))
-    ++ (ofTotal (p .total) ++ (ofWidest (p .widest) ++ (p .slices ++ (p .bits ∷ p .improved ∷ p .splits ∷ [])))))
-
 -- ---- the rows ----
 
 pub rows : List Row
@@ -111,13 +92,13 @@ rows =
     ∷ row (1 ∷ 0 ∷ []) (indexOf 7 3 ∷ toBits binary64 (unitOf 0) ∷ [])
     -- "One leaf {0,1}, weights 1, no output, target 1, no improving: index 0 is sliced."
     ∷ row (1 ∷ 0 ∷ []) (slicedFlags (leafOf 2) (sliceCall (leafOf 2) false 1 plainWords 2 []) (7 ∷ 7 ∷ []))
-    -- the sample plan, from the network of Samples with the target 2: plan 3 3, step 3 2 1 1 0 1, step 4 3 0 1 1 0, total 4, widest 1, slice 1, bits 2, improved 1, splits 18
+    -- the sample plan, from the network of Samples with the target 2: its output byte for byte
     ∷ row
-    (3 ∷ 3 ∷ 3 ∷ 2 ∷ 1 ∷ 1 ∷ 0 ∷ 1 ∷ 4 ∷ 3 ∷ 0 ∷ 1 ∷ 1 ∷ 0 ∷ 4 ∷ 1 ∷ 1 ∷ 2 ∷ 1 ∷ 18 ∷ [])
-    (outputLines (program sample none (target 2)))
+    (ascii "plan 3 3\nstep 3 2 1 1 0 1\nstep 4 3 0 1 1 0\ntotal 4\nwidest 1\nslice 1\nbits 2\nimproved 1\nsplits 18\n")
+    (outputOf (program sample none (target 2)))
     ∷ []
 
 -- EVERY ROW HOLDS
 pub table : map (λ r. r .gives) rows ≡ map (λ r. r .says) rows
-unfolding rows over validCall greedyCall improveCall sliceCall flatOf valid treeAt pairsOf stepOrder listing kept named mostSplits unitOf slice greedy greedyFrom planOf improve weigh keeps passed splitWork splitCount frontier locals reconfNode visit pass arrayFor undercuts round mul sub lt ofInt toBits
+unfolding rows over decimal lastDigits spaced linesOf planText validCall greedyCall improveCall sliceCall flatOf valid treeAt pairsOf stepOrder listing kept named mostSplits unitOf slice greedy greedyFrom planOf improve weigh keeps passed splitWork splitCount frontier locals reconfNode visit pass arrayFor undercuts round mul sub lt ofInt toBits
 table = refl

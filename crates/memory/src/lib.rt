@@ -1,4 +1,4 @@
-// Pricing of a network in memory, whose lists are lent whole.
+// A network in memory, whose lists are lent whole: its record, its prices.
 ghost use mathlib.Core.Path.{_≡_};
 ghost use mathlib.Core.Bool.{false};
 ghost use lib.ListN.{length, getD};
@@ -19,7 +19,7 @@ use pricing::Total;
 use pricing::Widest;
 
 // Is a count above its limit.
-fn too_large(m: usize, o: usize, counts: &[u8]) -> bool
+pub fn too_large(m: usize, o: usize, counts: &[u8]) -> bool
     ensures { λ r. ⌜ r ≡ largeOf m (length (now (counts .entry))) o (now (counts .entry)) ⌝ }
 {
     if counts.len() > Network::MAX_LEAVES {
@@ -35,7 +35,7 @@ fn too_large(m: usize, o: usize, counts: &[u8]) -> bool
 }
 
 // The record of the lists.
-fn record_of(weights: &[u8], counts: &[u8], legs: &[u16], outputs: &[u16]) -> Network
+pub fn record_of(weights: &[u8], counts: &[u8], legs: &[u16], outputs: &[u16]) -> Network
     requires { ⌜ largeOf (length (now weights)) (length (now counts)) (length (now outputs)) (now counts) ≡ false ⌝ }
     ensures { λ r. ⌜ netOf r ≡ lentNetwork (now (weights .entry)) (now (counts .entry)) (now (legs .entry)) (now (outputs .entry)) ⌝ }
 {

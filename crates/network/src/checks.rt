@@ -12,7 +12,7 @@ use crate::refusal;
 use crate::scan;
 
 // Is a count above its limit. No list is read past its limit.
-pub fn too_large(m: usize, n: usize, o: usize, counts: &[u8]) -> bool
+pub(crate) fn too_large(m: usize, n: usize, o: usize, counts: &[u8]) -> bool
     requires { ⌜ maxLeaves ≤ length (now counts) ⌝ }
     ensures { λ r. ⌜ r ≡ largeOf m n o (now (counts .entry)) ⌝ }
 {
@@ -29,7 +29,7 @@ pub fn too_large(m: usize, n: usize, o: usize, counts: &[u8]) -> bool
 }
 
 // Does a leaf, or do the outputs, name an index that is not below m.
-pub fn out_of_range<'a>(
+fn out_of_range<'a>(
     m: usize,
     n: usize,
     o: usize,
@@ -47,13 +47,7 @@ pub fn out_of_range<'a>(
 }
 
 // Does a leaf, or do the outputs, name an index twice.
-pub fn repeated<'a>(
-    n: usize,
-    o: usize,
-    counts: &'a [u8],
-    legs: &'a [u16],
-    outputs: &'a [u16],
-) -> bool
+fn repeated<'a>(n: usize, o: usize, counts: &'a [u8], legs: &'a [u16], outputs: &'a [u16]) -> bool
     requires { ⌜ Rows n (now counts) (now legs) × (o ≤ length (now outputs)) ⌝ }
     ensures { λ r. ⌜ r ≡ repeatOf n o (now (counts .entry)) (now (legs .entry)) (now (outputs .entry)) ⌝ }
 {

@@ -20,7 +20,7 @@ pub fn above(bytes: &[u8], limit: u8) -> bool
 }
 
 // Is an index not below the index count m.
-pub fn out_of_range(row: &[u16], m: usize) -> bool
+pub(crate) fn out_of_range(row: &[u16], m: usize) -> bool
     ensures { λ r. ⌜ r ≡ anyOutOfRange m (now (row .entry)) ⌝ }
 {
     for i in 0..row.len() {
@@ -32,7 +32,7 @@ pub fn out_of_range(row: &[u16], m: usize) -> bool
 }
 
 // Does an index stand at two places. Both loops are left at the first repeat.
-pub fn repeated(row: &[u16]) -> bool
+pub(crate) fn repeated(row: &[u16]) -> bool
     ensures { λ r. ⌜ r ≡ repeats (now (row .entry)) ⌝ }
 {
     let mut found = false;
@@ -63,7 +63,7 @@ pub fn leaf<'a>(counts: &'a [u8], legs: &'a [u16], i: usize) -> &'a [u16]
 }
 
 // Does one of n leaves name an index that is not below m.
-pub fn leaves_out_of_range<'a>(n: usize, counts: &'a [u8], legs: &'a [u16], m: usize) -> bool
+pub(crate) fn leaves_out_of_range<'a>(n: usize, counts: &'a [u8], legs: &'a [u16], m: usize) -> bool
     requires { ⌜ Rows n (now counts) (now legs) ⌝ }
     ensures { λ r. ⌜ r ≡ anyb (anyOutOfRange m) (leavesOf n (now (counts .entry)) (now (legs .entry))) ⌝ }
 {
@@ -76,7 +76,7 @@ pub fn leaves_out_of_range<'a>(n: usize, counts: &'a [u8], legs: &'a [u16], m: u
 }
 
 // Does one of n leaves name an index twice.
-pub fn leaves_repeated<'a>(n: usize, counts: &'a [u8], legs: &'a [u16]) -> bool
+pub(crate) fn leaves_repeated<'a>(n: usize, counts: &'a [u8], legs: &'a [u16]) -> bool
     requires { ⌜ Rows n (now counts) (now legs) ⌝ }
     ensures { λ r. ⌜ r ≡ anyb repeats (leavesOf n (now (counts .entry)) (now (legs .entry))) ⌝ }
 {

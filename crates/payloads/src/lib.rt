@@ -14,7 +14,7 @@ use network::refusal;
 use network::scan;
 
 // Indices of a network of m, byte by byte: 5 for one that is not below m, 6 for one that stands before. Both loops are left at the first.
-pub fn check_indices(bytes: &[u8], m: usize) -> u8
+fn check_indices(bytes: &[u8], m: usize) -> u8
     ensures { λ r. ⌜ r ≡ codeOf (indexBytes m [] (now (bytes .entry))) ⌝ }
 {
     let mut code = refusal::NONE;

@@ -6,7 +6,7 @@ use Prim.Native.Nat.{ℕ}
 use Rattle.spec.specs.Lists.{from}
 use Rattle.spec.specs.Refusal.{numberOf, Check}
 use Rattle.spec.specs.Network.{Network}
-use Rattle.spec.specs.Calls.{PriceRoom, validChecks, orderChecks, sameChecks, priceChecks, greedyChecks, improveChecks, sliceChecks}
+use Rattle.spec.specs.Calls.{PriceRoom, validChecks, orderChecks, sameChecks, priceChecks, greedyChecks, bisectionChecks, improveChecks, sliceChecks}
 
 -- the numbers of some checks
 abbrev pub numbersOf : List Check → List ℕ
@@ -19,6 +19,7 @@ pub record ByNumber (N : Network) : Type 0 where
   pub same : (words : ℕ) (kids others : List ℕ) → numbersOf (sameChecks N words kids others) ≡ 3 ∷ 4 ∷ 5 ∷ 6 ∷ 7 ∷ 8 ∷ 8 ∷ []
   pub price : (words : ℕ) (room : PriceRoom) (flags kids : List ℕ) → numbersOf (priceChecks N words room flags kids) ≡ from 3 7
   pub greedy : (words places : ℕ) → numbersOf (greedyChecks N words places) ≡ from 3 5
+  pub bisection : (i words places : ℕ) → numbersOf (bisectionChecks N i words places) ≡ from 3 5
   pub improve : (k passes words : ℕ) (flags kids : List ℕ) → numbersOf (improveChecks N k passes words flags kids) ≡ from 3 9
   pub sliceImproving : (words flagPlaces : ℕ) (kids : List ℕ)
       → numbersOf (sliceChecks N true words flagPlaces kids) ≡ 3 ∷ 4 ∷ 5 ∷ 6 ∷ 7 ∷ 8 ∷ 10 ∷ 11 ∷ []

@@ -13,6 +13,7 @@ use Rattle.spec.specs.Network.{Network, leafCount, indexCount, legs, net
 use Rattle.spec.specs.Tree.{Pair, valid, pairsOf, flatOf, stepOrder, samePlan}
 use Rattle.spec.specs.Price.{listing, flatSteps, sizeAt, workAt, Total, exact, beyond, total, Prices, priceOf}
 use Rattle.spec.specs.Greedy.{greedy}
+use Rattle.spec.specs.Bisection.{Bisected, bisection}
 use Rattle.spec.specs.Improve.{clamped, Improved, improve}
 use Rattle.spec.specs.Slicing.{Plan, slice, asIs, onePass}
 
@@ -30,9 +31,12 @@ lent has needs = record { has = has; needs = needs }
 abbrev pub lengthCheck : List Lent → Check
 lengthCheck l = check (anyb (λ x. ltb (x .has) (x .needs)) l) shortBuffer
 
--- Workspace: "4,096 + 8 × 2^k, k after clamping (8 in slicing), for improvement and slicing with it; else 4,096."
+-- Workspace: "32,768 for bisection; 4,096 + 8 × 2^k, k after clamping (8 in slicing), for improvement and slicing with it; else 4,096."
 abbrev pub plainWords : ℕ
 plainWords = 4096
+
+abbrev pub bisectionWords : ℕ
+bisectionWords = 32768
 
 abbrev pub improveWords : ℕ → ℕ
 improveWords k = 4096 + 8 * 2 ^ clamped k
@@ -164,6 +168,15 @@ module _ (N : Network) where
   unfoldable pub greedyCall : ℕ → ℕ → Result (List Pair)
   greedyCall words places = checked (greedyChecks words places) (greedy N)
 
+  -- "imbalance i/1000 (i from 0 to 1,000, else refused 3"
+  abbrev pub bisectionChecks : ℕ → ℕ → ℕ → List Check
+  bisectionChecks i words places =
+      networkChecks (ltb 1000 i) N ++ (lengthCheck (lent words bisectionWords ∷ lent places (treePlaces N) ∷ []) ∷ [])
+
+  -- `draws` are the lent words that stand for the random generator, `words` the length of the workspace
+  unfoldable pub bisectionCall : ℕ → ℕ → List ℕ → ℕ → ℕ → Result Bisected
+  bisectionCall i cutoff draws words places = checked (bisectionChecks i words places) (bisection N i cutoff draws)
+
   -- "0 to 255 passes (more: refused 3)"
   abbrev pub improveChecks : ℕ → ℕ → ℕ → List ℕ → List ℕ → List Check
   improveChecks k passes words flags kids =
@@ -207,13 +220,16 @@ abbrev pub listAfter : {A B : Type 0} → Result A → (A → List B) → List B
 listAfter (refused r) written l = l
 listAfter (done x) written l = over l (written x)
 
--- the lists that each call writes: the step order; greedy's tree; improvement's; slicing's and its flags; pricing's listing, size bits
+-- the lists that each call writes: the step order; greedy's tree; bisection's; improvement's; slicing's and its flags; pricing's listing, size bits
 -- and work bits by node
 abbrev pub orderedSteps : Result (List ℕ) → List ℕ → List ℕ
 orderedSteps r l = listAfter r (λ steps. steps) l
 
 abbrev pub greedyTree : Result (List Pair) → List ℕ → List ℕ
 greedyTree r l = listAfter r flatOf l
+
+abbrev pub bisectedTree : Result Bisected → List ℕ → List ℕ
+bisectedTree r l = listAfter r (λ b. flatOf (b .pairs)) l
 
 abbrev pub improvedTree : Result Improved → List ℕ → List ℕ
 improvedTree r l = listAfter r (λ d. flatOf (d .tree)) l

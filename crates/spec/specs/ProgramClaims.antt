@@ -1,5 +1,5 @@
 -- What is claimed of the program `plan`. Definitions only; proofs in ProgramLaws of laws. Assumes nothing.
-use mathlib.Core.Bool.{true}
+use mathlib.Core.Bool.{true, false}
 use mathlib.Core.List.{List}
 use mathlib.Core.Option.{Option}
 use mathlib.Core.Path.{_≡_}
@@ -11,7 +11,7 @@ use Rattle.spec.specs.Price.{listing, work}
 use Rattle.spec.specs.RunClaims.{RunsToDirectSum}
 use Rattle.spec.specs.Refusal.{done}
 use Rattle.spec.specs.Improve.{Improved}
-use Rattle.spec.specs.Calls.{flagAt}
+use Rattle.spec.specs.Calls.{flagAt, totalIsBeyond}
 use Rattle.spec.specs.Slicing.{Plan}
 use Rattle.spec.specs.SlicingClaims.{finished}
 use Rattle.spec.specs.Program.{flagsOf, treeFor, improveFor, planOf}
@@ -41,6 +41,12 @@ abbrev pub TotalNeverRises : Type 0
 TotalNeverRises =
     (N : Network) (given : Option (List ℕ)) (ask : Ask) (kids : List ℕ) (p : Plan) → treeFor N given ≡ done kids
     → planOf N given ask ≡ done p → work (listing N (p .flag) (p .tree)) ≤ work (listing N (flagsOf ask) (pairsOf kids))
+
+-- so no plan's total is beyond
+abbrev pub NoneBeyond : Type 0
+NoneBeyond =
+    (N : Network) (given : Option (List ℕ)) (ask : Ask) (p : Plan) → planOf N given ask ≡ done p
+    → totalIsBeyond N (p .flag) (p .tree) ≡ false
 
 -- given flags stand
 abbrev pub FlagsStand : Type 0

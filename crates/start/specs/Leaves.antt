@@ -152,3 +152,7 @@ outside-end W counts legs leaves ws outputs base r k n e h b =
 -- the sizes of the first n slots
 unfoldable pub withSizes : List ℕ → ℕ → List ℕ → List ℕ → ℕ → List ℕ
 withSizes ws W wt sizes n = putAll (λ i. weighed wt [] (either ws W i i) (W * 64)) sizes n
+
+-- the words of the start: what stays, and the leaves' sets
+unfoldable pub startWords : ℕ → ℕ → List ℕ → List ℕ → List ℕ → List ℕ → List ℕ → List ℕ
+startWords W n counts legs outputs leaves ws = withLeaves W counts legs leaves (withOutside W counts legs leaves ws outputs n) (length leaves)

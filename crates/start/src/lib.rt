@@ -5,7 +5,8 @@ ghost use lib.ListN.{length};
 ghost use Rattle.slots.specs.Slots.{withSet};
 ghost use Rattle.slots.specs.Writes.{among};
 ghost use Rattle.slots.specs.Weigh.{Light};
-ghost use Rattle.start.specs.Leaves.{leafSet, withLeaves, withOther, withOutside, withSizes, putAll};
+ghost use Rattle.start.specs.Leaves.{leafSet, withLeaves, withOther, withOutside, withSizes, putAll, startWords};
+ghost use Rattle.spec.specs.Memory.{filled, copied};
 
 // Makes slot `s` the set of the indices of leaf `v`.
 fn put_leaf(ws: &mut [u64], w: usize, s: usize, counts: &[u8], legs: &[u16], v: usize)
@@ -85,4 +86,35 @@ pub fn count_up(list: &mut [u16], n: usize)
     for i in 0..n {
         cells::put16(list, i, i as u16);
     }
+}
+
+// Puts the tables of `leaves` into slots 0, 1, .., with their sets, numbers and size bits; none has its least pair yet.
+pub fn prepare(
+    ws: &mut [u64],
+    w: usize,
+    weights: &[u8],
+    n: usize,
+    counts: &[u8],
+    legs: &[u16],
+    outputs: &[u16],
+    leaves: &[u16],
+    nodes: &mut [u16],
+    sizes: &mut [u64],
+    live: &mut [u16],
+    rows: &mut [u64],
+)
+    requires { ⌜ (w ≤ 16) × (n ≤ w * 64) × (length (now leaves) ≤ 128) × (length (now outputs) ≤ 4294967296) × Light (now weights) ⌝ }
+    ensures sets { λ _. ⌜ now (ws .exit) ≡ startWords w n (now (counts .entry)) (now (legs .entry)) (now (outputs .entry)) (now (leaves .entry)) (now (ws .entry)) ⌝ }
+    ensures numbers { λ _. ⌜ now (nodes .exit) ≡ copied (now (nodes .entry)) (now (leaves .entry)) (length (now (leaves .entry))) ⌝ }
+    ensures bits { λ _. ⌜ now (sizes .exit) ≡ withSizes (now (ws .exit)) w (now (weights .entry)) (now (sizes .entry)) (length (now (leaves .entry))) ⌝ }
+    ensures slots { λ _. ⌜ now (live .exit) ≡ putAll (λ i. i) (now (live .entry)) (length (now (leaves .entry))) ⌝ }
+    ensures pairs { λ _. ⌜ now (rows .exit) ≡ filled (length (now (rows .entry))) 258 ⌝ }
+{
+    let tables = leaves.len();
+    put_outside(ws, w, n, counts, legs, outputs, leaves);
+    put_leaves(ws, w, counts, legs, leaves);
+    weigh_all(ws, w, weights, sizes, tables);
+    cells::copy16(nodes, leaves, tables);
+    count_up(live, tables);
+    cells::fill64(rows, 258);
 }

@@ -1,0 +1,2 @@
+-- Words and decimal numbers put one after another. Assumes nothing.
+pub mod Digits

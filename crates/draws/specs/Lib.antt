@@ -1,0 +1,3 @@
+pub mod Cursor
+pub mod Signs
+pub mod Rounding

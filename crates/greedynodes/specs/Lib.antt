@@ -1,0 +1,4 @@
+-- Greedy over a list of leaves: lent lists as networks, the start, from merging and rest to the answer. Assumes nothing.
+pub mod Lends
+pub mod Begin
+pub mod Ends

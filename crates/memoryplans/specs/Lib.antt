@@ -1,0 +1,2 @@
+-- Plans of a network in memory. Assumes nothing.
+pub mod Plan

@@ -1,0 +1,46 @@
+-- Assumes nothing.
+use borrow.Author.Needs.{needs}
+use Rattle.partition.specs.Layout.{step-is}
+use native.Mathlib.Omega.{arith}
+use Prim.Native.Nat.{ℕ, _+_, _-_, _*_, _<_, _≤_}
+use mathlib.Core.Path.{_≡_, refl, sym, ap, _∙_, subst}
+use lib.ListN.{length, getD, set, length-set}
+use Rattle.partition.proofs.gain_step.Statement.{statement}
+use Rattle.partition.proofs.gain_step.Tie as tie
+
+add-common : tie.Need-add-common
+add-common c = search needs
+
+common-requires : tie.Need-common-requires
+common-requires c κs = search needs
+
+add-common-2 : tie.Need-add-common-2
+add-common-2 c = search needs
+
+common-requires-2 : tie.Need-common-requires-2
+common-requires-2 c κs = search needs
+
+get8-requires : tie.Need-get8-requires
+get8-requires c κs = search needs
+
+gain-net-requires : tie.Need-gain-net-requires
+gain-net-requires c κs = search needs
+
+returns : tie.Need-returns
+returns c =
+    let d = c .before .before .before .before .before .before .args in
+    step-is (d .words .now) (d .nets) (d .here) (d .there) (d .weights .now) (d .e) (c .before .before .before .common .result)
+    (c .before .before .common2 .result) (c .before .get8 .result) (d .g) _ (c .before .before .before .common .ensures)
+    (c .before .before .common2 .ensures) (c .before .get8 .ensures) (c .gain-net .ensures)
+
+pub gain-step-spec : {M : Type 1} → statement M
+gain-step-spec =
+    tie.close
+    (tie.spec
+    add-common
+    common-requires
+    add-common-2
+    common-requires-2
+    get8-requires
+    gain-net-requires
+    returns)

@@ -1,0 +1,53 @@
+-- A hypergraph in slots of words. The pins of net e are the members of slot nets + e, of two words; the nets of vertex v are the members of
+-- slot vertices + v, of four words; the sides of a partition are the sets of slots sides and sides + 1, of two words. Assumes nothing.
+use mathlib.Core.Bool.{Bool, true, false, not, _&&_, cond}
+use mathlib.Core.Path.{_≡_, refl, sym, ap, _∙_, subst}
+use mathlib.Core.List.{List, [], _∷_, map}
+use Prim.Native.Nat.{ℕ, zero, suc, _+_, _-_, _*_, _≤_, _<_}
+use native.Mathlib.Omega.{arith}
+use native.Mathlib.Nat.{lt-of-not-le}
+use lib.Dec.{eqb, ltb}
+use lib.Ieee.{Float}
+use lib.ListN.{length, getD, List·getD-map}
+use borrow.Author.Tests.{lt-ltb, le-ltb}
+use Rattle.spec.specs.Lists.{memb, keep, from, range}
+use Rattle.spec.specs.Floats.{zeroFloat, wholeFloat}
+use Rattle.spec.specs.Hypergraph.{foldOver, Net, Hypergraph, netsAt, sideOf, otherSide, pinsOn}
+use Rattle.spec.specs.Fm.{gainNet, gainAt, gain}
+use Rattle.laws.specs.Booleans.{by-cases, and-right, or-intror, or-introl, clash}
+use Rattle.laws.specs.ListLaws.{keep-ext-from, keep-none-from, keep-passes, memb-keep, from-memb, memb-head, range-length}
+use Rattle.slots.specs.Slots.{held}
+use Rattle.slots.specs.Rising.{risingOf, memb-rising, keep-add}
+use Rattle.partition.specs.Common.{commonOf}
+use Rattle.partition.specs.Folds.{fold-map}
+
+module _ (ws : List ℕ) (nets : ℕ) (weights : List ℕ) where
+  abbrev pub netIn : ℕ → Net
+  netIn e = record { pins = risingOf ws 2 (nets + e); weight = wholeFloat (getD weights e 0) }
+
+  -- the hypergraph of m nets, with the vertices' weights
+  unfoldable pub graphIn : ℕ → List Float → Hypergraph
+  graphIn m vw = record { weights = vw; nets = map netIn (range m) }
+
+-- the side of each of n vertices
+unfoldable pub sidesIn : List ℕ → ℕ → ℕ → List ℕ
+sidesIn ws sides n = map (λ v. cond (held ws 2 (sides + 1) v) 1 0) (range n)
+
+pub record Laid (ws : List ℕ) (nets vertices sides m n : ℕ) : Type 0 where
+  pub few : (m ≤ 256) × (n ≤ 128)
+  pub crossed : (v e : ℕ) → v < n → e < 256 → held ws 4 (vertices + v) e ≡ (ltb e m && held ws 2 (nets + e) v)
+  pub within : (e v : ℕ) → e < m → v < 128 → held ws 2 (nets + e) v ≡ true → v < n
+  pub apart : (v : ℕ) → v < n → held ws 2 sides v ≡ not (held ws 2 (sides + 1) v)
+
+-- ---- gains, by members in common ----
+
+module _ (ws : List ℕ) (nets here there : ℕ) (weights : List ℕ) where
+  abbrev pub gainStep : ℕ → Float → Float
+  gainStep e g = gainNet (length (commonOf ws 2 (nets + e) here)) (length (commonOf ws 2 (nets + e) there)) (wholeFloat (getD weights e 0)) g
+
+  abbrev pub gainSum : List ℕ → Float
+  gainSum l = foldOver gainStep l zeroFloat
+
+  pub step-is : (e x y w : ℕ) (g r : Float) → x ≡ length (commonOf ws 2 (nets + e) here) → y ≡ length (commonOf ws 2 (nets + e) there)
+      → w ≡ getD weights e 0 → r ≡ gainNet x y (wholeFloat w) g → r ≡ gainStep e g
+  step-is e x y w g r p q s t = t ∙ (λ i. gainNet (p i) (q i) (wholeFloat (s i)) g)

@@ -1,0 +1,4 @@
+pub mod Common
+pub mod Folds
+pub mod Layout
+pub mod Gains

@@ -1,0 +1,102 @@
+// Hypergraphs in slots of lent words, and partitions of their vertices: gains and cuts.
+ghost use mathlib.Core.Path.{_≡_};
+ghost use Prim.Native.Nat.{_<_, _≤_};
+ghost use lib.ListN.{length, take};
+ghost use Rattle.spec.specs.Floats.{wholeFloat};
+ghost use Rattle.spec.specs.Fm.{gainNet};
+ghost use Rattle.partition.specs.Common.{commonOf};
+ghost use Rattle.partition.specs.Layout.{Laid, gainStep, gainSum};
+ghost use Rattle.partition.specs.Gains.{IsGain};
+
+// How many members slots `a` and `b` have in common.
+pub fn common(words: &[u64], w: usize, a: usize, b: usize) -> usize
+    requires { ⌜ (w ≤ 16) × (a < 1048576) × (b < 1048576) ⌝ }
+    ensures { λ r. ⌜ r ≡ length (commonOf (now (words .entry)) w a b) ⌝ }
+{
+    let p = a * w;
+    let q = b * w;
+    let mut n: usize = 0;
+    for k in 0..w {
+        let x = cells::get64(words, p + k);
+        let y = cells::get64(words, q + k);
+        n += bits::count_ones(x & y);
+    }
+    n
+}
+
+// The gain with one net of weight `w`, that has `here` pins on the vertex's side and `there` on the other.
+fn gain_net(here: usize, there: usize, w: u8, g: f64) -> f64
+    ensures { λ r. ⌜ r ≡ gainNet here there (wholeFloat w) g ⌝ }
+{
+    let x = w as f64;
+    if here == 1 {
+        if there == 0 {
+            return g + x - x;
+        }
+        return g + x;
+    }
+    if there == 0 {
+        return g - x;
+    }
+    g
+}
+
+// The gain with net `e`, whose weight is in `weights`: slots `here` and `there` are the vertex's side and the other.
+fn gain_step(
+    words: &[u64],
+    nets: usize,
+    here: usize,
+    there: usize,
+    weights: &[u8],
+    e: usize,
+    g: f64,
+) -> f64
+    requires { ⌜ (nets < 65536) × (here < 65536) × (there < 65536) × (e < 65536) ⌝ }
+    ensures { λ r. ⌜ r ≡ gainStep (now (words .entry)) nets here there (now (weights .entry)) e g ⌝ }
+{
+    let x = common(words, 2, nets + e, here);
+    let y = common(words, 2, nets + e, there);
+    gain_net(x, y, cells::get8(weights, e), g)
+}
+
+// The gain with the first `count` nets of a list.
+fn gain_sum(
+    words: &[u64],
+    nets: usize,
+    here: usize,
+    there: usize,
+    weights: &[u8],
+    list: &[u16],
+    count: usize,
+) -> f64
+    requires { do ⌜ (nets < 65536) × (here < 65536) × (there < 65536) × (count ≤ (← ⟦list.len()⟧)) ⌝ }
+    ensures { λ r. ⌜ r ≡ gainSum (now (words .entry)) nets here there (now (weights .entry)) (take count (now (list .entry))) ⌝ }
+{
+    let mut g = 0.0;
+    for k in 0..count {
+        g = gain_step(words, nets, here, there, weights, cells::at16(list, k), g);
+    }
+    g
+}
+
+// The gain of the move of vertex `v`, in a hypergraph of `m` nets and `n` vertices. The list is for the nets of `v`.
+pub fn gain(
+    words: &[u64],
+    nets: usize,
+    vertices: usize,
+    sides: usize,
+    m: usize,
+    n: usize,
+    weights: &[u8],
+    v: usize,
+    list: &mut [u16],
+) -> f64
+    requires { do ⌜ (nets < 32768) × (vertices < 32768) × (sides < 32768) × (v < n) × (256 ≤ (← ⟦list.len()⟧)) × Laid (now words) nets vertices sides m n ⌝ }
+    ensures { λ r. ⌜ IsGain (now (words .entry)) nets sides m n (now (weights .entry)) v r ⌝ }
+{
+    let count = slots::members(words, 4, vertices + v, list, 0);
+    if slots::has(words, 2, sides + 1, v) {
+        return gain_sum(words, nets, sides + 1, sides, weights, list, count);
+    }
+    gain_sum(words, nets, sides, sides + 1, weights, list, count)
+}

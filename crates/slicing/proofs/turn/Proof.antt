@@ -1,0 +1,93 @@
+-- Assumes nothing.
+use borrow.Author.Needs.{needs}
+use Rattle.slicing.specs.Priced.{priced-tree, widest-is, rankable}
+use Rattle.slicing.specs.Turns.{turned-within, turned}
+use Rattle.spec.specs.Layout.{networkOf}
+use Rattle.spec.specs.Slicing.{withinTarget}
+use native.Mathlib.Omega.{arith}
+use Prim.Native.Nat.{ℕ, _+_, _-_, _*_, _<_, _≤_}
+use mathlib.Core.Path.{_≡_, refl, sym, ap, _∙_, subst}
+use lib.ListN.{length, getD, set, length-set}
+use Rattle.slicing.proofs.turn.Statement.{statement}
+use Rattle.slicing.proofs.turn.Tie as tie
+
+price-requires : tie.Need-price-requires
+price-requires c κs = search needs
+
+within-requires : tie.Need-within-requires
+within-requires c κs = search needs
+
+same-length : tie.Need-same-length
+same-length c = search needs
+
+same-length-2 : tie.Need-same-length-2
+same-length-2 c = search needs
+
+same-length-3 : tie.Need-same-length-3
+same-length-3 c = search needs
+
+same-length-4 : tie.Need-same-length-4
+same-length-4 c = search needs
+
+same-length-5 : tie.Need-same-length-5
+same-length-5 c = search needs
+
+same-length-6 : tie.Need-same-length-6
+same-length-6 c = search needs
+
+returns : tie.Need-returns
+returns c = let d = c .before .before .before .before .before .before .before .before .before .before .before .before .before .before .before .before .before .before .before .before .before .before .before .before .before .before .before .before .before .before .before in let a = d .args in turned-within (networkOf (a .m) (a .n) (a .o) (a .weights .now) (a .counts .now) (a .legs .now) (a .outputs .now)) (a .target) (a .kids .now) (a .flags .now) (ap (withinTarget (a .target)) (sym (widest-is (d .pre .0) (d .pre .1) (a .flags .now) _ _ _ _ (c .before .before .before .before .before .before .before .before .before .before .before .before .price .result) (c .before .before .before .before .before .before .before .before .before .before .before .before .price .ensures))) ∙ sym (c .before .within .ensures) ∙ c .if1 .taken)
+
+exact-requires : tie.Need-exact-requires
+exact-requires c κs = search needs
+
+choose-requires : tie.Need-choose-requires
+choose-requires c κs = let d = c .before .before .before .before .before .before .before .before .before .before .before .before .before .before .before .before .before .before .before .before .before .before .before .before .before .before .before .before .before .before .before .before .before .before .before .before in let a = d .args in rankable (d .pre .0) (d .pre .1) (a .flags .now) _ _ _ _ (c .before .before .before .before .before .before .before .before .before .before .before .before .before .before .before .before .before .price .result) (c .before .before .before .before .before .before .before .before .before .before .before .before .before .before .before .before .before .price .ensures) (d .pre .2 .total) (c .before .before .before .before .exact .result) (c .before .before .before .before .exact .ensures)
+
+flag-requires : tie.Need-flag-requires
+flag-requires c κs = search needs
+
+same-length-7 : tie.Need-same-length-7
+same-length-7 c = search needs
+
+same-length-8 : tie.Need-same-length-8
+same-length-8 c = search needs
+
+same-length-9 : tie.Need-same-length-9
+same-length-9 c = search needs
+
+same-length-10 : tie.Need-same-length-10
+same-length-10 c = search needs
+
+same-length-11 : tie.Need-same-length-11
+same-length-11 c = search needs
+
+same-length-12 : tie.Need-same-length-12
+same-length-12 c = search needs
+
+returns-2 : tie.Need-returns-2
+returns-2 c = let d = c .before .before .before .before .before .before .before .before .before .before .before .before .before .before .before .before .before .before .before .before .before .before .before .before .before .before .before .before .before .before .before .before .before .before .before .before .before .before .before .before .before in let a = d .args in turned (networkOf (a .m) (a .n) (a .o) (a .weights .now) (a .counts .now) (a .legs .now) (a .outputs .now)) (a .target) (a .kids .now) (a .flags .now) (c .before .before .before .before .choose .result) (c .before .before .flag .result) _ (ap (withinTarget (a .target)) (sym (widest-is (d .pre .0) (d .pre .1) (a .flags .now) _ _ _ _ (c .before .before .before .before .before .before .before .before .before .before .before .before .before .before .before .before .before .before .before .before .before .before .price .result) (c .before .before .before .before .before .before .before .before .before .before .before .before .before .before .before .before .before .before .before .before .before .before .price .ensures))) ∙ sym (c .before .before .before .before .before .before .before .before .before .before .before .within .ensures) ∙ c .before .before .before .before .before .before .before .before .before .before .if1 .left) (λ x y. c .before .before .before .before .choose .ensures (a .counts .now) (a .legs .now) x y (priced-tree (d .pre .0) (d .pre .1) (a .flags .now) _ _ _ _ (c .before .before .before .before .before .before .before .before .before .before .before .before .before .before .before .before .before .before .before .before .before .before .price .result) (c .before .before .before .before .before .before .before .before .before .before .before .before .before .before .before .before .before .before .before .before .before .before .price .ensures))) (c .before .before .flag .ensures .0) (c .before .before .flag .ensures .1)
+
+pub turn-spec : {M : Type 1} → statement M
+turn-spec =
+    tie.close
+    (tie.spec
+    price-requires
+    within-requires
+    same-length
+    same-length-2
+    same-length-3
+    same-length-4
+    same-length-5
+    same-length-6
+    returns
+    exact-requires
+    choose-requires
+    flag-requires
+    same-length-7
+    same-length-8
+    same-length-9
+    same-length-10
+    same-length-11
+    same-length-12
+    returns-2)

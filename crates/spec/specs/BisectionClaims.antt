@@ -1,0 +1,32 @@
+-- What is claimed of bisection. Definitions only; proofs in BisectionLaws of laws. Assumes nothing.
+use mathlib.Core.Bool.{true, false}
+use mathlib.Core.List.{List}
+use mathlib.Core.Path.{_≡_}
+use Prim.Native.Nat.{ℕ, _+_, _<_, _≤_}
+use lib.Dec.{eqb}
+use lib.Ieee.{Float}
+use lib.ListN.{length}
+use Rattle.spec.specs.Lists.{count}
+use Rattle.spec.specs.Network.{Network, leafCount}
+use Rattle.spec.specs.Tree.{Pair, valid}
+use Rattle.spec.specs.Refusal.{done}
+use Rattle.spec.specs.Draws.{Words}
+use Rattle.spec.specs.Bisection.{leftHalf, rightHalf, bisectRec, Bisected, bisection}
+
+-- LAW B1. Whatever the network contains, and whatever the words: if bisection answers, its array is valid.
+abbrev pub BisectionValid : Type 0
+BisectionValid = (N : Network) (i cutoff : ℕ) (words : List ℕ) (b : Bisected) → bisection N i cutoff words ≡ done b → valid (leafCount N) (b .pairs) ≡ true
+
+-- LAW B2. "halves shrink": two halves that are not empty are both shorter than the whole, and have each of its leaves between them.
+pub record Shrink (part leaves : List ℕ) : Type 0 where
+  pub left : length (leftHalf part leaves) < length leaves
+  pub right : length (rightHalf part leaves) < length leaves
+  pub members : (j : ℕ) → count j (leftHalf part leaves) + count j (rightHalf part leaves) ≡ count j leaves
+
+abbrev pub HalvesShrink : Type 0
+HalvesShrink = (part leaves : List ℕ) → eqb (length (leftHalf part leaves)) 0 ≡ false → eqb (length (rightHalf part leaves)) 0 ≡ false → Shrink part leaves
+
+-- So the number of leaves is fuel enough: more changes nothing.
+abbrev pub FuelEnough : Type 0
+FuelEnough = (N : Network) (eps : Float) (cutoff fuel : ℕ) (leaves : List ℕ) (a : List Pair) (ws : Words) → length leaves ≤ fuel
+    → bisectRec N eps cutoff fuel leaves a ws ≡ bisectRec N eps cutoff (length leaves) leaves a ws

@@ -1,0 +1,3 @@
+-- The lines of steps. Assumes nothing.
+pub mod Steps
+pub mod Lines

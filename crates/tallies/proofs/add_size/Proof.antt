@@ -1,0 +1,28 @@
+-- Assumes nothing.
+use borrow.Author.Needs.{needs}
+use Rattle.slots.specs.Weigh.{either}
+use Rattle.spec.specs.Lists.{keep, range}
+use Rattle.tallies.specs.Sums.{Added}
+use Rattle.tallies.specs.Nodes.{sizeAbove, added-nothing}
+use borrow.Author.Tests.{lt-ltb, le-ltb}
+use native.Mathlib.Omega.{arith}
+use Prim.Native.Nat.{ℕ, _+_, _-_, _*_, _<_, _≤_}
+use mathlib.Core.Path.{_≡_, refl, sym, ap, _∙_, subst}
+use lib.ListN.{length, getD, set, length-set}
+use Rattle.tallies.proofs.add_size.Statement.{statement}
+use Rattle.tallies.proofs.add_size.Tie as tie
+
+returns : tie.Need-returns
+returns c = let a = c .before .before .before .args in added-nothing (sizeAbove (a .target) (a .size)) _ _ (rw (le-ltb (a .target) (a .size) (c .if1 .taken)))
+
+add-slots-requires : tie.Need-add-slots-requires
+add-slots-requires c κs = search needs
+
+same-length : tie.Need-same-length
+same-length c = search needs
+
+returns-2 : tie.Need-returns-2
+returns-2 c = let a = c .before .before .before .before .before .before .before .args in rw (lt-ltb (a .target) (a .size) (c .before .before .before .before .if1 .left)) (c .before .before .add-slots .ensures)
+
+pub add-size-spec : {M : Type 1} → statement M
+add-size-spec = tie.close (tie.spec returns add-slots-requires same-length returns-2)

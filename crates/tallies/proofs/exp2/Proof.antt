@@ -1,0 +1,19 @@
+-- Assumes nothing.
+use borrow.Author.Needs.{needs}
+use lib.Pow.{pow-mono}
+use Rattle.bits.specs.Bit.{one-shl}
+use native.Mathlib.Omega.{arith}
+use Prim.Native.Nat.{ℕ, _+_, _-_, _*_, _^_, _<_, _≤_}
+use mathlib.Core.Path.{_≡_, refl, sym, ap, _∙_, subst}
+use lib.ListN.{length, getD, set, length-set}
+use Rattle.tallies.proofs.exp2.Statement.{statement}
+use Rattle.tallies.proofs.exp2.Tie as tie
+
+shl-result : tie.Need-shl-result
+shl-result c = search needs
+
+returns : tie.Need-returns
+returns c = let b = c .args .b in let m : 2 ^ b ≤ 2 ^ 52 = pow-mono (let q : b ≤ 52 = omega arith in q) in (one-shl b (omega arith), rw (one-shl b (omega arith)) (omega arith))
+
+pub exp2-spec : {M : Type 1} → statement M
+exp2-spec = tie.close (tie.spec shl-result returns)
