@@ -16,6 +16,7 @@ mod memory;
 mod networks;
 mod numbers;
 mod port;
+mod reconfigure;
 mod record;
 mod rust;
 mod small;
@@ -31,7 +32,10 @@ const REPLAY: &str = concat!(env!("CARGO_MANIFEST_DIR"), "/../crates/replay");
 /// The crate whose input and output `greedy-record` writes.
 const GREEDY_RUNS: &str = concat!(env!("CARGO_MANIFEST_DIR"), "/../crates/greedyruns");
 
-const USAGE: &str = "usage: harness compare|greedy [NETWORKS [SEED]] | bisect [NETWORKS [SEED [LEAVES]]] | bench | greedy-bench | record | greedy-record";
+/// The crate whose input and output `reconfigure-record` writes.
+const RECONF_RUNS: &str = concat!(env!("CARGO_MANIFEST_DIR"), "/../crates/reconfruns");
+
+const USAGE: &str = "usage: harness compare|greedy|reconfigure [NETWORKS [SEED]] | bisect [NETWORKS [SEED [LEAVES]]] | bench | greedy-bench | reconfigure-bench | record | greedy-record | reconfigure-record";
 
 fn compare(count: usize, seed: u64) -> ExitCode {
     if !port::AT_HAND {
@@ -69,6 +73,18 @@ fn main() -> ExitCode {
             Ok(()) => ExitCode::SUCCESS,
             Err(error) => {
                 println!("crates/greedyruns: {error}");
+                ExitCode::FAILURE
+            }
+        },
+        (Some("reconfigure"), Some(count), Some(seed)) => reconfigure::run(count as usize, seed),
+        (Some("reconfigure-bench"), ..) => {
+            reconfigure::bench::run();
+            ExitCode::SUCCESS
+        }
+        (Some("reconfigure-record"), ..) => match reconfigure::record::run(Path::new(RECONF_RUNS)) {
+            Ok(()) => ExitCode::SUCCESS,
+            Err(error) => {
+                println!("crates/reconfruns: {error}");
                 ExitCode::FAILURE
             }
         },
