@@ -1,4 +1,4 @@
-/* Loqshyber for a C host: the prices of a contraction plan, and the greedy plan.
+/* Loqshyber for a C host: the prices of a contraction plan, the greedy plan, and a plan improved.
  *
  * Each function returns 0, or the number of the refusal. Each list is a pointer and a length in its own units. The pointer is not null, and is aligned
  * as C has it for the list's type; for an empty list any such pointer will do. No list that is written overlaps another. A list that is
@@ -19,6 +19,8 @@
 #define LOQSHYBER_SHORT_BUFFER 7   /* a list to be written, or the workspace, is shorter than stated */
 #define LOQSHYBER_INVALID_TREE 8   /* a tree that is not valid for this number of leaves, or of odd length */
 #define LOQSHYBER_INVALID_FLAGS 9  /* more flags than indices, or a flag over 1 */
+#define LOQSHYBER_TOTAL_BEYOND 10  /* improvement: the total is 2^53 or more */
+#define LOQSHYBER_DANGLING 11      /* improvement: an index that just one leaf names, and that is no output */
 #define LOQSHYBER_TABLE_TOO_WIDE 12 /* greedy: a scored pair has a table, or makes one, of over 40 bits */
 
 /* loqshyber_price reads a network file with its tree, and flags if it has them, and writes the plan's listing to `out`.
@@ -76,5 +78,26 @@ uint32_t loqshyber_tree_cost(const uint8_t *weights, size_t weights_length, cons
 uint32_t loqshyber_greedy(const uint8_t *weights, size_t weights_length, const uint8_t *leg_counts, size_t leg_counts_length,
     const uint16_t *legs, size_t legs_length, const uint16_t *outputs, size_t outputs_length, uint16_t *tree, size_t tree_length,
     uint64_t *ws, size_t ws_length);
+
+/* loqshyber_reconfigure improves a tree of a network in memory, which is read as above with its flags: `passes` passes over its nodes, of which the last is the
+ * first that rebuilds nothing. The part of the tree below a node, down to at most `k` tables (3 to 12: less counts as 3, more as 12), is rebuilt where
+ * a cheaper tree over these tables is found. The total never rises.
+ *
+ *   passes       0 to 255
+ *   limit        the most size bits of a table that a rebuild makes; LOQSHYBER_NO_LIMIT or more: no limit. A table that stands at the top of a part is made
+ *                whatever its size.
+ * What is written:
+ *   tree         improved where it stands; after a refusal `tree` is as it was
+ *   ws           LOQSHYBER_IMPROVE_WORDS(k) words, 0 afterwards; after refusals 3 to 7 as they were. The macro takes a k of 3 to 12
+ *   answer       LOQSHYBER_COUNTS numbers: rebuilds, and splits tried; after a refusal as it was
+ * It refuses 3 to 9 for what it is lent, 10 where the tree's total with these flags is beyond, and 11 for an index that is no output and stands in just one leaf. */
+#define LOQSHYBER_NO_LIMIT 65536
+#define LOQSHYBER_IMPROVE_WORDS(k) (4096 + ((size_t)8 << (k)))
+#define LOQSHYBER_COUNTS 2
+
+uint32_t loqshyber_reconfigure(const uint8_t *weights, size_t weights_length, const uint8_t *leg_counts, size_t leg_counts_length,
+    const uint16_t *legs, size_t legs_length, const uint16_t *outputs, size_t outputs_length, const uint8_t *flags, size_t flags_length,
+    uint16_t *tree, size_t tree_length, uint64_t *ws, size_t ws_length, uint64_t *answer, size_t answer_length,
+    size_t k, size_t passes, uint32_t limit);
 
 #endif

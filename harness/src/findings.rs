@@ -6,6 +6,8 @@ use crate::listing::{Listing, Total, MOST};
 use crate::memory::{Given, Lent};
 use crate::networks::practice_pedigree;
 use crate::port;
+use crate::reconfigure::call::{self, Call};
+use crate::reconfigure::model::{Ask, Improved};
 use crate::rust::{self, Validity};
 use rand::draws;
 use std::io::{self, Write};
@@ -110,13 +112,30 @@ fn slicing_takes_another_index_within_its_tolerance() {
     assert_eq!(sliced, [false, true, false, false, false, false, false]);
 }
 
+/// The port's improvement with no flags, k = 8, one pass and no limit, if the port is linked.
+fn improved(network: &Network, tree: &Tree) -> Option<Result<Improved, u32>> {
+    let ask = Ask { k: 8, passes: 1, limit: None };
+    port::AT_HAND.then(|| call::answer(&Call { given: crate::greedy::call::Given::new(network), flags: Vec::new(), ask }, tree).unwrap())
+}
+
 #[test]
 fn improvement_raises_the_total_of_a_dangling_index() {
-    let network = hypergraph(&network(&[1, 1, 0], &[&[0], &[2], &[1]]));
+    let network = network(&[1, 1, 0], &[&[0], &[2], &[1]]);
+    assert!(improved(&network, &vec![[1, 2], [3, 0]]).is_none_or(|port| port == Err(11)));
+    let network = hypergraph(&network);
     let mut tree = ContractionTree { n_leaves: 3, children: vec![[1, 2], [3, 0]] };
     assert_eq!(total(&network, &tree), 4.0);
     assert_eq!(path::reconfigure(&network, &mut tree, &[], 8, None, 1), 1);
     assert_eq!(total(&network, &tree), 5.0);
+}
+
+#[test]
+fn improvement_of_a_total_beyond() {
+    let all: Vec<u16> = (0..7).collect();
+    let network = Network { weights: vec![8, 8, 8, 8, 8, 8, 5], leaves: vec![all.clone(), vec![]], outputs: all };
+    assert!(improved(&network, &vec![[0, 1]]).is_none_or(|port| port == Err(10)));
+    let mut tree = ContractionTree { n_leaves: 2, children: vec![[0, 1]] };
+    assert_eq!(path::reconfigure(&hypergraph(&network), &mut tree, &[], 8, None, 1), 0);
 }
 
 #[test]

@@ -16,6 +16,7 @@ mod memory;
 mod networks;
 mod numbers;
 mod port;
+mod reconfigure;
 mod record;
 mod rust;
 mod small;
@@ -35,7 +36,10 @@ const TREE_RUNS: &str = concat!(env!("CARGO_MANIFEST_DIR"), "/../crates/treeruns
 /// The crate whose input and output `greedy-record` writes.
 const GREEDY_RUNS: &str = concat!(env!("CARGO_MANIFEST_DIR"), "/../crates/greedyruns");
 
-const USAGE: &str = "usage: harness compare|greedy [NETWORKS [SEED]] | bisect [NETWORKS [SEED [LEAVES]]] | bench | greedy-bench | record | tree-record | greedy-record";
+/// The crate whose input and output `reconfigure-record` writes.
+const RECONF_RUNS: &str = concat!(env!("CARGO_MANIFEST_DIR"), "/../crates/reconfruns");
+
+const USAGE: &str = "usage: harness compare|greedy|reconfigure [NETWORKS [SEED]] | bisect [NETWORKS [SEED [LEAVES]]] | bench | greedy-bench | reconfigure-bench | record | tree-record | greedy-record | reconfigure-record";
 
 fn compare(count: usize, seed: u64) -> ExitCode {
     if !port::AT_HAND {
@@ -82,6 +86,12 @@ fn main() -> ExitCode {
         }
         (Some("greedy-record"), ..) => recorded("greedyruns", greedy::record::run(Path::new(GREEDY_RUNS))),
         (Some("tree-record"), ..) => recorded("treeruns", tree_record::run(Path::new(TREE_RUNS))),
+        (Some("reconfigure"), Some(count), Some(seed)) => reconfigure::run(count as usize, seed),
+        (Some("reconfigure-bench"), ..) => {
+            reconfigure::bench::run();
+            ExitCode::SUCCESS
+        }
+        (Some("reconfigure-record"), ..) => recorded("reconfruns", reconfigure::record::run(Path::new(RECONF_RUNS))),
         (Some("bisect"), Some(count), Some(seed)) => match bisect::run(count as usize, seed, number(3, 128).unwrap_or(128) as usize) {
             Ok(()) => ExitCode::SUCCESS,
             Err(error) => {

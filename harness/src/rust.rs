@@ -48,7 +48,7 @@ pub struct Answer {
 }
 
 #[cfg(path_rs)]
-pub use compiled::{bisection, greedy, greedy_call, quiet_caught_panics, tree_cost_call, valid_cost_call};
+pub use compiled::{bisection, greedy, greedy_call, quiet_caught_panics, reconfigure, reconfigure_call, tree_cost_call, valid_cost_call};
 
 /// Runs path.rs, if it is at hand. A case without a tree is one with no internal node.
 #[cfg(path_rs)]
@@ -59,7 +59,7 @@ pub fn answer(case: &Case) -> Option<Answer> {
 }
 
 #[cfg(not(path_rs))]
-pub use missing::{answer, bisection, greedy, greedy_call, quiet_caught_panics, tree_cost_call, valid_cost_call};
+pub use missing::{answer, bisection, greedy, greedy_call, quiet_caught_panics, reconfigure, reconfigure_call, tree_cost_call, valid_cost_call};
 
 #[cfg(not(path_rs))]
 mod missing {
@@ -78,6 +78,14 @@ mod missing {
     }
 
     pub fn bisection(_network: &Network, _imbalance: u32, _cutoff: usize, _words: Vec<u64>) -> Option<Run> {
+        None
+    }
+
+    pub fn reconfigure(_case: &Case, _k: usize, _limit: Option<f64>, _passes: usize) -> Option<(Tree, u64)> {
+        None
+    }
+
+    pub fn reconfigure_call<'a>(_case: &Case, _k: usize, _limit: Option<f64>, _passes: usize) -> Call<'a> {
         None
     }
 
@@ -201,6 +209,21 @@ mod compiled {
         let tree = path::bisection(&hypergraph(network), &params, 0);
         let taken = draws::taken();
         Some(Run { children: tree.children, taken: taken.words.len(), missed: taken.missed })
+    }
+
+    /// The tree that `reconfigure` leaves of a valid one, and its count of rebuilds.
+    pub fn reconfigure(case: &Case, k: usize, limit: Option<f64>, passes: usize) -> Option<(Tree, u64)> {
+        let mut input = Input::new(case);
+        let rebuilt = path::reconfigure(&input.network, &mut input.tree, &input.sliced, k, limit, passes);
+        Some((input.tree.children.iter().map(|pair| pair.map(|v| v as u16)).collect(), rebuilt as u64))
+    }
+
+    pub fn reconfigure_call<'a>(case: &Case, k: usize, limit: Option<f64>, passes: usize) -> Call<'a> {
+        let input = Input::new(case);
+        Some(Box::new(move || {
+            let mut tree = input.tree.clone();
+            black_box(path::reconfigure(&input.network, &mut tree, &input.sliced, k, limit, passes));
+        }))
     }
 
     pub fn tree_cost_call<'a>(case: &Case) -> Call<'a> {

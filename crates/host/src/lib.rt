@@ -1,13 +1,14 @@
-// The functions that a C host calls: a file's bytes priced, a network in memory priced, its greedy plan.
+// The functions that a C host calls: a file's bytes priced, a network in memory priced, its greedy plan, a tree of it improved.
 ghost use mathlib.Core.Path.{_≡_};
 ghost use Prim.Native.Nat.{_≤_};
 ghost use lib.ListN.{length, take};
-ghost use Rattle.spec.specs.Host.{listingCall, hostCall, Answered, lentNetwork};
+ghost use Rattle.spec.specs.Host.{listingCall, hostCall, Answered, lentNetwork, limitNumber};
 ghost use Rattle.network.specs.Record.{netOf};
 ghost use Rattle.host.specs.Reading.{placesOf, countOf};
 ghost use Rattle.host.specs.Sound.{HandsOut};
 ghost use Rattle.memory.specs.Promise.{MemoryCost};
 ghost use Rattle.memoryplans.specs.Plan.{MemoryGreedy};
+ghost use Rattle.memoryreconf.specs.Promise.{MemoryReconfigures};
 use netfile::Answer;
 use netfile::Ask;
 use netfile::Found;
@@ -122,4 +123,26 @@ pub extern "C" fn loqshyber_greedy(
         (now (tree .entry)) (now (ws .entry)) (now (tree .exit)) (now (ws .exit)) r ⌝ }
 {
     memoryplans::greedy(weights, leg_counts, legs, outputs, tree, ws) as u32
+}
+
+#[no_mangle]
+pub extern "C" fn loqshyber_reconfigure(
+    weights: &[u8],
+    leg_counts: &[u8],
+    legs: &[u16],
+    outputs: &[u16],
+    flags: &[u8],
+    tree: &mut [u16],
+    ws: &mut [u64],
+    answer: &mut [u64],
+    k: usize,
+    passes: usize,
+    limit: u32,
+) -> u32
+    ensures { λ r. ⌜ MemoryReconfigures (lentNetwork (now (weights .entry)) (now («leg_counts» .entry)) (now (legs .entry)) (now (outputs .entry))) k passes (limitNumber limit)
+        (now (flags .entry)) (now (tree .entry)) (now (ws .entry)) (now (answer .entry)) (now (tree .exit)) (now (ws .exit)) (now (answer .exit)) r ⌝ }
+{
+    memoryreconf::reconfigure(
+        weights, leg_counts, legs, outputs, flags, tree, ws, answer, k, passes, limit,
+    ) as u32
 }

@@ -17,11 +17,11 @@ use Rattle.spec.specs.Host.{memoryCall}
 use Rattle.laws.specs.Booleans.{by-cases}
 use Rattle.network.specs.Codes.{large}
 
-checked-append : {A : Type 0} (a b : List Check) (r : Result A) → checked (a ++ b) r ≡ checked a (checked b r)
+pub checked-append : {A : Type 0} (a b : List Check) (r : Result A) → checked (a ++ b) r ≡ checked a (checked b r)
 checked-append [] b r = refl
 checked-append (c ∷ a) b r = by-cases (c .holds) (λ h. rw h) (λ h. rw h (checked-append a b r))
 
-decide-twice : {A : Type 0} (o : Option Refusal) (r : Result A) → decide o (decide o r) ≡ decide o r
+pub decide-twice : {A : Type 0} (o : Option Refusal) (r : Result A) → decide o (decide o r) ≡ decide o r
 decide-twice none r = refl
 decide-twice (some k) r = refl
 

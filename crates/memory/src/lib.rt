@@ -100,7 +100,7 @@ fn put_answer(answer: &mut [u64], prices: Prices)
 }
 
 // The number of the network's refusal; 7 where there is none.
-fn number_or_short(network: Network) -> u8
+pub fn number_or_short(network: Network) -> u8
     ensures { λ r. ⌜ r ≡ orShort (refusalOf (netOf network)) ⌝ }
 {
     let number = network::number(network);

@@ -1,17 +1,19 @@
--- Pricing for a C host: from a file's bytes to the listing's bytes, and from a network in memory to prices, or a refusal.
+-- Pricing and improvement for a C host: from a file's bytes to the listing's bytes, and from a network in memory to prices or to counts, or a refusal.
 -- Definitions only. Assumes nothing.
-use mathlib.Core.Bool.{Bool, false}
+use mathlib.Core.Bool.{Bool, false, cond}
 use mathlib.Core.List.{List, [], _∷_, _++_}
 use mathlib.Core.Option.{Option, none, some}
 use mathlib.Core.Path.{_≡_}
 use Prim.Native.Nat.{ℕ, zero, suc, _+_, _*_, _/_, _%_}
+use lib.Dec.{ltb}
 use lib.ListN.{length}
 use Rattle.spec.specs.Network.{Network, networkChecks}
 use Rattle.spec.specs.Layout.{networkOf}
 use Rattle.spec.specs.Tree.{Pair, pairsOf}
 use Rattle.spec.specs.Price.{listing, flatSteps, Total, exact, beyond, Prices, priceOf}
 use Rattle.spec.specs.Refusal.{codeOf, Result, done, andThen, checked}
-use Rattle.spec.specs.Calls.{lent, lengthCheck, plainWords, stepPlaces, PriceRoom, priceCall, flagAt, listAfter}
+use Rattle.spec.specs.Calls.{lent, lengthCheck, plainWords, stepPlaces, PriceRoom, priceCall, improveCall, flagAt, listAfter}
+use Rattle.spec.specs.Improve.{Improved}
 use Rattle.spec.specs.File.{flagBytes, treeBytes, readOf}
 use Rattle.spec.specs.FileClaims.{refusalIn}
 
@@ -100,3 +102,22 @@ memoryCall places N words room flags kids =
 -- the list of the answer afterwards
 abbrev pub answerAfter : Result Prices → List ℕ → List ℕ
 answerAfter r l = listAfter r priceNumbers l
+
+-- ---- improvement of a network in memory ----
+
+-- a limit of whole bits as a number: none from 65,536 on
+abbrev pub limitNumber : ℕ → Option ℕ
+limitNumber x = cond (ltb x 65536) (some x) none
+
+-- what improvement answers, as two numbers: rebuilds, splits tried
+abbrev pub improveNumbers : Improved → List ℕ
+improveNumbers d = d .rebuilt ∷ d .tried ∷ []
+
+-- by number: 3 for the passes and the network's conditions, then 7 for the list of the answer, then improvement's own
+unfoldable pub memoryImproveCall : ℕ → Network → ℕ → ℕ → Option ℕ → ℕ → List ℕ → List ℕ → Result Improved
+memoryImproveCall places N k passes limit words flags kids =
+    checked (networkChecks (ltb 255 passes) N ++ (lengthCheck (lent places 2 ∷ []) ∷ [])) (improveCall N k passes limit words flags kids)
+
+-- the list of the answer afterwards
+abbrev pub improveAfter : Result Improved → List ℕ → List ℕ
+improveAfter r l = listAfter r improveNumbers l

@@ -13,20 +13,20 @@ const SEED: u64 = 1;
 const CALLS: usize = 2001;
 
 /// The practice pedigree of so many tables.
-fn pedigree(leaf_count: usize) -> Network {
+pub fn pedigree(leaf_count: usize) -> Network {
     let mut network = practice_pedigree(leaf_count.div_ceil(2), SEED);
     network.leaves.truncate(leaf_count);
     network
 }
 
 /// Microseconds of one call.
-fn time(call: impl FnOnce()) -> f64 {
+pub fn time(call: impl FnOnce()) -> f64 {
     let start = Instant::now();
     call();
     start.elapsed().as_secs_f64() * 1e6
 }
 
-fn least_and_median(mut times: Vec<f64>) -> Option<(f64, f64)> {
+pub fn least_and_median(mut times: Vec<f64>) -> Option<(f64, f64)> {
     times.sort_by(f64::total_cmp);
     Some((*times.first()?, times[times.len() / 2]))
 }

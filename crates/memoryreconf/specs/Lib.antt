@@ -1,0 +1,2 @@
+-- Improvement of a network in memory. Assumes nothing.
+pub mod Promise
