@@ -88,13 +88,15 @@ fn main() -> ExitCode {
                 ExitCode::FAILURE
             }
         },
-        (Some("bisect"), Some(count), Some(seed)) => match bisect::run(count as usize, seed, number(3, 128).unwrap_or(128) as usize) {
-            Ok(()) => ExitCode::SUCCESS,
-            Err(error) => {
-                eprintln!("{error}");
-                ExitCode::FAILURE
+        (Some("bisect"), Some(count), Some(seed)) => {
+            match bisect::run(count as usize, seed, number(3, 128).unwrap_or(128) as usize) {
+                Ok(()) => ExitCode::SUCCESS,
+                Err(error) => {
+                    eprintln!("{error}");
+                    ExitCode::FAILURE
+                }
             }
-        },
+        }
         (Some("bench"), ..) => {
             bench::run();
             ExitCode::SUCCESS
