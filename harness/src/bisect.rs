@@ -81,7 +81,8 @@ pub fn run(count: usize, seed: u64, largest: usize) -> Result<(), &'static str> 
     let mut numbers = Numbers::new(seed);
     for k in 0..count {
         let case = setting(&mut numbers, k, largest);
-        let from = |lent: u64| rust::bisection(&case.network, case.imbalance, case.cutoff, words(case.step, lent)).ok_or(rust::MISSING);
+        let from =
+            |lent: u64| rust::bisection(&case.network, case.imbalance, case.cutoff, words(case.step, lent)).ok_or(rust::MISSING);
         let first = from(MOST.min(50_000 * case.network.leaves.len() as u64))?;
         if first.missed > 0 {
             return Err("more words than were lent");

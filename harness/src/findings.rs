@@ -115,7 +115,8 @@ fn slicing_takes_another_index_within_its_tolerance() {
 /// The port's improvement with no flags, k = 8, one pass and no limit, if the port is linked.
 fn improved(network: &Network, tree: &Tree) -> Option<Result<Improved, u32>> {
     let ask = Ask { k: 8, passes: 1, limit: None };
-    port::AT_HAND.then(|| call::answer(&Call { given: crate::greedy::call::Given::new(network), flags: Vec::new(), ask }, tree).unwrap())
+    port::AT_HAND
+        .then(|| call::answer(&Call { given: crate::greedy::call::Given::new(network), flags: Vec::new(), ask }, tree).unwrap())
 }
 
 #[test]

@@ -92,13 +92,15 @@ fn main() -> ExitCode {
             ExitCode::SUCCESS
         }
         (Some("reconfigure-record"), ..) => recorded("reconfruns", reconfigure::record::run(Path::new(RECONF_RUNS))),
-        (Some("bisect"), Some(count), Some(seed)) => match bisect::run(count as usize, seed, number(3, 128).unwrap_or(128) as usize) {
-            Ok(()) => ExitCode::SUCCESS,
-            Err(error) => {
-                eprintln!("{error}");
-                ExitCode::FAILURE
+        (Some("bisect"), Some(count), Some(seed)) => {
+            match bisect::run(count as usize, seed, number(3, 128).unwrap_or(128) as usize) {
+                Ok(()) => ExitCode::SUCCESS,
+                Err(error) => {
+                    eprintln!("{error}");
+                    ExitCode::FAILURE
+                }
             }
-        },
+        }
         (Some("bench"), ..) => {
             bench::run();
             ExitCode::SUCCESS

@@ -48,7 +48,9 @@ pub struct Answer {
 }
 
 #[cfg(path_rs)]
-pub use compiled::{bisection, greedy, greedy_call, quiet_caught_panics, reconfigure, reconfigure_call, tree_cost_call, valid_cost_call};
+pub use compiled::{
+    bisection, greedy, greedy_call, quiet_caught_panics, reconfigure, reconfigure_call, tree_cost_call, valid_cost_call,
+};
 
 /// Runs path.rs, if it is at hand. A case without a tree is one with no internal node.
 #[cfg(path_rs)]
@@ -59,7 +61,9 @@ pub fn answer(case: &Case) -> Option<Answer> {
 }
 
 #[cfg(not(path_rs))]
-pub use missing::{answer, bisection, greedy, greedy_call, quiet_caught_panics, reconfigure, reconfigure_call, tree_cost_call, valid_cost_call};
+pub use missing::{
+    answer, bisection, greedy, greedy_call, quiet_caught_panics, reconfigure, reconfigure_call, tree_cost_call, valid_cost_call,
+};
 
 #[cfg(not(path_rs))]
 mod missing {

@@ -143,6 +143,16 @@ pub extern "C" fn loqshyber_reconfigure(
         (now (flags .entry)) (now (tree .entry)) (now (ws .entry)) (now (answer .entry)) (now (tree .exit)) (now (ws .exit)) (now (answer .exit)) r ⌝ }
 {
     memoryreconf::reconfigure(
-        weights, leg_counts, legs, outputs, flags, tree, ws, answer, k, passes, limit,
+        weights,
+        leg_counts,
+        legs,
+        outputs,
+        flags,
+        tree,
+        ws,
+        answer,
+        k,
+        passes,
+        limit,
     ) as u32
 }

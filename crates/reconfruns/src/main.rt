@@ -33,7 +33,14 @@ fn limit_of(x: usize) -> Limit {
 }
 
 // The tree improved, or the number of the refusal.
-fn improve(network: Network, flags: &[u8], tree: &mut [u16], k: usize, passes: usize, limit: Limit) {
+fn improve(
+    network: Network,
+    flags: &[u8],
+    tree: &mut [u16],
+    k: usize,
+    passes: usize,
+    limit: Limit,
+) {
     let mut ws = [0u64; 36864];
     let improved = reconfigure::reconfigure(network, k, passes, limit, flags, tree, &mut ws);
     match improved {
@@ -67,12 +74,27 @@ fn flag_count(ask: Ask) -> usize {
 }
 
 // Improves the tree that was found in a file, under the flags that were.
-fn improve_found(network: Network, found: Found, flags: &[u8], tree: &mut [u16], k: usize, passes: usize, limit: Limit) {
+fn improve_found(
+    network: Network,
+    found: Found,
+    flags: &[u8],
+    tree: &mut [u16],
+    k: usize,
+    passes: usize,
+    limit: Limit,
+) {
     let found_tree = found.tree;
     let found_ask = found.ask;
     let places = min(tree_places(found_tree), tree.len());
     let count = min(flag_count(found_ask), flags.len());
-    improve(network, &flags[..count], &mut tree[..places], k, passes, limit);
+    improve(
+        network,
+        &flags[..count],
+        &mut tree[..places],
+        k,
+        passes,
+        limit,
+    );
 }
 
 // Reads so many bytes from standard input as a network file, and improves its tree.
@@ -111,7 +133,13 @@ fn next_case() {
     let asked = next_number();
     let length = next_number();
     let limit = limit_of(asked % 65536);
-    take(&mut bytes, length, asked / 16777216, asked / 65536 % 256, limit);
+    take(
+        &mut bytes,
+        length,
+        asked / 16777216,
+        asked / 65536 % 256,
+        limit,
+    );
 }
 
 fn all_cases(count: usize) {

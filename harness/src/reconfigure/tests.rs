@@ -80,7 +80,11 @@ fn refusals_by_number() {
 #[test]
 fn totals_below_and_beyond() {
     for (last, number) in [(4, None), (5, Some(10))] {
-        let network = Network { weights: vec![8, 8, 8, 8, 8, 8, last], leaves: vec![(0..7).collect(), Vec::new()], outputs: (0..7).collect() };
+        let network = Network {
+            weights: vec![8, 8, 8, 8, 8, 8, last],
+            leaves: vec![(0..7).collect(), Vec::new()],
+            outputs: (0..7).collect(),
+        };
         let mut question = question(network, &[[0, 1]], Ask { k: 8, passes: 1, limit: None });
         assert_eq!(question.read().err(), number);
         if port::AT_HAND {
