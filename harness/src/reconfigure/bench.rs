@@ -1,4 +1,4 @@
-//! Improvement on both sides, on pedigrees of 8 to 128 tables, from combs in the leaves' order and from greedy's trees.
+//! Improvement on both sides, of greedy's trees of pedigrees of 8 to 128 tables.
 
 use super::call::{self, words, Call};
 use super::model::Ask;
@@ -12,7 +12,7 @@ const TABLES: [usize; 5] = [8, 22, 41, 64, LEAVES];
 /// Calls of each side, which take turns; the least time is told, and the median.
 const CALLS: usize = 21;
 
-/// The outputs are all indices that just one leaf names, so that none dangles; at most 32 pedigree animals are such.
+/// The pedigree without the non-output indices that just one leaf names, so that none dangles.
 fn network(leaf_count: usize) -> Network {
     let mut network = pedigree(leaf_count);
     let named = |i: u16| network.leaves.iter().filter(|leaf| leaf.contains(&i)).count();
