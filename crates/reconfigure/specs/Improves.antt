@@ -42,18 +42,18 @@ use Rattle.reconfigure.specs.Answers.{answerOf, Answered}
 
 -- ---- flat lists ----
 
-flat-pairs : (j : ℕ) (kids : List ℕ) → length kids ≡ j * 2 → flatOf (pairsOf kids) ≡ kids
+pub flat-pairs : (j : ℕ) (kids : List ℕ) → length kids ≡ j * 2 → flatOf (pairsOf kids) ≡ kids
 unfolding flatOf pairsOf
 flat-pairs j [] h = refl
 flat-pairs j (x ∷ []) h = absurd (omega arith)
 flat-pairs zero (x ∷ y ∷ l) h = absurd (omega arith)
 flat-pairs (suc j) (x ∷ y ∷ l) h = ap (λ (r : List ℕ). x ∷ y ∷ r) (flat-pairs j l (omega arith))
 
-over-all : (l s : List ℕ) → length s ≡ length l → over l s ≡ s
+pub over-all : (l s : List ℕ) → length s ≡ length l → over l s ≡ s
 over-all l s e = over-fits l s (omega arith) ∙ ap (λ (n : ℕ). s ++ drop n l) e ∙ ap (λ (r : List ℕ). s ++ r) (drop-length l) ∙ append-nil s
 
 -- the length of a tree that is not wrong
-tree-length : (n : ℕ) (kids : List ℕ) → wrongTree n kids ≡ false → length kids ≡ (n - 1) * 2
+pub tree-length : (n : ℕ) (kids : List ℕ) → wrongTree n kids ≡ false → length kids ≡ (n - 1) * 2
 tree-length n kids e =
     elim (decLe 2 n) [
       | yes h ↦ omega (arith, not-wrong-length n kids h e)

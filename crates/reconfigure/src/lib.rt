@@ -57,7 +57,7 @@ fn wide(x: u16) -> u64
 }
 
 // The limit as the search takes it: none from 65,536 on.
-fn limit_bits(limit: Limit) -> u64
+pub fn limit_bits(limit: Limit) -> u64
     ensures { λ r. ⌜ limitOf r ≡ limitFrom limit ⌝ }
 {
     match limit {
@@ -67,7 +67,7 @@ fn limit_bits(limit: Limit) -> u64
 }
 
 // Is the total of a tree of `n` leaves, whose nodes' work bits are at hand, beyond.
-fn is_beyond(works: &[u16], n: usize) -> bool
+pub fn is_beyond(works: &[u16], n: usize) -> bool
     requires { ⌜ n + (n - 1) ≤ length (now works) ⌝ }
     ensures { λ r. ⌜ r ≡ isBeyond (upTo (workSum (now (works .entry)) n (n - 1))) ⌝ }
 {

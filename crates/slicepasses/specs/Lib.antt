@@ -1,0 +1,4 @@
+-- Slicing with a pass of improvement after each choice. Assumes nothing.
+pub mod Asks
+pub mod Once
+pub mod Choices
