@@ -29,13 +29,17 @@ fn total(network: &Hypergraph, tree: &ContractionTree) -> f64 {
     path::tree_cost(network, tree, &[]).log2_total.exp2().round()
 }
 
+/// Says so where the port is not linked, to the terminal even where the test's own output is kept back.
+fn tell_if_missing() {
+    if !port::AT_HAND {
+        writeln!(io::stderr(), "{}", port::MISSING).expect("stderr can be written");
+    }
+}
+
 /// The port's answer, if the port is linked, and the Rust's.
 fn both(case: &Case) -> (Option<Result<Listing, u32>>, rust::Answer) {
     rust::quiet_caught_panics();
-    if !port::AT_HAND {
-        // to the terminal even where the test's own output is kept back
-        writeln!(io::stderr(), "{}", port::MISSING).expect("stderr can be written");
-    }
+    tell_if_missing();
     let answer = rust::answer(case).expect("path.rs is compiled in");
     let port = port::AT_HAND.then(|| {
         let mut out = [0; MOST];
@@ -114,6 +118,7 @@ fn slicing_takes_another_index_within_its_tolerance() {
 
 /// The port's improvement with no flags, k = 8, one pass and no limit, if the port is linked.
 fn improved(network: &Network, tree: &Tree) -> Option<Result<Improved, u32>> {
+    tell_if_missing();
     let ask = Ask { k: 8, passes: 1, limit: None };
     port::AT_HAND
         .then(|| call::answer(&Call { given: crate::greedy::call::Given::new(network), flags: Vec::new(), ask }, tree).unwrap())
