@@ -13,7 +13,7 @@ const TABLES: [usize; 5] = [8, 22, 41, 64, LEAVES];
 const CALLS: usize = 21;
 
 /// The pedigree without the non-output indices that just one leaf names, so that none dangles.
-fn network(leaf_count: usize) -> Network {
+pub fn network(leaf_count: usize) -> Network {
     let mut network = pedigree(leaf_count);
     let named = |i: u16| network.leaves.iter().filter(|leaf| leaf.contains(&i)).count();
     let once: Vec<u16> = (0..network.weights.len() as u16).filter(|&i| named(i) == 1 && !network.outputs.contains(&i)).collect();

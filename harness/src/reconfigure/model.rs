@@ -4,12 +4,12 @@ use crate::case::{Network, Tree};
 
 /// Costs from here on count as infinite.
 const BEYOND: u64 = 1 << 53;
-const INFINITE: u64 = u64::MAX;
+pub const INFINITE: u64 = u64::MAX;
 /// Unsliced local indices of a region; one more leaves the node as it is.
 const LOCALS: usize = 128;
 
 /// A set of indices.
-type Set = [u128; 2];
+pub type Set = [u128; 2];
 
 const fn both(a: Set, b: Set) -> Set {
     [a[0] | b[0], a[1] | b[1]]
@@ -26,8 +26,12 @@ fn set_of(list: &[u16]) -> Set {
     })
 }
 
+pub fn holds(set: Set, i: usize) -> bool {
+    set[i / 128] >> (i % 128) & 1 == 1
+}
+
 fn members(set: Set) -> impl Iterator<Item = usize> {
-    (0..256).filter(move |&i| set[i / 128] >> (i % 128) & 1 == 1)
+    (0..256).filter(move |&i| holds(set, i))
 }
 
 /// What is asked of a network and a valid tree.
@@ -46,7 +50,7 @@ pub struct Improved {
     pub tried: u64,
 }
 
-struct Reading {
+pub struct Reading {
     n: usize,
     leaves: Vec<Set>,
     outputs: Set,
@@ -57,14 +61,14 @@ struct Reading {
 }
 
 /// What each node lists, and its work bits.
-struct Prices {
-    order: Vec<usize>,
-    sets: Vec<Set>,
-    works: Vec<u32>,
+pub struct Prices {
+    pub order: Vec<usize>,
+    pub sets: Vec<Set>,
+    pub works: Vec<u32>,
 }
 
 impl Reading {
-    fn new(network: &Network, flags: &[bool], ask: Ask) -> Self {
+    pub fn new(network: &Network, flags: &[bool], ask: Ask) -> Self {
         let flagged = |i: usize| flags.get(i).copied().unwrap_or(false);
         let unsliced: Vec<u16> = (0..network.weights.len()).filter(|&i| !flagged(i)).map(|i| i as u16).collect();
         Self {
@@ -77,7 +81,7 @@ impl Reading {
         }
     }
 
-    fn weight(&self, set: Set) -> u32 {
+    pub fn weight(&self, set: Set) -> u32 {
         members(set).map(|i| self.weights[i]).sum()
     }
 
@@ -90,7 +94,7 @@ impl Reading {
         order.push(v);
     }
 
-    fn prices(&self, tree: &Tree) -> Prices {
+    pub fn prices(&self, tree: &Tree) -> Prices {
         let nodes = self.n + tree.len();
         let (mut order, mut below, mut outside) = (Vec::new(), vec![[0; 2]; nodes], vec![[0; 2]; nodes]);
         if nodes > 0 {
@@ -115,16 +119,13 @@ impl Reading {
     }
 
     /// The sum of 2 to the work bits, infinite from 2^53 on.
-    fn total(&self, tree: &Tree) -> u64 {
+    pub fn total(&self, tree: &Tree) -> u64 {
         let prices = self.prices(tree);
         prices.order.iter().fold(0, |sum, &v| plus(sum, power(prices.works[v])))
     }
 
-    fn dangling(&self) -> bool {
-        (0..self.weights.len()).any(|i| {
-            let holds = |set: &Set| set[i / 128] >> (i % 128) & 1 == 1;
-            !holds(&self.outputs) && self.leaves.iter().filter(|set| holds(set)).count() == 1
-        })
+    pub fn dangling(&self) -> bool {
+        (0..self.weights.len()).any(|i| !holds(self.outputs, i) && self.leaves.iter().filter(|&&set| holds(set, i)).count() == 1)
     }
 }
 
