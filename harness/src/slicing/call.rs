@@ -38,8 +38,8 @@ extern "C" {
         words_len: usize,
         answer: *mut u64,
         answer_len: usize,
+        improving: u32,
         target: u16,
-        improving: u8,
     ) -> u32;
 }
 
@@ -82,8 +82,8 @@ pub fn slice_tree(call: &Call, tree: &mut [u16], lent: &mut Lent) -> u32 {
             lent.words.len(),
             lent.answer.as_mut_ptr(),
             lent.answer.len(),
+            call.improving as u32,
             call.target,
-            call.improving as u8,
         )
     }
 }
