@@ -126,6 +126,12 @@ pub fn pedigree(numbers: &mut Numbers, k: usize) -> Question {
     question(numbers, network)
 }
 
+/// One pass with no limit on a practice pedigree of 2k tables, so that frontiers have k members.
+pub fn wide(numbers: &mut Numbers, k: usize) -> Question {
+    let ask = Ask { k, passes: 1, limit: None };
+    Question { ask, ..question(numbers, practice_pedigree(k, k as u64)) }
+}
+
 /// So many questions, one in eight on a practice pedigree.
 pub fn run(comparison: &mut Comparison, count: usize, seed: u64) {
     let mut numbers = Numbers::new(seed);

@@ -27,6 +27,7 @@ fn questions() -> Vec<Question> {
         questions.extend((0..EACH).map(|_| cases::random(&mut numbers, shape)));
     }
     questions.extend((0..EACH).map(|k| cases::pedigree(&mut numbers, k * 62 / (EACH - 1))));
+    questions.extend((3..=12).map(|k| cases::wide(&mut numbers, k)));
     questions
 }
 
