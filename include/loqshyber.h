@@ -1,4 +1,4 @@
-/* Loqshyber for a C host: the prices of a contraction plan, the greedy plan, and a plan improved.
+/* Loqshyber for a C host: the prices of a contraction plan, the greedy plan, a plan improved, and a plan sliced.
  *
  * Each function returns 0, or the number of the refusal. Each list is a pointer and a length in its own units. The pointer is not null, and is aligned
  * as C has it for the list's type; for an empty list any such pointer will do. No list that is written overlaps another. A list that is
@@ -19,7 +19,7 @@
 #define LOQSHYBER_SHORT_BUFFER 7   /* a list to be written, or the workspace, is shorter than stated */
 #define LOQSHYBER_INVALID_TREE 8   /* a tree that is not valid for this number of leaves, or of odd length */
 #define LOQSHYBER_INVALID_FLAGS 9  /* more flags than indices, or a flag over 1 */
-#define LOQSHYBER_TOTAL_BEYOND 10  /* improvement: the total is 2^53 or more */
+#define LOQSHYBER_TOTAL_BEYOND 10  /* improvement and slicing: the total is 2^53 or more */
 #define LOQSHYBER_DANGLING 11      /* improvement: an index that just one leaf names, and that is no output */
 #define LOQSHYBER_TABLE_TOO_WIDE 12 /* greedy: a scored pair has a table, or makes one, of over 40 bits */
 
@@ -99,5 +99,23 @@ uint32_t loqshyber_reconfigure(const uint8_t *weights, size_t weights_length, co
     const uint16_t *legs, size_t legs_length, const uint16_t *outputs, size_t outputs_length, const uint8_t *flags, size_t flags_length,
     uint16_t *tree, size_t tree_length, uint64_t *ws, size_t ws_length, uint64_t *answer, size_t answer_length,
     size_t k, size_t passes, uint32_t limit);
+
+/* loqshyber_slice_tree slices a tree of a network in memory, which is read as above: from no flag on, one index after another is flagged, the one
+ * after which the work of all slices together is least, until no table is over `target` size bits or no table over it has an index that may be flagged (no output, weight over 0).
+ *
+ *   improving    0: the tree is left as it is; else after each choice one pass of improvement follows, with k = 8 and the widest table's size bits, or
+ *                the target where it is larger, as the limit
+ * What is written:
+ *   tree         with improvement improved where it stands; after a refusal `tree` is as it was
+ *   flags        a number an index: 1 if it is sliced, else 0; after a refusal as they were
+ *   ws           LOQSHYBER_SLICE_WORDS(improving) words, 0 afterwards; after refusals 3 to 7 as they were
+ *   answer       LOQSHYBER_COUNTS numbers: rebuilds, and splits tried, over all passes; after a refusal as it was
+ * It refuses 3 to 8 for what it is lent, 10 where the unsliced total is beyond, and with improvement 11 for an index that is no output and stands in just one
+ * leaf; 10 and 11 even if nothing need be sliced. */
+#define LOQSHYBER_SLICE_WORDS(improving) ((improving) ? LOQSHYBER_IMPROVE_WORDS(8) : (size_t)LOQSHYBER_WORDS)
+
+uint32_t loqshyber_slice_tree(const uint8_t *weights, size_t weights_length, const uint8_t *leg_counts, size_t leg_counts_length,
+    const uint16_t *legs, size_t legs_length, const uint16_t *outputs, size_t outputs_length, uint16_t *tree, size_t tree_length,
+    uint8_t *flags, size_t flags_length, uint64_t *ws, size_t ws_length, uint64_t *answer, size_t answer_length, uint32_t improving, uint16_t target);
 
 #endif

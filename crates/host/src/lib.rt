@@ -1,4 +1,4 @@
-// The functions that a C host calls: a file's bytes priced, a network in memory priced, its greedy plan, a tree of it improved.
+// The functions that a C host calls: a file's bytes priced, a network in memory priced, its greedy plan, a tree of it improved, a tree of it sliced.
 ghost use mathlib.Core.Path.{_≡_};
 ghost use Prim.Native.Nat.{_≤_};
 ghost use lib.ListN.{length, take};
@@ -9,6 +9,7 @@ ghost use Rattle.host.specs.Sound.{HandsOut};
 ghost use Rattle.memory.specs.Promise.{MemoryCost};
 ghost use Rattle.memoryplans.specs.Plan.{MemoryGreedy};
 ghost use Rattle.memoryreconf.specs.Promise.{MemoryReconfigures};
+ghost use Rattle.memoryslice.specs.Promise.{improvingNumber, MemorySlices};
 use netfile::Answer;
 use netfile::Ask;
 use netfile::Found;
@@ -154,5 +155,35 @@ pub extern "C" fn loqshyber_reconfigure(
         k,
         passes,
         limit,
+    ) as u32
+}
+
+#[no_mangle]
+pub extern "C" fn loqshyber_slice_tree(
+    weights: &[u8],
+    leg_counts: &[u8],
+    legs: &[u16],
+    outputs: &[u16],
+    tree: &mut [u16],
+    flags: &mut [u8],
+    ws: &mut [u64],
+    answer: &mut [u64],
+    improving: u32,
+    target: u16,
+) -> u32
+    ensures { λ r. ⌜ MemorySlices (lentNetwork (now (weights .entry)) (now («leg_counts» .entry)) (now (legs .entry)) (now (outputs .entry))) (improvingNumber improving) target
+        (now (tree .entry)) (now (flags .entry)) (now (ws .entry)) (now (answer .entry)) (now (tree .exit)) (now (flags .exit)) (now (ws .exit)) (now (answer .exit)) r ⌝ }
+{
+    memoryslice::slice_tree(
+        weights,
+        leg_counts,
+        legs,
+        outputs,
+        tree,
+        flags,
+        ws,
+        answer,
+        improving,
+        target,
     ) as u32
 }

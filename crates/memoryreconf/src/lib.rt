@@ -22,7 +22,7 @@ fn limit_of(x: u32) -> Limit
 }
 
 // Writes the two numbers.
-fn put_counts(answer: &mut [u64], counts: Visited)
+pub fn put_counts(answer: &mut [u64], counts: Visited)
     ensures { λ _. ⌜ now (answer .exit) ≡ over (now (answer .entry)) (counts .rebuilt ∷ counts .tried ∷ []) ⌝ }
 {
     cells::put64(answer, 0, counts.rebuilt);

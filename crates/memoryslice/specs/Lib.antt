@@ -1,0 +1,2 @@
+-- Slicing of a network in memory. Assumes nothing.
+pub mod Promise
