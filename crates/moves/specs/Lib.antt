@@ -1,0 +1,5 @@
+pub mod Kept
+pub mod Split
+pub mod Laying
+pub mod Sums
+pub mod Rolled
