@@ -1,0 +1,5 @@
+pub mod Stays
+pub mod Entries
+pub mod Crossed
+pub mod Compact
+pub mod Mesh
