@@ -1,11 +1,11 @@
 -- The coarser hypergraph in slots. Assumes nothing.
-use mathlib.Core.Bool.{Bool, true, false, not, _||_, cond}
+use mathlib.Core.Bool.{Bool, true, false, not, cond}
 use mathlib.Core.Path.{_≡_, refl, sym, ap, ap₂, _∙_, subst}
 use mathlib.Core.List.{List, [], _∷_, _++_, map, map-map, append-nil}
 use mathlib.Core.Option.{Option, none, some}
-use Prim.Native.Nat.{ℕ, zero, suc, _+_, _-_, _*_, _≤_, _<_, min}
+use Prim.Native.Nat.{ℕ, _+_, _-_, _*_, _≤_, _<_}
 use native.Mathlib.Omega.{arith}
-use lib.Dec.{eqb, leb}
+use lib.Dec.{eqb}
 use lib.Ieee.{Float, binary64, mul, lt}
 use native.Mathlib.Decide.{decLe}
 use lib.ListN.{length, getD, take}
@@ -13,9 +13,9 @@ use lib.Seq.{length-take-le}
 use borrow.Author.Tests.{eqb-true}
 use Rattle.spec.specs.Lists.{memb, keep, range}
 use Rattle.spec.specs.Floats.{zeroFloat, wholeFloat, decimal}
-use Rattle.spec.specs.Draws.{Words, Drawn, drawn}
-use Rattle.spec.specs.Hypergraph.{Net, Hypergraph, vertexCount, nets≥2}
-use Rattle.spec.specs.Coarsen.{Level, matching, coarseOf, coarseWeight, coarseNet, coarser, levelOf, worthwhile, coarsen}
+use Rattle.spec.specs.Draws.{Drawn, drawn}
+use Rattle.spec.specs.Hypergraph.{Net, nets≥2}
+use Rattle.spec.specs.Coarsen.{Level, matching, coarser, levelOf, worthwhile, coarsen}
 use Rattle.laws.specs.Booleans.{by-cases, or-cases, or-intror, clash}
 use Rattle.laws.specs.ListLaws.{keep-ext, keep-none-from, keep-passes, memb-head}
 use Rattle.spec.specs.Layout.{firsts}
@@ -23,14 +23,14 @@ use Rattle.network.specs.Layouts.{map-range-ext, firsts-take}
 use Rattle.slots.specs.Slots.{held}
 use Rattle.slots.specs.Rising.{risingOf, keep-add}
 use Rattle.partition.specs.Layout.{netIn, graphIn}
-use Rattle.partition.specs.Gains.{kept-few, kept-below}
+use Rattle.partition.specs.Gains.{kept-below}
 use Rattle.draws.specs.Cursor.{wordsAt}
 use Rattle.matching.specs.Meshed.{Meshed}
 use Rattle.mesh.specs.Stays.{Stays, stays-then, stays-wider}
 use Rattle.mesh.specs.Compact.{Within}
 use Rattle.mesh.specs.Mesh.{Built}
-use Rattle.coarsen.specs.Pairs.{Paired, mutual-matching, mutual-paired}
-use Rattle.coarsen.specs.Joined.{lowers, coarseIn, weightIn, joinedOf, joined, Joins, joins, coarse-below}
+use Rattle.coarsen.specs.Pairs.{Mutual, Paired, mutual-matching, mutual-paired}
+use Rattle.coarsen.specs.Joined.{lowers, coarseIn, joinedOf, joined, Joins, joins, coarse-below}
 use Rattle.coarsen.specs.Mapped.{images, mapped, Maps, maps}
 
 -- ---- lists ----
@@ -155,17 +155,30 @@ enough n left = lt (mul binary64 (decimal 95 100) (wholeFloat n)) (wholeFloat le
 abbrev pub levelIf : Bool → Level → Option Level
 levelIf found l = cond found (some l) none
 
--- COARSENED
-pub coarsened : (G : Hypergraph) (maxw : Float) (words mates : List ℕ) (at at′ n n′ : ℕ) (found : Bool) (l : Level)
-    → drawn mates (wordsAt words at′) ≡ matching G maxw (wordsAt words at) → l ≡ levelOf G maxw mates → vertexCount G ≡ n → vertexCount (l .graph) ≡ n′
-    → found ≡ not (enough n n′) → drawn (levelIf found l) (wordsAt words at′) ≡ coarsen G maxw (wordsAt words at)
-unfolding coarsen enough
-coarsened G maxw words mates at at′ n n′ found l e q en el f =
-    ap (λ b. drawn (levelIf b l) (wordsAt words at′)) (f ∙ ap₂ (λ x y. not (lt (mul binary64 (decimal 95 100) (wholeFloat x)) (wholeFloat y))) (sym en) (sym el))
-    ∙ ap (λ o. drawn o (wordsAt words at′)) (either (lt (mul binary64 (decimal 95 100) (wholeFloat (vertexCount G))) (wholeFloat (vertexCount (l .graph)))))
-    ∙ ap (λ x. drawn (worthwhile G maxw x) (wordsAt words at′)) q
-    ∙ ap (λ (d : Drawn (List ℕ)). drawn (worthwhile G maxw (levelOf G maxw (d .value))) (d .words)) e
-  where
-    either : (b : Bool) → levelIf (not b) l ≡ cond b none (some l)
-    either true = refl
-    either false = refl
+module _ (ws : List ℕ) (nets : ℕ) (weights : List ℕ) (m : ℕ) (vw : List Float) (maxw : Float) (words mates : List ℕ) (at at′ : ℕ)
+    (e : drawn mates (wordsAt words at′) ≡ matching (graphIn ws nets weights m vw) maxw (wordsAt words at)) where
+  pub drawn-paired : 0 < length vw → Paired (length vw) mates
+  unfolding graphIn
+  drawn-paired b =
+      mutual-paired (length vw) mates
+      (subst (λ (d : Drawn (List ℕ)). Mutual (length vw) (d .value)) (sym e) (mutual-matching (graphIn ws nets weights m vw) maxw (wordsAt words at) b))
+
+  -- COARSENED
+  pub coarsened : (ws′ : List ℕ) (nets₂ : ℕ) (weights′ : List ℕ) (m′ : ℕ) (vw′ : List Float) (n′ : ℕ) (places′ : List ℕ) (found : Bool)
+      → levelIn ws′ nets₂ weights′ m′ vw′ n′ places′ (length vw) ≡ levelOf (graphIn ws nets weights m vw) maxw mates → length (take n′ vw′) ≡ n′
+      → found ≡ not (enough (length vw) n′)
+      → drawn (levelIf found (levelIn ws′ nets₂ weights′ m′ vw′ n′ places′ (length vw))) (wordsAt words at′) ≡ coarsen (graphIn ws nets weights m vw) maxw (wordsAt words at)
+  unfolding coarsen enough graphIn
+  coarsened ws′ nets₂ weights′ m′ vw′ n′ places′ found q el f =
+      let G = graphIn ws nets weights m vw in
+      ap (λ b. drawn (levelIf b l) (wordsAt words at′)) (f ∙ ap (λ y. not (enough (length vw) y)) (sym el))
+      ∙ ap (λ o. drawn o (wordsAt words at′)) (either (enough (length vw) (length (take n′ vw′))))
+      ∙ ap (λ x. drawn (worthwhile G maxw x) (wordsAt words at′)) q
+      ∙ ap (λ (d : Drawn (List ℕ)). drawn (worthwhile G maxw (levelOf G maxw (d .value))) (d .words)) e
+    where
+      l : Level
+      l = levelIn ws′ nets₂ weights′ m′ vw′ n′ places′ (length vw)
+
+      either : (b : Bool) → levelIf (not b) l ≡ cond b none (some l)
+      either true = refl
+      either false = refl

@@ -1,6 +1,6 @@
 -- Each net's pins, mapped to coarse vertices. Assumes nothing.
-use mathlib.Core.Bool.{Bool, true, false, _||_}
-use mathlib.Core.Path.{_≡_, refl, sym, ap, ap₂, _∙_}
+use mathlib.Core.Bool.{false, _||_}
+use mathlib.Core.Path.{_≡_, refl, sym, ap, _∙_}
 use mathlib.Core.List.{List, [], _∷_, map}
 use Prim.Native.Nat.{ℕ, zero, suc, _+_, _*_, _≤_, _<_}
 use native.Mathlib.Omega.{arith}
@@ -11,7 +11,7 @@ use lib.Seq.{getD-take, length-take-le}
 use Rattle.spec.specs.Lists.{memb}
 use Rattle.cells.specs.Loop.{turns, turns-invariant}
 use Rattle.slots.specs.Slots.{held, withSet, withSet-length, withSet-then, withSet-ext, held-with, held-with-other}
-use Rattle.slots.specs.Writes.{among, andAll}
+use Rattle.slots.specs.Writes.{andAll}
 use Rattle.slots.specs.Rising.{risingOf}
 use Rattle.mesh.specs.Stays.{Stays, stays-none, stays-then, stays-with, rising-below}
 use Rattle.mesh.specs.Crossed.{among-all}

@@ -1,5 +1,5 @@
 -- A matching is mutual: the mate of a vertex's mate is the vertex. Assumes nothing.
-use mathlib.Core.Bool.{Bool, true, false, not, _&&_, cond}
+use mathlib.Core.Bool.{Bool, true, not, _&&_, cond}
 use mathlib.Core.Path.{_≡_, refl, sym, ap, _∙_, subst}
 use mathlib.Core.List.{List, [], _∷_, _++_}
 use mathlib.Core.Option.{Option, none, some}
@@ -11,7 +11,7 @@ use lib.Ieee.{Float, binary64, add, mul, div, lt, le, eq}
 use lib.ListN.{length, getD, set, replicate, length-set, length-replicate, getD-replicate, List·getD-eq-default}
 use lib.Seq.{getD-set-same, getD-set-other}
 use borrow.Author.Tests.{eqb-true, eq-eqb}
-use Rattle.spec.specs.Lists.{memb, keep, range}
+use Rattle.spec.specs.Lists.{memb, range}
 use Rattle.spec.specs.Floats.{zeroFloat, wholeFloat, micro}
 use Rattle.spec.specs.Draws.{Words, Drawn, drawn, unitDraw}
 use Rattle.spec.specs.Hypergraph.{foldOver, Net, Hypergraph, vertexCount, vertexWeight, netsAt}
@@ -124,8 +124,7 @@ module _ (G : Hypergraph) (maxw : Float) where
 
     open-pin : (e : Net) (u : ℕ) → memb u (openPins G maxw mates v e) ≡ true → Open u
     open-pin e u m =
-        let p : (not (eqb u v) && unmatched G maxw mates u) ≡ true = keep-passes u (λ u. not (eqb u v) && unmatched G maxw mates u) (e .pins) m in
-        (
+        let p : (not (eqb u v) && unmatched G maxw mates u) ≡ true = keep-passes u (λ u. not (eqb u v) && unmatched G maxw mates u) (e .pins) m in (
           λ q. clash (and-left (not (eqb u v)) (unmatched G maxw mates u) p) (ap not (eq-eqb u v q)),
           eqb-true (getD mates u 0) n (and-right (not (eqb u v)) (unmatched G maxw mates u) p),
         )

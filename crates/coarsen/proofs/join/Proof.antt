@@ -2,9 +2,7 @@
 use borrow.Author.Needs.{needs}
 use Rattle.coarsen.specs.Joined.{joined-lower, joined-upper}
 use native.Mathlib.Omega.{arith}
-use Prim.Native.Nat.{ℕ, _+_, _-_, _*_, _<_, _≤_}
-use mathlib.Core.Path.{_≡_, refl, sym, ap, _∙_, subst}
-use lib.ListN.{length, getD, set, length-set}
+use Prim.Native.Nat.{_-_}
 use Rattle.coarsen.proofs.join.Statement.{statement}
 use Rattle.coarsen.proofs.join.Tie as tie
 

@@ -3,9 +3,9 @@ use borrow.Author.Needs.{needs}
 use Rattle.coarsen.specs.Joined.{joinedOf, joinedOne, joined, joined-places, joined-weights}
 use Rattle.cells.specs.Loop.{turns-none, turns-next, turns-end}
 use native.Mathlib.Omega.{arith}
-use Prim.Native.Nat.{ℕ, _+_, _-_, _*_, _<_, _≤_}
-use mathlib.Core.Path.{_≡_, refl, sym, ap, _∙_, subst}
-use lib.ListN.{length, getD, set, length-set}
+use Prim.Native.Nat.{_-_, _≤_}
+use mathlib.Core.Path.{_≡_, refl, sym, ap, _∙_}
+use lib.ListN.{length}
 use Rattle.coarsen.proofs.join_all.Statement.{statement}
 use Rattle.coarsen.proofs.join_all.Tie as tie
 
@@ -40,7 +40,7 @@ same-length-2 c = let a = c .before .before .before .before .before .before .arg
 
 returns : tie.Need-returns Inv-loop μ-loop
 unfolding joined
-returns c = let l = c .before .loop in let a = c .before .before .before .before .before .before .args in turns-end (joinedOne (a .vw .now) (a .mates .now)) (joinedOf (a .places .now) (a .coarse .now) 0) (omega (arith, l .inv .0, l .inv .1)) (l .inv .2)
+returns c = let l = c .before .loop in let a = c .before .before .before .before .before .before .args in (turns-end (joinedOne (a .vw .now) (a .mates .now)) (joinedOf (a .places .now) (a .coarse .now) 0) (omega (arith, l .inv .0, l .inv .1)) (l .inv .2), omega (arith, l .inv .3, l .inv .0, l .inv .1))
 
 pub join-all-spec : {M : Type 1} → statement M
 join-all-spec =

@@ -3,9 +3,7 @@ use borrow.Author.Needs.{needs}
 use Rattle.coarsen.specs.Mapped.{images-put}
 use Rattle.ratings.specs.Rated.{listed-pins, listed-room}
 use native.Mathlib.Omega.{arith}
-use Prim.Native.Nat.{ℕ, _+_, _-_, _*_, _<_, _≤_}
-use mathlib.Core.Path.{_≡_, refl, sym, ap, _∙_, subst}
-use lib.ListN.{length, getD, set, length-set}
+use Prim.Native.Nat.{_+_, _-_}
 use Rattle.coarsen.proofs.map_net.Statement.{statement}
 use Rattle.coarsen.proofs.map_net.Tie as tie
 

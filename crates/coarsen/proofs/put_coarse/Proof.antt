@@ -5,9 +5,9 @@ use Rattle.slots.specs.Writes.{andAll, all-none, all-next}
 use Rattle.slots.specs.Slots.{withSet, withSet-length}
 use lib.ListN.{take}
 use native.Mathlib.Omega.{arith}
-use Prim.Native.Nat.{ℕ, _+_, _-_, _*_, _<_, _≤_}
-use mathlib.Core.Path.{_≡_, refl, sym, ap, _∙_, subst}
-use lib.ListN.{length, getD, set, length-set}
+use Prim.Native.Nat.{ℕ, _-_, _≤_}
+use mathlib.Core.Path.{_≡_, sym, ap, _∙_}
+use lib.ListN.{length, getD}
 use Rattle.coarsen.proofs.put_coarse.Statement.{statement}
 use Rattle.coarsen.proofs.put_coarse.Tie as tie
 

@@ -1,10 +1,7 @@
 -- Assumes nothing.
 use borrow.Author.Needs.{needs}
 use Rattle.coarsen.specs.Joined.{weight-alone, weight-both}
-use native.Mathlib.Omega.{arith}
-use Prim.Native.Nat.{ℕ, _+_, _-_, _*_, _<_, _≤_}
-use mathlib.Core.Path.{_≡_, refl, sym, ap, _∙_, subst}
-use lib.ListN.{length, getD, set, length-set}
+use Prim.Native.Nat.{_-_}
 use Rattle.coarsen.proofs.weight_of.Statement.{statement}
 use Rattle.coarsen.proofs.weight_of.Tie as tie
 
