@@ -1,7 +1,7 @@
 -- The coarser hypergraph in slots. Assumes nothing.
 use mathlib.Core.Bool.{Bool, true, false, not, cond}
 use mathlib.Core.Path.{_≡_, refl, sym, ap, ap₂, _∙_, subst}
-use mathlib.Core.List.{List, [], _∷_, _++_, map, map-map, append-nil}
+use mathlib.Core.List.{List, [], _∷_, map, map-map}
 use mathlib.Core.Option.{Option, none, some}
 use Prim.Native.Nat.{ℕ, _+_, _-_, _*_, _≤_, _<_}
 use native.Mathlib.Omega.{arith}
@@ -17,16 +17,17 @@ use Rattle.spec.specs.Draws.{Drawn, drawn}
 use Rattle.spec.specs.Hypergraph.{Net, nets≥2}
 use Rattle.spec.specs.Coarsen.{Level, matching, coarser, levelOf, worthwhile, coarsen}
 use Rattle.laws.specs.Booleans.{by-cases, or-cases, or-intror, clash}
-use Rattle.laws.specs.ListLaws.{keep-ext, keep-none-from, keep-passes, memb-head}
+use Rattle.laws.specs.ListLaws.{keep-passes, memb-head}
 use Rattle.spec.specs.Layout.{firsts}
 use Rattle.network.specs.Layouts.{map-range-ext, firsts-take}
 use Rattle.slots.specs.Slots.{held}
-use Rattle.slots.specs.Rising.{risingOf, keep-add}
+use Rattle.slots.specs.Rising.{risingOf}
 use Rattle.partition.specs.Layout.{netIn, graphIn}
 use Rattle.partition.specs.Gains.{kept-below}
 use Rattle.draws.specs.Cursor.{wordsAt}
 use Rattle.matching.specs.Meshed.{Meshed}
 use Rattle.mesh.specs.Stays.{Stays, stays-then, stays-wider}
+use Rattle.mesh.specs.Fronts.{rising-front}
 use Rattle.mesh.specs.Compact.{Within}
 use Rattle.mesh.specs.Mesh.{Built}
 use Rattle.coarsen.specs.Pairs.{Mutual, Paired, mutual-matching, mutual-paired}
@@ -48,17 +49,6 @@ image-below f n (x ∷ l) h j b =
     (λ q. clash q (image-below f n l (λ v m. h v (or-intror (eqb v x) (memb v l) m)) j b)))
     (λ e. e)
 
-keep-front : (p : ℕ → Bool) (n k : ℕ) → n ≤ k → ((j : ℕ) → n ≤ j → p j ≡ false) → keep p (range k) ≡ keep p (range n)
-keep-front p n k b h =
-    let s : k ≡ n + (k - n) = omega arith in
-    ap (λ (x : ℕ). keep p (range x)) s ∙ keep-add p 0 n (k - n)
-    ∙ ap (λ l. keep p (range n) ++ l) (keep-none-from p (0 + n) (k - n) (λ j lo hi. h j (omega arith))) ∙ append-nil (keep p (range n))
-
-rising-front : (ws : List ℕ) (W s n : ℕ) (p : ℕ → Bool) → n ≤ W * 64 → ((j : ℕ) → j < W * 64 → held ws W s j ≡ p j) → ((j : ℕ) → n ≤ j → p j ≡ false)
-    → risingOf ws W s ≡ keep p (range n)
-unfolding risingOf
-rising-front ws W s n p b h f = keep-ext (held ws W s) p (W * 64) h ∙ keep-front p n (W * 64) b f
-
 rising-memb : (ws : List ℕ) (W s v : ℕ) → memb v (risingOf ws W s) ≡ true → (v < W * 64) × (held ws W s v ≡ true)
 unfolding risingOf
 rising-memb ws W s v m = (kept-below (held ws W s) (W * 64) v m, keep-passes v (held ws W s) (range (W * 64)) m)
@@ -76,6 +66,7 @@ levelIn ws nets weights m vw n places k = record { graph = graphIn ws nets weigh
 pub record Coarser (ws : List ℕ) (nets : ℕ) (weights : List ℕ) (m : ℕ) (vw : List Float) (mates : List ℕ) (nets₂ vertices₂ : ℕ)
     (ws′ weights′ : List ℕ) (m′ : ℕ) (vw′ : List Float) (n′ : ℕ) (places′ : List ℕ) : Type 0 where
   pub few : (m′ ≤ m) × (n′ ≤ length vw)
+  pub some-left : 0 < length vw → 0 < n′
   pub level-is : (maxw : Float) → levelIn ws′ nets₂ weights′ m′ vw′ n′ places′ (length vw) ≡ levelOf (graphIn ws nets weights m vw) maxw mates
   pub meshed : Meshed ws′ nets₂ vertices₂ m′ n′
   pub within : Within ws′ nets₂ m′ n′
@@ -131,6 +122,7 @@ module _ (ws ws₁ ws₂ : List ℕ) (nets nets₂ vertices₂ m : ℕ) (weights
   coarser-made =
       record {
         few = (eb .few, j .few);
+        some-left = λ b. omega (arith, j .counts, coarse-below mates (length vw) 0 paired b);
         level-is = λ maxw i. record {
           graph = record { weights = j .weighs i; nets = nets-are i };
           places = take-is (coarseIn mates) (length vw) places′ (omega (arith, j .long .0, fits .0)) (j .stands) i;

@@ -35,7 +35,7 @@ pub among-all : (l : List ℕ) (j : ℕ) → among l 0 (length l) j ≡ memb j l
 among-all [] j = refl
 among-all (x ∷ l) j = among-cons x l (length l) j ∙ ap (λ (b : Bool). eqb j x || b) (among-all l j)
 
-memb-at : (l : List ℕ) (k : ℕ) → k < length l → memb (getD l k 0) l ≡ true
+pub memb-at : (l : List ℕ) (k : ℕ) → k < length l → memb (getD l k 0) l ≡ true
 memb-at [] k h = absurd (omega arith)
 memb-at (x ∷ l) zero h = memb-head x l
 memb-at (x ∷ l) (suc k) h = or-intror (eqb (getD l k 0) x) (memb (getD l k 0) l) (memb-at l k (omega arith))
@@ -50,6 +50,29 @@ rising-at ws W s k h = rw (zero-add k) (kept-at (held ws W s) (W * 64) k h)
 pub rising-few : (ws : List ℕ) (W s : ℕ) → length (risingOf ws W s) ≤ W * 64
 unfolding risingOf
 rising-few ws W s = kept-few (held ws W s) (W * 64)
+
+-- what held for the numbers below e holds for those below suc e
+pub one-more : (a : ℕ → Bool) (x e : ℕ) → ((ltb x e && a x) || (a e && eqb x e)) ≡ (ltb x (suc e) && a x)
+one-more a x e =
+    elim (ℕ-discrete x e) [
+      | yes q ↦ rw (eq-eqb x e q, le-ltb x e (omega arith), lt-ltb x (suc e) (omega arith)) (rw q (and-yes (a e)))
+      | no q ↦ rw (ne-eqb x e q) (or-no (ltb x e && a x) (a e) ∙ ap (λ (z : Bool). z && a x) (same q))
+    ]
+  where
+    and-yes : (z : Bool) → (z && true) ≡ z
+    and-yes true = refl
+    and-yes false = refl
+
+    or-no : (y z : Bool) → (y || (z && false)) ≡ y
+    or-no true z = refl
+    or-no false true = refl
+    or-no false false = refl
+
+    same : (x ≡ e → ⊥) → ltb x e ≡ ltb x (suc e)
+    same q =
+        by-cases (ltb x e)
+        (λ h. h ∙ sym (lt-ltb x (suc e) (omega (arith, ltb-true x e h))))
+        (λ h. h ∙ sym (le-ltb x (suc e) (omega (arith, ltb-false x e h, q))))
 
 -- ---- net after net ----
 
@@ -80,28 +103,6 @@ module _ (nets vertices : ℕ) where
   pub record Crosses (ws : List ℕ) (n e : ℕ) (t : List ℕ) : Type 0 where
     pub stays : Stays (vertices * 4) ((vertices + 128) * 4) ws t
     pub holds : (v x : ℕ) → v < n → x < 256 → held t 4 (vertices + v) x ≡ (ltb x e && held ws 2 (nets + x) v)
-
-  one-more : (a : ℕ → Bool) (x e : ℕ) → ((ltb x e && a x) || (a e && eqb x e)) ≡ (ltb x (suc e) && a x)
-  one-more a x e =
-      elim (ℕ-discrete x e) [
-        | yes q ↦ rw (eq-eqb x e q, le-ltb x e (omega arith), lt-ltb x (suc e) (omega arith)) (rw q (and-yes (a e)))
-        | no q ↦ rw (ne-eqb x e q) (or-no (ltb x e && a x) (a e) ∙ ap (λ (z : Bool). z && a x) (same q))
-      ]
-    where
-      and-yes : (z : Bool) → (z && true) ≡ z
-      and-yes true = refl
-      and-yes false = refl
-
-      or-no : (y z : Bool) → (y || (z && false)) ≡ y
-      or-no true z = refl
-      or-no false true = refl
-      or-no false false = refl
-
-      same : (x ≡ e → ⊥) → ltb x e ≡ ltb x (suc e)
-      same q =
-          by-cases (ltb x e)
-          (λ h. h ∙ sym (lt-ltb x (suc e) (omega (arith, ltb-true x e h))))
-          (λ h. h ∙ sym (le-ltb x (suc e) (omega (arith, ltb-false x e h, q))))
 
   module _ (ws : List ℕ) (n m : ℕ) (few : (m ≤ 256) × (n ≤ 128)) (apart : nets + 256 ≤ vertices * 2) (room : (vertices + 128) * 4 ≤ length ws) where
     step : (e : ℕ) (t : List ℕ) → e < m → Crosses ws n e t → Crosses ws n (suc e) (crossedNet e t)

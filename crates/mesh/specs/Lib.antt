@@ -1,4 +1,5 @@
 pub mod Stays
+pub mod Fronts
 pub mod Entries
 pub mod Crossed
 pub mod Compact
