@@ -2,6 +2,7 @@
 ghost use mathlib.Core.Path.{_≡_};
 ghost use Prim.Native.Nat.{_+_, _*_, _<_, _≤_};
 ghost use lib.ListN.{length};
+ghost use Rattle.spec.specs.Network.{Network};
 ghost use Rattle.hypergraph.specs.Raw.{leafPut, raw};
 ghost use Rattle.hypergraph.specs.Whole.{Names, IsOf};
 
@@ -38,7 +39,7 @@ pub fn hypergraph_of(
     pins: &mut [u16],
 ) -> usize
     requires { ⌜ (length (now weights) ≤ 256) × (length (now leaves) ≤ 128) × (length (now vw) ≡ length (now leaves)) × (length (now weights) ≤ length (now weights2)) × (nets + 256 ≤ vertices * 2) × ((vertices + 128) * 4 ≤ length (now graph)) × (nets < 32768) × (vertices < 32768) × (128 ≤ length (now pins)) ⌝ }
-    ensures { λ r. ⌜ ((N : Net) → Names N (now (weights .entry)) (now (counts .entry)) (now (legs .entry)) (now (leaves .entry)) → IsOf N (now (leaves .entry)) (now (graph .entry)) nets vertices (length (now (weights .entry))) (now (graph .exit)) (now (weights2 .exit)) r (now (vw .exit))) ⌝ }
+    ensures { λ r. ⌜ ((N : Network) → Names N (now (weights .entry)) (now (counts .entry)) (now (legs .entry)) (now (leaves .entry)) → IsOf N (now (leaves .entry)) (now (graph .entry)) nets vertices (length (now (weights .entry))) (now (graph .exit)) (now (weights2 .exit)) r (now (vw .exit))) ⌝ }
 {
     put_leaves(graph, nets, counts, legs, leaves);
     cells::fillf(vw, 1.0);
