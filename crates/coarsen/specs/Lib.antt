@@ -1,0 +1,4 @@
+pub mod Pairs
+pub mod Joined
+pub mod Mapped
+pub mod Level

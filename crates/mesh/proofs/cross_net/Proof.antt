@@ -1,0 +1,32 @@
+-- Assumes nothing.
+use borrow.Author.Needs.{needs}
+use Rattle.mesh.specs.Crossed.{crossed-listed, rising-few}
+use Rattle.ratings.specs.Rated.{listed-pins}
+use native.Mathlib.Omega.{arith}
+use Prim.Native.Nat.{_+_, _-_}
+use mathlib.Core.Path.{_∙_}
+use Rattle.mesh.proofs.cross_net.Statement.{statement}
+use Rattle.mesh.proofs.cross_net.Tie as tie
+
+add-members : tie.Need-add-members
+add-members c = search needs
+
+members-requires : tie.Need-members-requires
+members-requires c κs = search needs
+
+put-into-requires : tie.Need-put-into-requires
+put-into-requires c κs = let d = c .before .before .before .before .before .before .before .before .before in let a = d .args in let o = c .before .before .before .before .members in (omega arith, d .pre .1, omega (arith, o .ensures .0, rising-few (a .graph .now) 2 (a .nets + a .e)))
+
+same-length : tie.Need-same-length
+same-length c = search needs
+
+same-length-2 : tie.Need-same-length-2
+same-length-2 c = search needs
+
+returns : tie.Need-returns
+returns c = let d = c .before .before .before .before .before .before .before .before .before .before .before .before in let a = d .args in let o = c .before .before .before .before .before .before .before .members in (c .before .before .put-into .ensures ∙ crossed-listed (a .nets) (a .vertices) (a .e) (o .result) (a .graph .now) _ (o .ensures .0) (listed-pins (a .graph .now) (a .pins .now) _ (a .nets + a .e) (o .result) (o .ensures .0) (o .ensures .1) (d .pre .3)), search needs)
+
+pub cross-net-spec : {M : Type 1} → statement M
+cross-net-spec =
+    tie.close
+    (tie.spec add-members members-requires put-into-requires same-length same-length-2 returns)
