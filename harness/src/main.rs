@@ -19,6 +19,7 @@ mod port;
 mod reconfigure;
 mod record;
 mod rust;
+mod slice;
 mod small;
 mod tree_record;
 mod trees;
@@ -39,7 +40,7 @@ const GREEDY_RUNS: &str = concat!(env!("CARGO_MANIFEST_DIR"), "/../crates/greedy
 /// The crate whose input and output `reconfigure-record` writes.
 const RECONF_RUNS: &str = concat!(env!("CARGO_MANIFEST_DIR"), "/../crates/reconfruns");
 
-const USAGE: &str = "usage: harness compare|greedy|reconfigure [NETWORKS [SEED]] | bisect [NETWORKS [SEED [LEAVES]]] | bench | greedy-bench | reconfigure-bench | record | tree-record | greedy-record | reconfigure-record";
+const USAGE: &str = "usage: harness compare|greedy|reconfigure|slice [NETWORKS [SEED]] | bisect [NETWORKS [SEED [LEAVES]]] | bench | greedy-bench | reconfigure-bench | record | tree-record | greedy-record | reconfigure-record";
 
 fn compare(count: usize, seed: u64) -> ExitCode {
     if !port::AT_HAND {
@@ -92,6 +93,7 @@ fn main() -> ExitCode {
             ExitCode::SUCCESS
         }
         (Some("reconfigure-record"), ..) => recorded("reconfruns", reconfigure::record::run(Path::new(RECONF_RUNS))),
+        (Some("slice"), Some(count), Some(seed)) => slice::run(count as usize, seed),
         (Some("bisect"), Some(count), Some(seed)) => {
             match bisect::run(count as usize, seed, number(3, 128).unwrap_or(128) as usize) {
                 Ok(()) => ExitCode::SUCCESS,

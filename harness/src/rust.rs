@@ -49,7 +49,7 @@ pub struct Answer {
 
 #[cfg(path_rs)]
 pub use compiled::{
-    bisection, greedy, greedy_call, quiet_caught_panics, reconfigure, reconfigure_call, tree_cost_call, valid_cost_call,
+    bisection, greedy, greedy_call, quiet_caught_panics, reconfigure, reconfigure_call, slice, tree_cost_call, valid_cost_call,
 };
 
 /// Runs path.rs, if it is at hand. A case without a tree is one with no internal node.
@@ -62,7 +62,8 @@ pub fn answer(case: &Case) -> Option<Answer> {
 
 #[cfg(not(path_rs))]
 pub use missing::{
-    answer, bisection, greedy, greedy_call, quiet_caught_panics, reconfigure, reconfigure_call, tree_cost_call, valid_cost_call,
+    answer, bisection, greedy, greedy_call, quiet_caught_panics, reconfigure, reconfigure_call, slice, tree_cost_call,
+    valid_cost_call,
 };
 
 #[cfg(not(path_rs))]
@@ -86,6 +87,10 @@ mod missing {
     }
 
     pub fn reconfigure(_case: &Case, _k: usize, _limit: Option<f64>, _passes: usize) -> Option<(Tree, u64)> {
+        None
+    }
+
+    pub fn slice(_case: &Case, _target: u16, _improving: bool) -> Option<(Tree, Vec<bool>)> {
         None
     }
 
@@ -220,6 +225,13 @@ mod compiled {
         let mut input = Input::new(case);
         let rebuilt = path::reconfigure(&input.network, &mut input.tree, &input.sliced, k, limit, passes);
         Some((input.tree.children.iter().map(|pair| pair.map(|v| v as u16)).collect(), rebuilt as u64))
+    }
+
+    /// The tree and the flags that `slice_tree` leaves of a valid tree.
+    pub fn slice(case: &Case, target: u16, improving: bool) -> Option<(Tree, Vec<bool>)> {
+        let mut input = Input::new(case);
+        let flags = path::slice_tree(&input.network, &mut input.tree, f64::from(target), improving);
+        Some((input.tree.children.iter().map(|pair| pair.map(|v| v as u16)).collect(), flags))
     }
 
     pub fn reconfigure_call<'a>(case: &Case, k: usize, limit: Option<f64>, passes: usize) -> Call<'a> {

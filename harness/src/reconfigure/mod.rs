@@ -2,7 +2,7 @@
 
 pub mod bench;
 pub mod call;
-mod cases;
+pub mod cases;
 pub mod model;
 pub mod record;
 #[cfg(test)]
@@ -21,8 +21,8 @@ const TOLD: usize = 10;
 /// A network with a valid tree, flags, and what is asked.
 #[derive(Clone, Debug)]
 pub struct Question {
-    network: Network,
-    tree: Tree,
+    pub network: Network,
+    pub tree: Tree,
     flags: Vec<bool>,
     ask: Ask,
 }

@@ -9,7 +9,7 @@ const INFINITE: u64 = u64::MAX;
 const LOCALS: usize = 128;
 
 /// A set of indices.
-type Set = [u128; 2];
+pub type Set = [u128; 2];
 
 const fn both(a: Set, b: Set) -> Set {
     [a[0] | b[0], a[1] | b[1]]
@@ -46,7 +46,7 @@ pub struct Improved {
     pub tried: u64,
 }
 
-struct Reading {
+pub struct Reading {
     n: usize,
     leaves: Vec<Set>,
     outputs: Set,
@@ -57,14 +57,14 @@ struct Reading {
 }
 
 /// What each node lists, and its work bits.
-struct Prices {
-    order: Vec<usize>,
-    sets: Vec<Set>,
-    works: Vec<u32>,
+pub struct Prices {
+    pub order: Vec<usize>,
+    pub sets: Vec<Set>,
+    pub works: Vec<u32>,
 }
 
 impl Reading {
-    fn new(network: &Network, flags: &[bool], ask: Ask) -> Self {
+    pub fn new(network: &Network, flags: &[bool], ask: Ask) -> Self {
         let flagged = |i: usize| flags.get(i).copied().unwrap_or(false);
         let unsliced: Vec<u16> = (0..network.weights.len()).filter(|&i| !flagged(i)).map(|i| i as u16).collect();
         Self {
@@ -77,7 +77,7 @@ impl Reading {
         }
     }
 
-    fn weight(&self, set: Set) -> u32 {
+    pub fn weight(&self, set: Set) -> u32 {
         members(set).map(|i| self.weights[i]).sum()
     }
 
@@ -90,7 +90,7 @@ impl Reading {
         order.push(v);
     }
 
-    fn prices(&self, tree: &Tree) -> Prices {
+    pub fn prices(&self, tree: &Tree) -> Prices {
         let nodes = self.n + tree.len();
         let (mut order, mut below, mut outside) = (Vec::new(), vec![[0; 2]; nodes], vec![[0; 2]; nodes]);
         if nodes > 0 {
@@ -120,7 +120,7 @@ impl Reading {
         prices.order.iter().fold(0, |sum, &v| plus(sum, power(prices.works[v])))
     }
 
-    fn dangling(&self) -> bool {
+    pub fn dangling(&self) -> bool {
         (0..self.weights.len()).any(|i| {
             let holds = |set: &Set| set[i / 128] >> (i % 128) & 1 == 1;
             !holds(&self.outputs) && self.leaves.iter().filter(|set| holds(set)).count() == 1
