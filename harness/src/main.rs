@@ -19,7 +19,7 @@ mod port;
 mod reconfigure;
 mod record;
 mod rust;
-mod slicing;
+mod slice;
 mod small;
 mod tree_record;
 mod trees;
@@ -40,7 +40,7 @@ const GREEDY_RUNS: &str = concat!(env!("CARGO_MANIFEST_DIR"), "/../crates/greedy
 /// The crate whose input and output `reconfigure-record` writes.
 const RECONF_RUNS: &str = concat!(env!("CARGO_MANIFEST_DIR"), "/../crates/reconfruns");
 
-const USAGE: &str = "usage: harness compare|greedy|reconfigure|slicing [NETWORKS [SEED]] | bisect [NETWORKS [SEED [LEAVES]]] | bench | greedy-bench | reconfigure-bench | slicing-bench | record | tree-record | greedy-record | reconfigure-record";
+const USAGE: &str = "usage: harness compare|greedy|reconfigure|slice [NETWORKS [SEED]] | bisect [NETWORKS [SEED [LEAVES]]] | bench | greedy-bench | reconfigure-bench | slice-bench | record | tree-record | greedy-record | reconfigure-record";
 
 fn compare(count: usize, seed: u64) -> ExitCode {
     if !port::AT_HAND {
@@ -93,9 +93,9 @@ fn main() -> ExitCode {
             ExitCode::SUCCESS
         }
         (Some("reconfigure-record"), ..) => recorded("reconfruns", reconfigure::record::run(Path::new(RECONF_RUNS))),
-        (Some("slicing"), Some(count), Some(seed)) => slicing::run(count as usize, seed),
-        (Some("slicing-bench"), ..) => {
-            slicing::bench::run();
+        (Some("slice"), Some(count), Some(seed)) => slice::run(count as usize, seed),
+        (Some("slice-bench"), ..) => {
+            slice::bench::run();
             ExitCode::SUCCESS
         }
         (Some("bisect"), Some(count), Some(seed)) => {

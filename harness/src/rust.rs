@@ -49,8 +49,8 @@ pub struct Answer {
 
 #[cfg(path_rs)]
 pub use compiled::{
-    bisection, greedy, greedy_call, quiet_caught_panics, reconfigure, reconfigure_call, slice_tree, slice_tree_call,
-    tree_cost_call, valid_cost_call,
+    bisection, greedy, greedy_call, quiet_caught_panics, reconfigure, reconfigure_call, slice, slice_call, tree_cost_call,
+    valid_cost_call,
 };
 
 /// Runs path.rs, if it is at hand. A case without a tree is one with no internal node.
@@ -63,7 +63,7 @@ pub fn answer(case: &Case) -> Option<Answer> {
 
 #[cfg(not(path_rs))]
 pub use missing::{
-    answer, bisection, greedy, greedy_call, quiet_caught_panics, reconfigure, reconfigure_call, slice_tree, slice_tree_call,
+    answer, bisection, greedy, greedy_call, quiet_caught_panics, reconfigure, reconfigure_call, slice, slice_call,
     tree_cost_call, valid_cost_call,
 };
 
@@ -91,15 +91,15 @@ mod missing {
         None
     }
 
+    pub fn slice(_case: &Case, _target: u16, _improving: bool) -> Option<(Tree, Vec<bool>)> {
+        None
+    }
+
     pub fn reconfigure_call<'a>(_case: &Case, _k: usize, _limit: Option<f64>, _passes: usize) -> Call<'a> {
         None
     }
 
-    pub fn slice_tree(_case: &Case, _target: f64, _improving: bool) -> Option<(Tree, Vec<bool>)> {
-        None
-    }
-
-    pub fn slice_tree_call<'a>(_case: &Case, _target: f64, _improving: bool) -> Call<'a> {
+    pub fn slice_call<'a>(_case: &Case, _target: u16, _improving: bool) -> Call<'a> {
         None
     }
 
@@ -232,26 +232,26 @@ mod compiled {
         Some((input.tree.children.iter().map(|pair| pair.map(|v| v as u16)).collect(), rebuilt as u64))
     }
 
+    /// The tree and the flags that `slice_tree` leaves of a valid tree.
+    pub fn slice(case: &Case, target: u16, improving: bool) -> Option<(Tree, Vec<bool>)> {
+        let mut input = Input::new(case);
+        let flags = path::slice_tree(&input.network, &mut input.tree, f64::from(target), improving);
+        Some((input.tree.children.iter().map(|pair| pair.map(|v| v as u16)).collect(), flags))
+    }
+
+    pub fn slice_call<'a>(case: &Case, target: u16, improving: bool) -> Call<'a> {
+        let input = Input::new(case);
+        Some(Box::new(move || {
+            let mut tree = input.tree.clone();
+            black_box(path::slice_tree(&input.network, &mut tree, f64::from(target), improving));
+        }))
+    }
+
     pub fn reconfigure_call<'a>(case: &Case, k: usize, limit: Option<f64>, passes: usize) -> Call<'a> {
         let input = Input::new(case);
         Some(Box::new(move || {
             let mut tree = input.tree.clone();
             black_box(path::reconfigure(&input.network, &mut tree, &input.sliced, k, limit, passes));
-        }))
-    }
-
-    /// The tree that `slice_tree` leaves of a valid one, and its flags.
-    pub fn slice_tree(case: &Case, target: f64, improving: bool) -> Option<(Tree, Vec<bool>)> {
-        let mut input = Input::new(case);
-        let flags = path::slice_tree(&input.network, &mut input.tree, target, improving);
-        Some((input.tree.children.iter().map(|pair| pair.map(|v| v as u16)).collect(), flags))
-    }
-
-    pub fn slice_tree_call<'a>(case: &Case, target: f64, improving: bool) -> Call<'a> {
-        let input = Input::new(case);
-        Some(Box::new(move || {
-            let mut tree = input.tree.clone();
-            black_box(path::slice_tree(&input.network, &mut tree, target, improving));
         }))
     }
 

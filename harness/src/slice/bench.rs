@@ -1,9 +1,10 @@
 //! Slicing on both sides, of greedy's trees of pedigrees of 8 to 128 tables, to three bits below the widest table.
 
-use super::call::{self, words, Call, Lent};
-use super::Question;
+use super::call::{self, words, Lent};
+use super::model::Target;
 use crate::case::{Case, LEAVES};
 use crate::greedy::bench::{least_and_median, time};
+use crate::greedy::call::Given;
 use crate::reconfigure::{bench::network, model};
 use crate::{port, rust};
 use std::hint::black_box;
@@ -13,20 +14,21 @@ const TABLES: [usize; 5] = [8, 22, 41, 64, LEAVES];
 const CALLS: usize = 21;
 
 fn row(leaf_count: usize, improving: bool) {
-    let network = network(leaf_count);
-    let case = Case { network: network.clone(), tree: None, flags: None };
+    let mut case = Case { network: network(leaf_count), tree: None, flags: None };
     let Some(tree) = rust::greedy(&case) else { return };
-    let target = model::price(&network, &tree, &[]).1.saturating_sub(3) as u16;
-    let question = Question { network, tree, target, improving };
-    let call: Call = question.call();
-    let indices = question.network.weights.len();
-    let mut lent = Lent { flags: vec![0; indices], words: vec![0; words(improving)], answer: vec![0; 2] };
-    let mut rust = rust::slice_tree_call(&question.case(), target.into(), improving);
+    let bits = model::price(&case.network, &tree, &[]).1.saturating_sub(3) as u16;
+    let (given, target) = (Given::new(&case.network), Target { bits, improving });
+    case.tree = Some(tree.clone());
+    let mut flags = Vec::new();
+    let mut rust = rust::slice_call(&case, bits, improving);
     let mut times = [Vec::new(), Vec::new()];
     for _ in 0..CALLS {
         if port::AT_HAND {
-            let mut tree = question.tree.as_flattened().to_vec();
-            times[0].push(time(|| assert_eq!(call::slice_tree(black_box(&call), black_box(&mut tree), black_box(&mut lent)), 0)));
+            let indices = case.network.weights.len();
+            let (words, answer) = (vec![0; words(improving)], vec![0; 2]);
+            let mut lent = Lent { tree: tree.as_flattened().to_vec(), flags: vec![0; indices], words, answer };
+            times[0].push(time(|| assert_eq!(call::slice(black_box(&given), target, black_box(&mut lent)), 0)));
+            flags = lent.flags;
         }
         if let Some(rust) = &mut rust {
             times[1].push(time(rust));
@@ -36,7 +38,7 @@ fn row(leaf_count: usize, improving: bool) {
     let show = |time: Option<(f64, f64)>| time.map_or("-".into(), |(least, median)| format!("{least:.0} ({median:.0})"));
     let ratio = port.zip(rust).map_or("-".into(), |(port, rust)| format!("{:.2}", port.0 / rust.0));
     let name = format!("{leaf_count} tables{}", if improving { ", improving" } else { "" });
-    let sliced = lent.flags.iter().filter(|&&flag| flag == 1).count();
+    let sliced = flags.iter().filter(|&&flag| flag == 1).count();
     println!("{name:<24} {:>20} {:>20} {ratio:>8} {sliced:>10}", show(port), show(rust));
 }
 
