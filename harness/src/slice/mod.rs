@@ -29,39 +29,33 @@ struct Counts {
     /// Refused 10, and 11.
     beyond: usize,
     dangling: usize,
-    /// path.rs takes another index, which the second reading takes too with path.rs's tolerance.
-    tolerance: usize,
+    /// path.rs has another answer, and a choice was close.
+    close: usize,
     unnamed: usize,
 }
 
 enum Outcome {
     Same(Sliced),
     Refused(u32),
-    Tolerance,
+    Close,
 }
 
 /// The port must agree with the second reading, refusals and splits included, and with path.rs on children and flags where nothing is refused.
 fn outcome(question: &Question, target: Target) -> Result<Outcome, String> {
     let Question { network, tree, .. } = question;
     let port = call::answer(&Given::new(network), tree, target)?;
-    let read = model::slice(network, tree, target, model::exact);
-    if port != read {
+    let read = model::slice(network, tree, target);
+    if port != read.clone().map(|(sliced, _)| sliced) {
         return Err(format!("port {port:?}, second reading {read:?}"));
     }
-    let sliced = match port {
+    let (sliced, close) = match read {
         Err(number) => return Ok(Outcome::Refused(number)),
-        Ok(sliced) => sliced,
+        Ok(read) => read,
     };
     let case = Case { network: network.clone(), tree: Some(tree.clone()), flags: None };
-    let plan = |sliced: Sliced| (sliced.tree, sliced.flags);
     match rust::slice(&case, target.bits, target.improving) {
-        Some(rust) if rust != plan(sliced.clone()) => {
-            let tolerant = model::slice(network, tree, target, model::tolerant).map(plan);
-            if tolerant.as_ref() == Ok(&rust) {
-                Ok(Outcome::Tolerance)
-            } else {
-                Err(format!("port {sliced:?}, Rust {rust:?}"))
-            }
+        Some(rust) if rust != (sliced.tree.clone(), sliced.flags.clone()) => {
+            close.then_some(Outcome::Close).ok_or_else(|| format!("port {sliced:?}, Rust {rust:?}"))
         }
         _ => Ok(Outcome::Same(sliced)),
     }
@@ -84,7 +78,7 @@ impl Comparison {
             }
             Ok(Outcome::Refused(10)) => counts.beyond += 1,
             Ok(Outcome::Refused(11)) => counts.dangling += 1,
-            Ok(Outcome::Tolerance) => counts.tolerance += 1,
+            Ok(Outcome::Close) => counts.close += 1,
             Ok(Outcome::Refused(number)) => self.unnamed(question, target, &format!("refused {number}")),
             Err(error) => self.unnamed(question, target, &error),
         }
@@ -101,14 +95,14 @@ impl Comparison {
     fn tell(&self, name: &str, before: Counts) {
         let now = self.counts;
         println!(
-            "{name:<22} {:>6} questions: {:>6} same, {:>6} of them sliced, {:>6} rebuilt, {:>5} refused 10, {:>5} refused 11, {} by tolerance, {} unnamed",
+            "{name:<22} {:>6} questions: {:>6} same, {:>6} of them sliced, {:>6} rebuilt, {:>5} refused 10, {:>5} refused 11, {} close, {} unnamed",
             now.questions - before.questions,
             now.same - before.same,
             now.sliced - before.sliced,
             now.rebuilt - before.rebuilt,
             now.beyond - before.beyond,
             now.dangling - before.dangling,
-            now.tolerance - before.tolerance,
+            now.close - before.close,
             now.unnamed - before.unnamed,
         );
     }

@@ -24,25 +24,16 @@ const fn ask(limit: Option<u32>) -> Ask {
     Ask { k: 8, passes: 1, limit }
 }
 
-/// What ranks an index: its cost, and the summed size of the tables above the target that list it.
-type Rank = (u128, u32);
+/// What ranks an index: its cost, the summed size of the tables above the target that list it, and its number.
+type Rank = (u128, Reverse<u32>, usize);
 
-/// Which of two candidates, the second of a higher index, is rather sliced.
-pub type Rule = fn(Rank, Rank) -> bool;
-
-/// The document's rule: the least cost, then the largest summed size.
-pub fn exact(first: Rank, next: Rank) -> bool {
-    (next.0, Reverse(next.1)) < (first.0, Reverse(first.1))
+/// Whether the least undercuts another candidate by no more than one part in 10^9: there the Rust may take another.
+fn is_close(least: Rank, ranks: &[Rank]) -> bool {
+    ranks.iter().any(|other| other.2 != least.2 && (other.0 - least.0) * 1_000_000_000 <= other.0)
 }
 
-/// path.rs's rule, in whole numbers: costs within 1e-12 of each other are as good as equal.
-pub fn tolerant(first: Rank, next: Rank) -> bool {
-    const WHOLE: u128 = 1_000_000_000_000;
-    next.0 * WHOLE < first.0 * (WHOLE - 1) || (next.0 * WHOLE <= first.0 * (WHOLE + 1) && next.1 > first.1)
-}
-
-/// The index that is sliced next, if a table is above the target and has one.
-fn choice(network: &Network, sliced: &Sliced, target: u32, rule: Rule) -> Option<usize> {
+/// The index that is sliced next, if a table is above the target and has one, and whether the choice is close.
+fn choice(network: &Network, sliced: &Sliced, target: u32) -> Option<(usize, bool)> {
     let reading = Reading::new(network, &sliced.flags, ask(None));
     let prices = reading.prices(&sliced.tree);
     let sizes: Vec<u32> = prices.sets.iter().map(|&set| reading.weight(set)).collect();
@@ -56,15 +47,15 @@ fn choice(network: &Network, sliced: &Sliced, target: u32, rule: Rule) -> Option
         let part: u128 = prices.order.iter().filter(|&&v| involved(v, i)).map(|&v| work(v)).sum();
         (total - part << network.weights[i]) + part
     };
-    (0..network.weights.len())
-        .filter(|&i| !network.outputs.contains(&(i as u16)) && !sliced.flags[i] && network.weights[i] > 0 && touched(i) > 0)
-        .map(|i| (i, (cost(i), touched(i))))
-        .reduce(|first, next| if rule(first.1, next.1) { next } else { first })
-        .map(|(i, _)| i)
+    let open =
+        |&i: &usize| !network.outputs.contains(&(i as u16)) && !sliced.flags[i] && network.weights[i] > 0 && touched(i) > 0;
+    let ranks: Vec<Rank> = (0..network.weights.len()).filter(open).map(|i| (cost(i), Reverse(touched(i)), i)).collect();
+    let least = *ranks.iter().min()?;
+    Some((least.2, is_close(least, &ranks)))
 }
 
-/// Slicing of a valid tree of an accepted network by a rule, or its refusal, 10 or 11.
-pub fn slice(network: &Network, tree: &Tree, target: Target, rule: Rule) -> Result<Sliced, u32> {
+/// Slicing of a valid tree of an accepted network, and whether a choice was close; or its refusal, 10 or 11.
+pub fn slice(network: &Network, tree: &Tree, target: Target) -> Result<(Sliced, bool), u32> {
     let none = vec![false; network.weights.len()];
     if model::price(network, tree, &none).0.is_none() {
         return Err(10);
@@ -74,7 +65,9 @@ pub fn slice(network: &Network, tree: &Tree, target: Target, rule: Rule) -> Resu
     }
     let bits = target.bits as u32;
     let mut sliced = Sliced { tree: tree.clone(), flags: none, rebuilt: 0, tried: 0 };
-    while let Some(i) = choice(network, &sliced, bits, rule) {
+    let mut close = false;
+    while let Some((i, is_close)) = choice(network, &sliced, bits) {
+        close |= is_close;
         sliced.flags[i] = true;
         if target.improving {
             let limit = model::price(network, &sliced.tree, &sliced.flags).1.max(bits);
@@ -84,5 +77,5 @@ pub fn slice(network: &Network, tree: &Tree, target: Target, rule: Rule) -> Resu
             sliced.tried += improved.tried;
         }
     }
-    Ok(sliced)
+    Ok((sliced, close))
 }
