@@ -1,5 +1,5 @@
 -- What slicing's entry answers, number and values of each case; the call step by step, and what it leaves behind. Assumes nothing.
-use mathlib.Core.Bool.{Bool, true, false, not, cond}
+use mathlib.Core.Bool.{Bool, true, false, _&&_, cond}
 use mathlib.Core.Path.{_≡_, refl, sym, _∙_, ap, subst}
 use mathlib.Core.List.{List, [], _∷_}
 use mathlib.Core.Option.{none}
@@ -7,136 +7,205 @@ use Prim.Native.Nat.{ℕ, _≤_, _<_}
 use native.Mathlib.Omega.{arith}
 use lib.ListN.{length}
 use borrow.Author.Tests.{lt-ltb, le-ltb}
-use Rattle.spec.specs.Memory.{over, cleared}
+use Rattle.spec.specs.Memory.{cleared}
 use Rattle.spec.specs.Network.{Network, leafCount, indexCount, refusalOf}
-use Rattle.spec.specs.Tree.{pairsOf}
-use Rattle.spec.specs.Refusal.{Refusal, invalidTree, totalBeyond, numberOf, codeOf, Check, check, Result, refused, done, checked}
-use Rattle.spec.specs.Calls.{Lent, lent, lengthCheck, plainWords, wrongTree, treeCheck, beyondCheck, totalIsBeyond, sliceCall, slicedFlags, workspaceAfter}
-use Rattle.spec.specs.Slicing.{Plan, slice, asIs}
+use Rattle.spec.specs.Tree.{pairsOf, flatOf}
+use Rattle.spec.specs.Refusal.{Refusal, invalidTree, totalBeyond, danglingIndex, numberOf, codeOf, Check, check, Result, refused, done, checked}
+use Rattle.spec.specs.Calls.{Lent, lent, lengthCheck, plainWords, sliceWords, wrongTree, treeCheck, beyondCheck, totalIsBeyond, dangling, danglingCheck, danglingIf, sliceCall, slicedTree, slicedFlags, workspaceAfter}
+use Rattle.spec.specs.Slicing.{Plan}
+use Rattle.laws.specs.Booleans.{by-cases}
 use Rattle.walk.specs.Entry.{Untouched, answers, same-words, same-list, holds-first, passes-first, by-network, past-network, by-length, past-length}
 use Rattle.slicetree.specs.declared.Sliced.{Sliced}
-use Rattle.slicetree.specs.Clear.{SlicedValid, flagsFor}
+use Rattle.slicetree.specs.Clear.{flagsFor, planOf, SlicedTo}
 
 -- refused by number, or the counts
 abbrev pub slicedOf : Result Plan → Sliced
 slicedOf (refused r) = Sliced.Refused (numberOf r)
 slicedOf (done p) = Sliced.Done (p .rebuilt) (p .tried)
 
--- the call where the network is accepted and the lists are long enough; and where it is accepted
-unfoldable pub restCall : Network → ℕ → List ℕ → Result Plan
-restCall N target kids =
-    checked (treeCheck N kids ∷ beyondCheck N (λ j. false) (pairsOf kids) ∷ []) (done (slice N target asIs (pairsOf kids)))
+-- the number of the refusal of an unsliced total, or of a dangling index, and 0 for neither
+abbrev pub lateNumber : Network → Bool → List ℕ → ℕ
+lateNumber N improving kids = cond (totalIsBeyond N (λ j. false) (pairsOf kids)) 10 (cond (improving && dangling N) 11 0)
 
-unfoldable pub sliceIn : Network → ℕ → ℕ → ℕ → List ℕ → Result Plan
-sliceIn N target words places kids =
-    checked
-    (lengthCheck (lent words plainWords ∷ lent places (indexCount N) ∷ []) ∷ treeCheck N kids ∷ beyondCheck N (λ j. false) (pairsOf kids) ∷ [])
-    (done (slice N target asIs (pairsOf kids)))
-
-pub record Answered (N : Network) (target : ℕ) (kids flags₀ flags : List ℕ) (r : Sliced) : Type 0 where
-  pub answer : r ≡ slicedOf (restCall N target kids)
-  pub flags-are : flags ≡ slicedFlags N (restCall N target kids) flags₀
-
-pub record Answers (N : Network) (target : ℕ) (kids flags₀ flags ws₀ ws : List ℕ) (r : Sliced) : Type 0 where
-  pub answer : r ≡ slicedOf (sliceIn N target (length ws₀) (length flags₀) kids)
-  pub flags-are : flags ≡ slicedFlags N (sliceIn N target (length ws₀) (length flags₀) kids) flags₀
-  pub workspace : ws ≡ workspaceAfter plainWords (sliceIn N target (length ws₀) (length flags₀) kids) ws₀
-
--- ---- 8 and 10 ----
-
-module _ (N : Network) (target : ℕ) (kids flags : List ℕ) where
+module _ (N : Network) (improving : Bool) (target : ℕ) (kids : List ℕ) where
   abbrev sliced : Result Plan
-  sliced = done (slice N target asIs (pairsOf kids))
+  sliced = done (planOf N improving target kids)
 
-  answered : (c : Result Plan) (new : List ℕ) (r : Sliced) → restCall N target kids ≡ c → r ≡ slicedOf c → new ≡ slicedFlags N c flags
-      → Answered N target kids flags new r
-  answered c new r e f g =
-      record { answer = f ∙ ap slicedOf (sym e); flags-are = g ∙ ap (λ x. slicedFlags N x flags) (sym e) }
+  abbrev late : List Check
+  late = beyondCheck N (λ j. false) (pairsOf kids) ∷ danglingIf N improving
 
-  pub answered-tree : (n : ℕ) → leafCount N ≡ n → wrongTree n kids ≡ true → Answered N target kids flags flags (Sliced.Refused 8)
+  -- the call where the network is accepted and the lists are long enough; and where it is accepted
+  unfoldable pub restCall : Result Plan
+  restCall = checked (treeCheck N kids ∷ late) sliced
+
+  abbrev inChecks : ℕ → ℕ → List Check
+  inChecks words places = lengthCheck (lent words (sliceWords improving) ∷ lent places (indexCount N) ∷ []) ∷ treeCheck N kids ∷ late
+
+  unfoldable pub sliceIn : ℕ → ℕ → Result Plan
+  sliceIn words places = checked (inChecks words places) sliced
+
+  -- the network's own checks
+  pub call-refused : (words places k : ℕ) → k ≡ codeOf (refusalOf N) → (k ≡ 0 → ⊥) → Untouched k (sliceCall N improving target words places kids)
+  unfolding sliceCall
+  call-refused words places k e z = by-network N (inChecks words places) sliced k e z
+
+  pub call-accepted : (words places : ℕ) → refusalOf N ≡ none → sliceCall N improving target words places kids ≡ sliceIn words places
+  unfolding sliceCall sliceIn
+  call-accepted words places e = past-network N (inChecks words places) sliced e
+
+pub record Answered (N : Network) (improving : Bool) (target : ℕ) (kids₀ flags₀ kids flags : List ℕ) (r : Sliced) : Type 0 where
+  pub answer : r ≡ slicedOf (restCall N improving target kids₀)
+  pub tree : kids ≡ slicedTree (restCall N improving target kids₀) kids₀
+  pub flags-are : flags ≡ slicedFlags N (restCall N improving target kids₀) flags₀
+
+pub record Answers (N : Network) (improving : Bool) (target : ℕ) (kids₀ flags₀ ws₀ kids flags ws : List ℕ) (r : Sliced) : Type 0 where
+  pub answer : r ≡ slicedOf (sliceIn N improving target kids₀ (length ws₀) (length flags₀))
+  pub tree : kids ≡ slicedTree (sliceIn N improving target kids₀ (length ws₀) (length flags₀)) kids₀
+  pub flags-are : flags ≡ slicedFlags N (sliceIn N improving target kids₀ (length ws₀) (length flags₀)) flags₀
+  pub workspace : ws ≡ workspaceAfter (sliceWords improving) (sliceIn N improving target kids₀ (length ws₀) (length flags₀)) ws₀
+
+-- ---- the stated workspace ----
+
+pub words-as-is : (improving : Bool) (l : ℕ) → sliceWords improving ≤ l → plainWords ≤ l
+words-as-is true l h = omega arith
+words-as-is false l h = h
+
+pub words-improved : (improving : Bool) (l : ℕ) → improving ≡ true → sliceWords improving ≤ l → sliceWords true ≤ l
+words-improved improving l e h = rw e at h
+
+-- ---- 10 and 11 ----
+
+module _ (N : Network) (improving : Bool) (kids : List ℕ) where
+  pub late-beyond : totalIsBeyond N (λ j. false) (pairsOf kids) ≡ true → 10 ≡ lateNumber N improving kids
+  late-beyond b = rw b
+
+  module _ (b : totalIsBeyond N (λ j. false) (pairsOf kids) ≡ false) where
+    pub late-as-is : improving ≡ false → 0 ≡ lateNumber N improving kids
+    late-as-is e = rw (b, e)
+
+    pub late-improved : improving ≡ true → (d : Bool) → dangling N ≡ d → _≡_ {A = ℕ} (cond d 11 0) (lateNumber N improving kids)
+    late-improved e d h = rw (b, e, h)
+
+  pub late-exact : 0 ≡ lateNumber N improving kids → (totalIsBeyond N (λ j. false) (pairsOf kids) ≡ false) × (improving ≡ true → dangling N ≡ false)
+  late-exact e = go (totalIsBeyond N (λ j. false) (pairsOf kids)) improving (dangling N) e
+    where
+      go : (b i d : Bool) → _≡_ {A = ℕ} 0 (cond b 10 (cond (i && d) 11 0)) → (b ≡ false) × (i ≡ true → d ≡ false)
+      go true i d e = absurd (omega arith)
+      go false true true e = absurd (omega arith)
+      go false true false e = (refl, λ h. refl)
+      go false false true e = (refl, λ h. sym h)
+      go false false false e = (refl, λ h. refl)
+
+-- ---- 8, 10 and 11 ----
+
+module _ (N : Network) (improving : Bool) (target : ℕ) (kids₀ flags₀ : List ℕ) where
+  answered : (c : Result Plan) (kids flags : List ℕ) (r : Sliced) → restCall N improving target kids₀ ≡ c → r ≡ slicedOf c → kids ≡ slicedTree c kids₀
+      → flags ≡ slicedFlags N c flags₀ → Answered N improving target kids₀ flags₀ kids flags r
+  answered c kids flags r e f g h =
+      record {
+        answer = f ∙ ap slicedOf (sym e);
+        tree = g ∙ ap (λ x. slicedTree x kids₀) (sym e);
+        flags-are = h ∙ ap (λ x. slicedFlags N x flags₀) (sym e);
+      }
+
+  pub answered-tree : (n : ℕ) → leafCount N ≡ n → wrongTree n kids₀ ≡ true → Answered N improving target kids₀ flags₀ kids₀ flags₀ (Sliced.Refused 8)
   unfolding restCall
   answered-tree n q h =
-      answered (refused invalidTree) flags (Sliced.Refused 8)
-      (holds-first (treeCheck N kids) (beyondCheck N (λ j. false) (pairsOf kids) ∷ []) sliced (rw q h)) refl refl
+      answered (refused invalidTree) kids₀ flags₀ (Sliced.Refused 8)
+      (holds-first (treeCheck N kids₀) (late N improving target kids₀) (sliced N improving target kids₀) (rw q h)) refl refl refl
 
-  module _ (n : ℕ) (q : leafCount N ≡ n) (right : wrongTree n kids ≡ false) where
-    past-tree : restCall N target kids ≡ checked (beyondCheck N (λ j. false) (pairsOf kids) ∷ []) sliced
+  module _ (n : ℕ) (q : leafCount N ≡ n) (right : wrongTree n kids₀ ≡ false) where
+    past-tree : restCall N improving target kids₀ ≡ checked (late N improving target kids₀) (sliced N improving target kids₀)
     unfolding restCall
-    past-tree = passes-first (treeCheck N kids) (beyondCheck N (λ j. false) (pairsOf kids) ∷ []) sliced (rw q right)
+    past-tree = passes-first (treeCheck N kids₀) (late N improving target kids₀) (sliced N improving target kids₀) (rw q right)
 
-    pub answered-beyond : (r : Bool) (new : List ℕ) → r ≡ false → SlicedValid N target kids flags new r → Answered N target kids flags new (Sliced.Refused 10)
-    answered-beyond r new e s =
-        answered (refused totalBeyond) new (Sliced.Refused 10)
-        (past-tree ∙ holds-first (beyondCheck N (λ j. false) (pairsOf kids)) [] sliced (s .exact ∙ ap not e)) refl (s .flags-are ∙ rw e)
+    late-cases : (b i : Bool) (p : Result Plan) (x : ℕ) → x ≡ cond b 10 (cond (i && dangling N) 11 0) → (x ≡ 0 → ⊥)
+        → restCall N improving target kids₀ ≡ checked (check b totalBeyond ∷ danglingIf N i) p
+        → Answered N improving target kids₀ flags₀ kids₀ flags₀ (Sliced.Refused x)
+    late-cases true i p x e z f = answered (refused totalBeyond) kids₀ flags₀ (Sliced.Refused x) f (rw e) refl refl
+    late-cases false false p x e z f = absurd (z e)
+    late-cases false true p x e z f =
+        by-cases (dangling N)
+        (λ h. answered (refused danglingIndex) kids₀ flags₀ (Sliced.Refused x) (f ∙ holds-first (danglingCheck N) [] p h)
+        (ap (λ (k : ℕ). Sliced.Refused k) (e ∙ ap (λ (d : Bool). cond d 11 0) h)) refl refl)
+        (λ h. absurd (z (e ∙ ap (λ (d : Bool). cond d 11 0) h)))
 
-    pub answered-done : (r : Bool) (new : List ℕ) → r ≡ true → SlicedValid N target kids flags new r → Answered N target kids flags new (Sliced.Done 0 0)
-    answered-done r new e s =
-        answered sliced new (Sliced.Done 0 0)
-        (past-tree ∙ passes-first (beyondCheck N (λ j. false) (pairsOf kids)) [] sliced (s .exact ∙ ap not e))
-        (sym (rw (s .none-rebuilt e .0, s .none-rebuilt e .1))) (s .flags-are ∙ rw e)
+    pub answered-late : (x : ℕ) → x ≡ lateNumber N improving kids₀ → (x ≡ 0 → ⊥)
+        → Answered N improving target kids₀ flags₀ kids₀ flags₀ (Sliced.Refused x)
+    answered-late x e z =
+        late-cases (totalIsBeyond N (λ j. false) (pairsOf kids₀)) improving (sliced N improving target kids₀) x e z past-tree
+
+    none-dangling : (i : Bool) (p : Result Plan) → (i ≡ true → dangling N ≡ false) → checked (danglingIf N i) p ≡ p
+    none-dangling false p f = refl
+    none-dangling true p f = passes-first (danglingCheck N) [] p (f refl)
+
+    pub answered-done : 0 ≡ lateNumber N improving kids₀ → {on : Bool} → improving ≡ on → {kids flags : List ℕ} {rebuilt tried : ℕ}
+        → SlicedTo N on target kids₀ flags₀ kids flags rebuilt tried → Answered N improving target kids₀ flags₀ kids flags (Sliced.Done rebuilt tried)
+    answered-done e i {kids} {flags} {rebuilt} {tried} t =
+        let (b, d) = late-exact N improving kids₀ e in
+        let s : SlicedTo N improving target kids₀ flags₀ kids flags rebuilt tried =
+        subst (λ (on : Bool). SlicedTo N on target kids₀ flags₀ kids flags rebuilt tried) (sym i) t in
+        answered (sliced N improving target kids₀) kids flags (Sliced.Done rebuilt tried)
+        (past-tree
+        ∙ passes-first (beyondCheck N (λ j. false) (pairsOf kids₀)) (danglingIf N improving) (sliced N improving target kids₀) b
+        ∙ none-dangling improving (sliced N improving target kids₀) d)
+        (rw (s .is-rebuilt, s .is-tried)) (s .tree) (s .flags-are)
 
 -- ---- 7, and the rest ----
 
-after-rest : (x y : Bool) (p : Plan) (ws : List ℕ)
-    → cleared ws plainWords ≡ workspaceAfter plainWords (checked (check x invalidTree ∷ check y totalBeyond ∷ []) (done p)) ws
-after-rest true y p ws = refl
-after-rest false true p ws = refl
-after-rest false false p ws = refl
+after-dangling : (d : Bool) (p : Plan) (stated : ℕ) (ws : List ℕ)
+    → cleared ws stated ≡ workspaceAfter stated (checked (check d danglingIndex ∷ []) (done p)) ws
+after-dangling true p stated ws = refl
+after-dangling false p stated ws = refl
 
-module _ (N : Network) (target : ℕ) (kids flags ws : List ℕ) where
+after-rest : (N : Network) (improving x y : Bool) (p : Plan) (stated : ℕ) (ws : List ℕ)
+    → cleared ws stated ≡ workspaceAfter stated (checked (check x invalidTree ∷ check y totalBeyond ∷ danglingIf N improving) (done p)) ws
+after-rest N improving true y p stated ws = refl
+after-rest N improving false true p stated ws = refl
+after-rest N true false false p stated ws = after-dangling (dangling N) p stated ws
+after-rest N false false false p stated ws = refl
+
+module _ (N : Network) (improving : Bool) (target : ℕ) (kids flags ws : List ℕ) where
   abbrev lents : List Lent
-  lents = lent (length ws) plainWords ∷ lent (length flags) (indexCount N) ∷ []
+  lents = lent (length ws) (sliceWords improving) ∷ lent (length flags) (indexCount N) ∷ []
 
   abbrev rest : List Check
-  rest = treeCheck N kids ∷ beyondCheck N (λ j. false) (pairsOf kids) ∷ []
+  rest = treeCheck N kids ∷ late N improving target kids
 
-  quiet : Untouched 7 (sliceIn N target (length ws) (length flags) kids) → Answers N target kids flags flags ws ws (Sliced.Refused 7)
+  quiet : Untouched 7 (sliceIn N improving target kids (length ws) (length flags))
+      → Answers N improving target kids flags ws kids flags ws (Sliced.Refused 7)
   quiet u =
       record {
         answer = answers u slicedOf (λ (k : ℕ). Sliced.Refused k) (λ (r : Refusal). refl);
+        tree = same-list u (λ (p : Plan). flatOf (p .tree)) kids;
         flags-are = same-list u (flagsFor N) flags;
-        workspace = same-words u plainWords ws;
+        workspace = same-words u (sliceWords improving) ws;
       }
 
-  pub few-words : length ws < plainWords → Answers N target kids flags flags ws ws (Sliced.Refused 7)
+  pub few-words : length ws < sliceWords improving → Answers N improving target kids flags ws kids flags ws (Sliced.Refused 7)
   unfolding sliceIn
-  few-words h = quiet (by-length lents rest (done (slice N target asIs (pairsOf kids))) (rw (lt-ltb (length ws) plainWords h)))
+  few-words h = quiet (by-length lents rest (sliced N improving target kids) (rw (lt-ltb (length ws) (sliceWords improving) h)))
 
-  module _ (m : ℕ) (q : indexCount N ≡ m) (long : plainWords ≤ length ws) where
-    pub few-flags : length flags < m → Answers N target kids flags flags ws ws (Sliced.Refused 7)
+  module _ (m : ℕ) (q : indexCount N ≡ m) (long : sliceWords improving ≤ length ws) where
+    pub few-flags : length flags < m → Answers N improving target kids flags ws kids flags ws (Sliced.Refused 7)
     unfolding sliceIn
     few-flags h =
-        quiet (by-length lents rest (done (slice N target asIs (pairsOf kids)))
-        (rw (le-ltb (length ws) plainWords long, lt-ltb (length flags) (indexCount N) (omega (arith, q)))))
+        quiet (by-length lents rest (sliced N improving target kids)
+        (rw (le-ltb (length ws) (sliceWords improving) long, lt-ltb (length flags) (indexCount N) (omega (arith, q)))))
 
-    pub by-rest : m ≤ length flags → (new ws′ : List ℕ) (r : Sliced) → ws′ ≡ cleared ws plainWords → Answered N target kids flags new r
-        → Answers N target kids flags new ws ws′ r
+    pub by-rest : m ≤ length flags → {kids′ flags′ ws′ : List ℕ} {r : Sliced} → ws′ ≡ cleared ws (sliceWords improving)
+        → Answered N improving target kids flags kids′ flags′ r → Answers N improving target kids flags ws kids′ flags′ ws′ r
     unfolding sliceIn restCall
-    by-rest h new ws′ r w a =
-        let e : sliceIn N target (length ws) (length flags) kids ≡ restCall N target kids =
-        past-length lents rest (done (slice N target asIs (pairsOf kids)))
-        (rw (le-ltb (length ws) plainWords long, le-ltb (length flags) (indexCount N) (omega (arith, q)))) in
+    by-rest h w a =
+        let e : sliceIn N improving target kids (length ws) (length flags) ≡ restCall N improving target kids =
+        past-length lents rest (sliced N improving target kids)
+        (rw (le-ltb (length ws) (sliceWords improving) long, le-ltb (length flags) (indexCount N) (omega (arith, q)))) in
         record {
           answer = a .answer ∙ ap slicedOf (sym e);
+          tree = a .tree ∙ ap (λ c. slicedTree c kids) (sym e);
           flags-are = a .flags-are ∙ ap (λ c. slicedFlags N c flags) (sym e);
-          workspace = w ∙ after-rest ((treeCheck N kids) .holds) ((beyondCheck N (λ j. false) (pairsOf kids)) .holds) (slice N target asIs (pairsOf kids)) ws
-              ∙ ap (λ c. workspaceAfter plainWords c ws) (sym e);
+          workspace = w
+              ∙ after-rest N improving ((treeCheck N kids) .holds) ((beyondCheck N (λ j. false) (pairsOf kids)) .holds)
+              (planOf N improving target kids) (sliceWords improving) ws
+              ∙ ap (λ c. workspaceAfter (sliceWords improving) c ws) (sym e);
         }
-
--- ---- the network's own checks ----
-
-module _ (N : Network) (target words places : ℕ) (kids : List ℕ) where
-  abbrev checks : List Check
-  checks =
-      lengthCheck (lent words plainWords ∷ lent places (indexCount N) ∷ [])
-      ∷ treeCheck N kids
-      ∷ beyondCheck N (λ j. false) (pairsOf kids)
-      ∷ []
-
-  pub call-refused : (k : ℕ) → k ≡ codeOf (refusalOf N) → (k ≡ 0 → ⊥) → Untouched k (sliceCall N false target words places kids)
-  unfolding sliceCall
-  call-refused k e z = by-network N checks (done (slice N target asIs (pairsOf kids))) k e z
-
-  pub call-accepted : refusalOf N ≡ none → sliceCall N false target words places kids ≡ sliceIn N target words places kids
-  unfolding sliceCall sliceIn
-  call-accepted e = past-network N checks (done (slice N target asIs (pairsOf kids))) e

@@ -1,97 +1,76 @@
--- Slicing from clear flags, and the flags that go out. Assumes nothing.
+-- Slicing from clear flags, and the tree and the flags that go out. Assumes nothing.
 use mathlib.Core.Bool.{Bool, true, false, not, cond}
-use mathlib.Core.Path.{_≡_, refl, sym, _∙_, ap, fun-ext}
-use mathlib.Core.List.{List, [], map}
-use Prim.Native.Nat.{ℕ, _+_, _^_, _≤_, _<_}
+use mathlib.Core.Path.{_≡_, sym, _∙_, ap, fun-ext}
+use mathlib.Core.List.{List, map}
+use Prim.Native.Nat.{ℕ, _-_, _≤_, _<_}
 use native.Mathlib.Omega.{arith}
 use native.Mathlib.Decide.{ℕ-discrete}
-use lib.Dec.{eqb, ltb}
+use lib.Dec.{eqb}
 use lib.ListN.{length, getD, take}
 use lib.Seq.{ext-getD, length-take-le, getD-take}
-use borrow.Author.Tests.{eq-eqb, ne-eqb, lt-ltb, le-ltb}
-use native.Mathlib.Decide.{decLe}
+use borrow.Author.Tests.{eq-eqb, ne-eqb}
 use Rattle.spec.specs.Lists.{range}
 use Rattle.spec.specs.Memory.{filled, over, copied}
-use Rattle.spec.specs.Network.{Network, indexCount}
-use Rattle.spec.specs.Tree.{pairsOf}
-use Rattle.spec.specs.Price.{Total, upTo, listing, work}
-use Rattle.spec.specs.Calls.{plainWords, flagAt, isBeyond, totalIsBeyond}
-use Rattle.spec.specs.Slicing.{Plan, sliceLoop, slice, asIs}
-use Rattle.laws.specs.Booleans.{clash}
+use Rattle.spec.specs.Layout.{networkOf}
+use Rattle.spec.specs.Network.{Network, leafCount, indexCount}
+use Rattle.spec.specs.Tree.{pairsOf, flatOf}
+use Rattle.spec.specs.Price.{upTo, listing, work}
+use Rattle.spec.specs.Calls.{plainWords, sliceWords, flagAt, wrongTree, isBeyond, totalIsBeyond, dangling, followUp}
+use Rattle.spec.specs.Slicing.{Plan, sliceLoop, slice}
 use Rattle.cells.specs.Cells.{filled-length}
+use Rattle.network.specs.Checks.{Lent}
+use Rattle.network.specs.Codes.{Facts}
 use Rattle.nodesets.specs.Lists.{Ordered, ordered-steps}
 use Rattle.pricing.specs.Promise.{Room}
+use Rattle.pricing.specs.Sums.{workSum}
+use Rattle.reprice.specs.Held.{PriceHeld}
 use Rattle.network.specs.Layouts.{map-range-at, map-range-length}
 use Rattle.ranks.specs.Promise.{planWith}
-use Rattle.slicing.specs.Turns.{Within, Sliced}
-
--- slicing ran, or the total is beyond
-pub record SlicedClear (N : Network) (target : ℕ) (kids flags₀ flags : List ℕ) (r : Bool) : Type 0 where
-  pub exact : totalIsBeyond N (λ j. false) (pairsOf kids) ≡ not r
-  pub same : length flags ≡ length flags₀
-  pub bytes : (j : ℕ) → getD flags j 0 ≤ 1
-  pub plan-is : r ≡ true → planWith flags kids 0 0 ≡ slice N target asIs (pairsOf kids)
+use Rattle.slicing.specs.Turns.{Within}
+use Rattle.reconfigure.specs.Improves.{flat-pairs, over-all, tree-length, beyond-is}
+use Rattle.slicepasses.specs.Asks.{Asks}
+use Rattle.slicepasses.specs.Once.{exact-below}
+use Rattle.slicepasses.specs.Choices.{Stands}
 
 -- a list of one flag an index
 abbrev pub flagsFor : Network → Plan → List ℕ
 flagsFor N p = map (λ j. cond (p .flag j) 1 0) (range (indexCount N))
 
--- the flags go out, unless the total is beyond
-pub record SlicedValid (N : Network) (target : ℕ) (kids flags₀ flags : List ℕ) (r : Bool) : Type 0 where
-  pub exact : totalIsBeyond N (λ j. false) (pairsOf kids) ≡ not r
-  pub flags-are : flags ≡ cond r (over flags₀ (flagsFor N (slice N target asIs (pairsOf kids)))) flags₀
-  pub none-rebuilt : r ≡ true → ((slice N target asIs (pairsOf kids)) .rebuilt ≡ 0) × ((slice N target asIs (pairsOf kids)) .tried ≡ 0)
+-- the plan that slicing answers
+abbrev pub planOf : Network → Bool → ℕ → List ℕ → Plan
+planOf N improving target kids = slice N target (followUp N improving) (pairsOf kids)
+
+-- tree, flags and counts are that plan's
+pub record SlicedTo (N : Network) (improving : Bool) (target : ℕ) (kids₀ flags₀ kids flags : List ℕ) (rebuilt tried : ℕ) : Type 0 where
+  pub tree : kids ≡ over kids₀ (flatOf ((planOf N improving target kids₀) .tree))
+  pub flags-are : flags ≡ over flags₀ (flagsFor N (planOf N improving target kids₀))
+  pub is-rebuilt : rebuilt ≡ (planOf N improving target kids₀) .rebuilt
+  pub is-tried : tried ≡ (planOf N improving target kids₀) .tried
 
 -- ---- clear flags ----
 
-pub clear-flags : (flags : List ℕ) → ((j : ℕ) → getD flags j 0 ≡ 0) → flagAt flags ≡ λ j. false
+clear-flags : (flags : List ℕ) → ((j : ℕ) → getD flags j 0 ≡ 0) → flagAt flags ≡ λ j. false
 clear-flags flags z = fun-ext λ j. rw (eq-eqb (getD flags j 0) 0 (z j))
 
-exact-below : (x : ℕ) → isBeyond (upTo x) ≡ false → x < 9007199254740992
-exact-below x e =
-    elim (decLe 9007199254740992 x) [
-      | yes q ↦ clash (ap (λ b. isBeyond (cond b (Total.exact x) Total.beyond)) (le-ltb x (2 ^ 53) q)) e
-      | no q ↦ omega arith
-    ]
+pub within-clear : (N : Network) (m : ℕ) (kids zeros : List ℕ) → ((j : ℕ) → getD zeros j 0 ≡ 0) → indexCount N ≡ m → m ≤ length zeros
+    → totalIsBeyond N (λ j. false) (pairsOf kids) ≡ false → Within N kids zeros
+within-clear N m kids zeros z q h b =
+    record {
+      places = omega (arith, q);
+      total = exact-below (work (listing N (flagAt zeros) (pairsOf kids))) (ap (λ g. totalIsBeyond N g (pairsOf kids)) (clear-flags zeros z) ∙ b);
+      bytes = λ j. omega (arith, z j);
+    }
 
-module _ (N : Network) (target : ℕ) (kids flags : List ℕ) (z : (j : ℕ) → getD flags j 0 ≡ 0) where
-  abbrev worked : ℕ
-  worked = work (listing N (flagAt flags) (pairsOf kids))
+pub stands-clear : (N : Network) (n m : ℕ) (kids zeros : List ℕ) → ((j : ℕ) → getD zeros j 0 ≡ 0) → indexCount N ≡ m → m ≤ length zeros
+    → totalIsBeyond N (λ j. false) (pairsOf kids) ≡ false → wrongTree n kids ≡ false → Stands N n kids zeros
+stands-clear N n m kids zeros z q h b right = record { right = right; within = within-clear N m kids zeros z q h b }
 
-  beyond-is : (t : Total) (r : Bool) → t ≡ upTo (work (listing N (flagAt flags) (pairsOf kids))) → r ≡ isBeyond t → totalIsBeyond N (λ j. false) (pairsOf kids) ≡ r
-  beyond-is t r e f = ap (λ g. totalIsBeyond N g (pairsOf kids)) (sym (clear-flags flags z)) ∙ ap isBeyond (sym e) ∙ sym f
-
-  pub clear-beyond : (t : Total) (r : Bool) → t ≡ upTo (work (listing N (flagAt flags) (pairsOf kids))) → r ≡ isBeyond t → r ≡ true
-      → SlicedClear N target kids flags flags false
-  clear-beyond t r e f g =
-      record {
-        exact = beyond-is t r e f ∙ g;
-        same = refl;
-        bytes = λ j. omega (arith, z j);
-        plan-is = λ y. clash y refl;
-      }
-
-  pub clear-within : (t : Total) (r : Bool) → t ≡ upTo (work (listing N (flagAt flags) (pairsOf kids))) → r ≡ isBeyond t → r ≡ false
-      → indexCount N ≤ length flags → Within N kids flags
-  clear-within t r e f g h =
-      record {
-        places = h;
-        total = exact-below (work (listing N (flagAt flags) (pairsOf kids))) (ap isBeyond (sym e) ∙ sym f ∙ g);
-        bytes = λ j. omega (arith, z j);
-      }
-
-  pub clear-done : (t : Total) (r : Bool) (m : ℕ) (new : List ℕ) → t ≡ upTo (work (listing N (flagAt flags) (pairsOf kids))) → r ≡ isBeyond t → r ≡ false
-      → indexCount N ≡ m → Sliced N target kids flags m new → SlicedClear N target kids flags new true
-  unfolding slice
-  clear-done t r m new e f g q s =
-      record {
-        exact = beyond-is t r e f ∙ g;
-        same = s .same;
-        bytes = s .within .bytes;
-        plan-is = λ y. s .plan-is
-            ∙ ap (λ (x : ℕ). sliceLoop N target asIs x (planWith flags kids 0 0)) (sym q)
-            ∙ ap (λ h. sliceLoop N target asIs (indexCount N) (record { tree = pairsOf kids; flag = h; rebuilt = 0; tried = 0 })) (clear-flags flags z);
-      }
+-- the sum of the works decides
+pub clear-beyond : {N : Network} {kids sets sizes works : List ℕ} (zeros : List ℕ) → ((j : ℕ) → getD zeros j 0 ≡ 0) → (n : ℕ) → leafCount N ≡ n
+    → wrongTree n kids ≡ false → PriceHeld N (flagAt zeros) kids sets sizes works → (r : Bool) → r ≡ isBeyond (upTo (workSum works n (n - 1)))
+    → totalIsBeyond N (λ j. false) (pairsOf kids) ≡ r
+clear-beyond {N} {kids} zeros z n q right h r e =
+    ap (λ g. totalIsBeyond N g (pairsOf kids)) (sym (clear-flags zeros z)) ∙ sym (beyond-is n q right h) ∙ sym e
 
 -- ---- the flags go out ----
 
@@ -111,18 +90,28 @@ bytes-are N flags m e h b =
     getD-take m flags i 0 l ∙ byte-is (getD flags i 0) (b i)
     ∙ sym (map-range-at (λ j. cond (flagAt flags j) 1 0) 0 (indexCount N) i (omega arith)))
 
-module _ (N : Network) (target : ℕ) (kids zeros sliced : List ℕ) (r : Bool) (s : SlicedClear N target kids zeros sliced r) (out : List ℕ) where
-  pub valid-beyond : r ≡ false → SlicedValid N target kids out out false
-  valid-beyond e = record { exact = s .exact ∙ ap not e; flags-are = refl; none-rebuilt = λ y. clash y refl }
+-- slicing from clear flags has ended: its tree and its flags make the plan, and the flags are copied out
+module _ (N : Network) (improving : Bool) (n m target : ℕ) (kids₀ zeros : List ℕ) (z : (j : ℕ) → getD zeros j 0 ≡ 0) (q : indexCount N ≡ m)
+    (right : wrongTree n kids₀ ≡ false) (kids sliced : List ℕ) {rebuilt tried : ℕ} (long : length kids ≡ length kids₀)
+    (e : planWith sliced kids rebuilt tried ≡ sliceLoop N target (followUp N improving) m (planWith zeros kids₀ 0 0)) where
+  plan-is : planWith sliced kids rebuilt tried ≡ planOf N improving target kids₀
+  unfolding slice
+  plan-is =
+      e
+      ∙ ap (λ (x : ℕ). sliceLoop N target (followUp N improving) x (planWith zeros kids₀ 0 0)) (sym q)
+      ∙ ap (λ h. sliceLoop N target (followUp N improving) (indexCount N) (record { tree = pairsOf kids₀; flag = h; rebuilt = 0; tried = 0 })) (clear-flags zeros z)
 
-  pub valid-done : (m : ℕ) (new : List ℕ) → r ≡ true → indexCount N ≡ m → m ≤ length zeros → new ≡ copied out sliced m → SlicedValid N target kids out new true
+  pub sliced-to : (out new : List ℕ) → m ≤ length sliced → ((j : ℕ) → getD sliced j 0 ≤ 1) → new ≡ copied out sliced m
+      → SlicedTo N improving target kids₀ out kids new rebuilt tried
   unfolding copied
-  valid-done m new e q h c =
-      let p : planWith sliced kids 0 0 ≡ slice N target asIs (pairsOf kids) = s .plan-is e in
+  sliced-to out new h b c =
+      let flat : over kids₀ (flatOf (pairsOf kids)) ≡ kids =
+      ap (over kids₀) (flat-pairs (n - 1) kids (long ∙ tree-length n kids₀ right)) ∙ over-all kids₀ kids long in
       record {
-        exact = s .exact ∙ ap not e;
-        flags-are = c ∙ ap (over out) (bytes-are N sliced m q (omega (arith, s .same)) (s .bytes) ∙ ap (flagsFor N) p);
-        none-rebuilt = λ y. (sym (ap (λ (x : Plan). x .rebuilt) p), sym (ap (λ (x : Plan). x .tried) p));
+        tree = sym flat ∙ ap (λ (p : Plan). over kids₀ (flatOf (p .tree))) plan-is;
+        flags-are = c ∙ ap (over out) (bytes-are N sliced m q h b ∙ ap (flagsFor N) plan-is);
+        is-rebuilt = ap (λ (p : Plan). p .rebuilt) plan-is;
+        is-tried = ap (λ (p : Plan). p .tried) plan-is;
       }
 
 -- ---- the local lists are long enough ----
@@ -137,4 +126,19 @@ local-room few h o =
       for-sizes = omega (arith, s .numbers, filled-length {A = ℕ} 256 0);
       for-works = omega (arith, s .numbers, filled-length {A = ℕ} 256 0);
       for-steps = omega (arith, s .steps, filled-length {A = ℕ} 640 0);
+    }
+
+pub local-asks : {m n o words : ℕ} {weights counts rows outputs : List ℕ} → Lent weights counts rows outputs → Facts m n o weights counts rows outputs
+    → dangling (networkOf m n o weights counts rows outputs) ≡ false → sliceWords true ≤ words
+    → Asks m n o words (length (filled {A = ℕ} 1024 0)) (length (filled {A = ℕ} 256 0)) (length (filled {A = ℕ} 256 0)) (length (filled {A = ℕ} 640 0)) weights counts rows outputs
+local-asks l f d h =
+    record {
+      lent = l;
+      facts = f;
+      closed = d;
+      for-words = h;
+      for-sets = omega (arith, filled-length {A = ℕ} 1024 0);
+      for-sizes = omega (arith, filled-length {A = ℕ} 256 0);
+      for-works = omega (arith, filled-length {A = ℕ} 256 0);
+      for-steps = omega (arith, filled-length {A = ℕ} 640 0);
     }

@@ -1,21 +1,20 @@
-// Slicing of a network's tree to a target, the tree as it is.
+// Slicing of a network's tree to a target, with improvement or without.
 ghost use mathlib.Core.Path.{_≡_};
-ghost use mathlib.Core.Bool.{false};
-ghost use Prim.Native.Nat.{ℕ, _≤_};
-ghost use lib.ListN.{length, getD};
+ghost use mathlib.Core.Bool.{true, false};
+ghost use Prim.Native.Nat.{_≤_};
+ghost use lib.ListN.{length};
 ghost use Rattle.spec.specs.Layout.{networkOf};
-ghost use Rattle.spec.specs.Calls.{plainWords, wrongTree, isBeyond, sliceCall, slicedFlags, workspaceAfter};
-ghost use Rattle.cost.specs.Back.{totalFrom};
+ghost use Rattle.spec.specs.Tree.{pairsOf};
+ghost use Rattle.spec.specs.Calls.{plainWords, sliceWords, wrongTree, totalIsBeyond, dangling, sliceCall, slicedTree, slicedFlags, workspaceAfter};
 ghost use Rattle.network.specs.Record.{netOf};
 ghost use Rattle.network.specs.Checks.{Lent};
 ghost use Rattle.network.specs.Codes.{Facts};
-ghost use Rattle.pricing.specs.Promise.{Priceable, Room};
-ghost use Rattle.slicetree.specs.Clear.{SlicedClear, SlicedValid};
-ghost use Rattle.slicetree.specs.Answers.{slicedOf, Answered, Answers};
+ghost use Rattle.slicetree.specs.Clear.{SlicedTo};
+ghost use Rattle.slicetree.specs.Answers.{slicedOf, lateNumber, Answered, Answers};
 use network::Network;
 use network::checks;
 use network::refusal;
-use pricing::Total;
+use reconf::Visited;
 
 // The answer of slicing: how many subtrees were rebuilt, and how many splits were tried.
 pub enum Sliced {
@@ -24,51 +23,37 @@ pub enum Sliced {
 }
 
 // The stated workspace, in words.
-fn stated() -> usize
-    ensures { λ r. ⌜ r ≡ plainWords ⌝ }
+fn stated(improving: bool) -> usize
+    ensures { λ r. ⌜ r ≡ sliceWords improving ⌝ }
 {
-    4096
+    if improving { 6144 } else { 4096 }
 }
 
-fn is_beyond(total: Total) -> bool
-    ensures { λ r. ⌜ r ≡ isBeyond (totalFrom total) ⌝ }
-{
-    match total {
-        Total::Exact(_) => false,
-        Total::Beyond => true,
-    }
-}
-
-// Slices a tree whose step order is at hand, from flags that are clear, unless its total is beyond.
-fn slice_clear(
-    outside: &mut [u64],
-    sets: &mut [u64],
-    sizes: &mut [u16],
-    works: &mut [u16],
-    steps: &mut [u16],
-    flags: &mut [u8],
-    w: usize,
+// The number of the refusal of an unsliced total or, with improvement, of a dangling index, and 0 for neither.
+fn late_number<'a>(
+    ws: &mut [u64],
     m: usize,
     n: usize,
     o: usize,
-    weights: &[u8],
-    counts: &[u8],
-    legs: &[u16],
-    outputs: &[u16],
-    kids: &[u16],
-    order: &[u16],
-    target: u16,
-) -> bool
-    requires { ⌜ Priceable w m n o (now weights) (now counts) (now legs) (now outputs) (now kids) (now order) × Room w n (now kids) (now order) (length (now outside)) (length (now sets)) (length (now sizes)) (length (now works)) (length (now steps)) × (m ≤ length (now flags)) × ((j : ℕ) → getD (now flags) j 0 ≡ 0) ⌝ }
-    ensures { λ r. ⌜ SlicedClear (networkOf m n o (now (weights .entry)) (now (counts .entry)) (now (legs .entry)) (now (outputs .entry))) target (now (kids .entry)) (now (flags .entry)) (now (flags .exit)) r ⌝ }
+    weights: &'a [u8],
+    counts: &'a [u8],
+    legs: &'a [u16],
+    outputs: &'a [u16],
+    improving: bool,
+    tree: &[u16],
+) -> u8
+    requires { ⌜ Lent (now weights) (now counts) (now legs) (now outputs) × Facts m n o (now weights) (now counts) (now legs) (now outputs) × (plainWords ≤ length (now ws)) × (wrongTree n (now tree) ≡ false) ⌝ }
+    ensures { λ r. ⌜ r ≡ lateNumber (networkOf m n o (now (weights .entry)) (now (counts .entry)) (now (legs .entry)) (now (outputs .entry))) improving (now (tree .entry)) ⌝ }
 {
-    let p = pricing::price(
-        outside,
-        sets,
-        sizes,
-        works,
-        steps,
-        w,
+    let clear = [0u8; 256];
+    let mut sets = [0u64; 1020];
+    let mut sizes = [0u16; 255];
+    let mut works = [0u16; 255];
+    reprice::reprice(
+        ws,
+        &mut sets,
+        &mut sizes,
+        &mut works,
         m,
         n,
         o,
@@ -76,38 +61,23 @@ fn slice_clear(
         counts,
         legs,
         outputs,
-        flags,
-        kids,
-        order,
+        &clear,
+        tree,
     );
-    let total = p.total;
-    if is_beyond(total) {
-        return false;
+    if reconfigure::is_beyond(&works, n) {
+        return refusal::TOTAL_BEYOND;
     }
-    slicing::slice(
-        outside,
-        sets,
-        sizes,
-        works,
-        steps,
-        flags,
-        w,
-        m,
-        n,
-        o,
-        weights,
-        counts,
-        legs,
-        outputs,
-        kids,
-        order,
-        target,
-    );
-    true
+    if !improving {
+        return refusal::NONE;
+    }
+    if dangling::dangling(m, n, o, counts, legs, outputs) {
+        return refusal::DANGLING_INDEX;
+    }
+    refusal::NONE
 }
 
-// Slices a valid tree of an accepted network, and writes the flags, unless its total is beyond.
-fn slice_valid<'a>(
+// Slices a tree that no check refuses, as it is, and writes the flags.
+fn slice_as_is<'a>(
     ws: &mut [u64],
     flags: &mut [u8],
     m: usize,
@@ -119,9 +89,9 @@ fn slice_valid<'a>(
     outputs: &'a [u16],
     tree: &[u16],
     target: u16,
-) -> bool
-    requires { ⌜ Lent (now weights) (now counts) (now legs) (now outputs) × Facts m n o (now weights) (now counts) (now legs) (now outputs) × (plainWords ≤ length (now ws)) × (wrongTree n (now tree) ≡ false) ⌝ }
-    ensures { λ r. ⌜ SlicedValid (networkOf m n o (now (weights .entry)) (now (counts .entry)) (now (legs .entry)) (now (outputs .entry))) target (now (tree .entry)) (now (flags .entry)) (now (flags .exit)) r ⌝ }
+)
+    requires { ⌜ Lent (now weights) (now counts) (now legs) (now outputs) × Facts m n o (now weights) (now counts) (now legs) (now outputs) × (plainWords ≤ length (now ws)) × (wrongTree n (now tree) ≡ false) × (totalIsBeyond (networkOf m n o (now weights) (now counts) (now legs) (now outputs)) (λ j. false) (pairsOf (now tree)) ≡ false) ⌝ }
+    ensures { λ _. ⌜ SlicedTo (networkOf m n o (now (weights .entry)) (now (counts .entry)) (now (legs .entry)) (now (outputs .entry))) false target (now (tree .entry)) (now (flags .entry)) (now (tree .entry)) (now (flags .exit)) 0 0 ⌝ }
 {
     let mut order = [0u16; 128];
     let mut sets = [0u64; 1024];
@@ -130,7 +100,7 @@ fn slice_valid<'a>(
     let mut steps = [0u16; 640];
     let mut sliced = [0u8; 256];
     let c = walk::post_order(tree, n, ws, &mut order);
-    if !slice_clear(
+    slicing::slice(
         ws,
         &mut sets,
         &mut sizes,
@@ -148,16 +118,14 @@ fn slice_valid<'a>(
         tree,
         &order[..c],
         target,
-    ) {
-        return false;
-    }
+    );
     cells::copy8(flags, &sliced, m);
-    true
 }
 
-// The answer where the network is accepted and the lists are long enough. On a refusal only `ws` is written.
-fn slice_checked<'a>(
+// Slices a tree that no check refuses, improved after each choice, and writes the flags.
+fn slice_improved<'a>(
     ws: &mut [u64],
+    tree: &mut [u16],
     flags: &mut [u8],
     m: usize,
     n: usize,
@@ -166,16 +134,82 @@ fn slice_checked<'a>(
     counts: &'a [u8],
     legs: &'a [u16],
     outputs: &'a [u16],
-    tree: &[u16],
+    target: u16,
+) -> Visited
+    requires { ⌜ Lent (now weights) (now counts) (now legs) (now outputs) × Facts m n o (now weights) (now counts) (now legs) (now outputs) × (sliceWords true ≤ length (now ws)) × (wrongTree n (now tree) ≡ false) × (totalIsBeyond (networkOf m n o (now weights) (now counts) (now legs) (now outputs)) (λ j. false) (pairsOf (now tree)) ≡ false) × (dangling (networkOf m n o (now weights) (now counts) (now legs) (now outputs)) ≡ false) ⌝ }
+    ensures { λ r. ⌜ SlicedTo (networkOf m n o (now (weights .entry)) (now (counts .entry)) (now (legs .entry)) (now (outputs .entry))) true target (now (tree .entry)) (now (flags .entry)) (now (tree .exit)) (now (flags .exit)) (r .rebuilt) (r .tried) ⌝ }
+{
+    let mut sets = [0u64; 1024];
+    let mut sizes = [0u16; 256];
+    let mut works = [0u16; 256];
+    let mut steps = [0u16; 640];
+    let mut sliced = [0u8; 256];
+    let d = slicepasses::slice(
+        ws,
+        &mut sets,
+        &mut sizes,
+        &mut works,
+        &mut steps,
+        tree,
+        &mut sliced,
+        m,
+        n,
+        o,
+        weights,
+        counts,
+        legs,
+        outputs,
+        target,
+    );
+    cells::copy8(flags, &sliced, m);
+    d
+}
+
+// The answer where the network is accepted and the lists are long enough. On a refusal only `ws` is written.
+fn slice_checked<'a>(
+    ws: &mut [u64],
+    tree: &mut [u16],
+    flags: &mut [u8],
+    m: usize,
+    n: usize,
+    o: usize,
+    weights: &'a [u8],
+    counts: &'a [u8],
+    legs: &'a [u16],
+    outputs: &'a [u16],
+    improving: bool,
     target: u16,
 ) -> Sliced
-    requires { ⌜ Lent (now weights) (now counts) (now legs) (now outputs) × Facts m n o (now weights) (now counts) (now legs) (now outputs) × (plainWords ≤ length (now ws)) ⌝ }
-    ensures { λ r. ⌜ Answered (networkOf m n o (now (weights .entry)) (now (counts .entry)) (now (legs .entry)) (now (outputs .entry))) target (now (tree .entry)) (now (flags .entry)) (now (flags .exit)) r ⌝ }
+    requires { ⌜ Lent (now weights) (now counts) (now legs) (now outputs) × Facts m n o (now weights) (now counts) (now legs) (now outputs) × (sliceWords improving ≤ length (now ws)) ⌝ }
+    ensures { λ r. ⌜ Answered (networkOf m n o (now (weights .entry)) (now (counts .entry)) (now (legs .entry)) (now (outputs .entry))) improving target (now (tree .entry)) (now (flags .entry)) (now (tree .exit)) (now (flags .exit)) r ⌝ }
 {
     if !walk::is_tree(tree, n, ws) {
         return Sliced::Refused(refusal::INVALID_TREE);
     }
-    if !slice_valid(
+    let late = late_number(ws, m, n, o, weights, counts, legs, outputs, improving, tree);
+    if late != refusal::NONE {
+        return Sliced::Refused(late);
+    }
+    if improving {
+        let d = slice_improved(
+            ws,
+            tree,
+            flags,
+            m,
+            n,
+            o,
+            weights,
+            counts,
+            legs,
+            outputs,
+            target,
+        );
+        return Sliced::Done {
+            rebuilt: d.rebuilt,
+            tried: d.tried,
+        };
+    }
+    slice_as_is(
         ws,
         flags,
         m,
@@ -187,9 +221,7 @@ fn slice_checked<'a>(
         outputs,
         tree,
         target,
-    ) {
-        return Sliced::Refused(refusal::TOTAL_BEYOND);
-    }
+    );
     Sliced::Done {
         rebuilt: 0,
         tried: 0,
@@ -205,15 +237,16 @@ fn slice_in<'a>(
     counts: &'a [u8],
     legs: &'a [u16],
     outputs: &'a [u16],
-    tree: &[u16],
+    improving: bool,
+    tree: &mut [u16],
     target: u16,
     flags: &mut [u8],
     ws: &mut [u64],
 ) -> Sliced
     requires { ⌜ Lent (now weights) (now counts) (now legs) (now outputs) × Facts m n o (now weights) (now counts) (now legs) (now outputs) ⌝ }
-    ensures { λ r. ⌜ Answers (networkOf m n o (now (weights .entry)) (now (counts .entry)) (now (legs .entry)) (now (outputs .entry))) target (now (tree .entry)) (now (flags .entry)) (now (flags .exit)) (now (ws .entry)) (now (ws .exit)) r ⌝ }
+    ensures { λ r. ⌜ Answers (networkOf m n o (now (weights .entry)) (now (counts .entry)) (now (legs .entry)) (now (outputs .entry))) improving target (now (tree .entry)) (now (flags .entry)) (now (ws .entry)) (now (tree .exit)) (now (flags .exit)) (now (ws .exit)) r ⌝ }
 {
-    let words = stated();
+    let words = stated(improving);
     if ws.len() < words {
         return Sliced::Refused(refusal::SHORT_BUFFER);
     }
@@ -222,6 +255,7 @@ fn slice_in<'a>(
     }
     let r = slice_checked(
         &mut ws[..words],
+        tree,
         flags,
         m,
         n,
@@ -230,24 +264,27 @@ fn slice_in<'a>(
         counts,
         legs,
         outputs,
-        tree,
+        improving,
         target,
     );
     cells::clear(ws, words);
     r
 }
 
-// Slices the tree of a network to a target without improving it: one flag an index, to the front of `flags`.
-pub fn slice_as_is(
+// Slices the tree of a network until its widest table is within a target or no candidate is left: one flag an index, to the front of `flags`.
+// With improvement a pass over the tree, where it stands, follows each choice; without it the tree stays.
+pub fn slice_tree(
     network: Network,
-    tree: &[u16],
+    improving: bool,
+    tree: &mut [u16],
     target: u16,
     flags: &mut [u8],
     ws: &mut [u64],
 ) -> Sliced
-    ensures answer { λ r. ⌜ r ≡ slicedOf (sliceCall (netOf network) false target (length (now (ws .entry))) (length (now (flags .entry))) (now (tree .entry))) ⌝ }
-    ensures sliced { λ r. ⌜ now (flags .exit) ≡ slicedFlags (netOf network) (sliceCall (netOf network) false target (length (now (ws .entry))) (length (now (flags .entry))) (now (tree .entry))) (now (flags .entry)) ⌝ }
-    ensures workspace { λ r. ⌜ now (ws .exit) ≡ workspaceAfter plainWords (sliceCall (netOf network) false target (length (now (ws .entry))) (length (now (flags .entry))) (now (tree .entry))) (now (ws .entry)) ⌝ }
+    ensures answer { λ r. ⌜ r ≡ slicedOf (sliceCall (netOf network) improving target (length (now (ws .entry))) (length (now (flags .entry))) (now (tree .entry))) ⌝ }
+    ensures tree { λ r. ⌜ now (tree .exit) ≡ slicedTree (sliceCall (netOf network) improving target (length (now (ws .entry))) (length (now (flags .entry))) (now (tree .entry))) (now (tree .entry)) ⌝ }
+    ensures sliced { λ r. ⌜ now (flags .exit) ≡ slicedFlags (netOf network) (sliceCall (netOf network) improving target (length (now (ws .entry))) (length (now (flags .entry))) (now (tree .entry))) (now (flags .entry)) ⌝ }
+    ensures workspace { λ r. ⌜ now (ws .exit) ≡ workspaceAfter (sliceWords improving) (sliceCall (netOf network) improving target (length (now (ws .entry))) (length (now (flags .entry))) (now (tree .entry))) (now (ws .entry)) ⌝ }
 {
     let m = network.index_count;
     let n = network.leaf_count;
@@ -272,6 +309,7 @@ pub fn slice_as_is(
         &network.leg_counts,
         &network.legs,
         &network.outputs,
+        improving,
         tree,
         target,
         flags,

@@ -1,30 +1,57 @@
 -- Assumes nothing.
 use borrow.Author.Needs.{needs}
-use Rattle.slicetree.specs.declared.Sliced.{Sliced}
-use Rattle.slicetree.specs.Answers.{slicedOf, call-refused, call-accepted}
-use Rattle.slicetree.specs.Clear.{flagsFor}
-use Rattle.network.specs.Codes.{accepted-facts}
-use Rattle.network.specs.Record.{netOf}
-use Rattle.spec.specs.Slicing.{Plan}
-use Rattle.spec.specs.Calls.{plainWords, workspaceAfter, slicedFlags}
-use Rattle.spec.specs.Refusal.{Refusal, Result}
-use Rattle.walk.specs.Entry.{answers, same-words, same-list}
+use Rattle.spec.specs.Layout.{networkOf}
+use Rattle.spec.specs.Memory.{filled}
+use Rattle.spec.specs.Tree.{stepOrder}
+use Rattle.walk.specs.Order.{order-length}
+use Rattle.cells.specs.Cells.{filled-length, filled-all}
+use Rattle.network.specs.Layouts.{layout-index-count}
+use Rattle.cost.specs.Checks.{order-front, front-length, priceable}
+use Rattle.slicetree.specs.Clear.{within-clear, sliced-to, local-room}
+use mathlib.Core.Bool.{false}
 use native.Mathlib.Omega.{arith}
-use Prim.Native.Nat.{ℕ, _+_, _-_, _*_, _<_, _≤_}
-use mathlib.Core.Path.{_≡_, refl, sym, ap, _∙_, subst}
-use lib.ListN.{length, getD, set, length-set}
+use Prim.Native.Nat.{ℕ}
+use mathlib.Core.Path.{refl, sym, _∙_}
 use Rattle.slicetree.proofs.slice_as_is.Statement.{statement}
 use Rattle.slicetree.proofs.slice_as_is.Tie as tie
 
-number-requires : tie.Need-number-requires
-number-requires c κs = search needs
+slice-aggregate-post-order : tie.Need-slice-aggregate-post-order
+slice-aggregate-post-order c = search needs
 
-returns : tie.Need-returns
-unfolding netOf
-returns c = let a = c .before .before .before .before .before .before .before .before .before .before .before .before .before .before .args in let u = call-refused (netOf (a .t1)) (a .target) (length (a .ws .now)) (length (a .flags .now)) (a .tree .now) (c .before .number .result) (c .before .number .ensures) (c .if1 .taken) in (answers u slicedOf (λ (k : ℕ). Sliced.Refused k) (λ (r : Refusal). refl), (same-list u (flagsFor (netOf (a .t1))) (a .flags .now), same-words u plainWords (a .ws .now)))
+post-order-requires : tie.Need-post-order-requires
+post-order-requires c κs = search needs
 
-slice-in-requires : tie.Need-slice-in-requires
-slice-in-requires c κs = let g = c .before .before .before .before .before .before .before .before .before .before .before .before .before .before .before .before .before .before .before .before .before .before .before .before .before .args .t1 in (search needs, accepted-facts (g .«index_count») (g .«leaf_count») (g .«output_count») (g .weights) (g .«leg_counts») (g .legs) (g .outputs) (sym (c .before .before .before .before .before .before .before .before .before .before .before .if1 .left) ∙ c .before .before .before .before .before .before .before .before .before .before .before .before .number .ensures))
+slice-aggregate-slice : tie.Need-slice-aggregate-slice
+slice-aggregate-slice c = search needs
+
+slice-aggregate-slice-2 : tie.Need-slice-aggregate-slice-2
+slice-aggregate-slice-2 c = search needs
+
+slice-aggregate-slice-3 : tie.Need-slice-aggregate-slice-3
+slice-aggregate-slice-3 c = search needs
+
+slice-aggregate-slice-4 : tie.Need-slice-aggregate-slice-4
+slice-aggregate-slice-4 c = search needs
+
+slice-aggregate-slice-5 : tie.Need-slice-aggregate-slice-5
+slice-aggregate-slice-5 c = search needs
+
+array-share-prefix-order : tie.Need-array-share-prefix-order
+array-share-prefix-order c = search needs
+
+slice-aggregate-slice-6 : tie.Need-slice-aggregate-slice-6
+unfolding filled
+slice-aggregate-slice-6 c = let d = c .before .before .before .before .before .before .before .before .before .before .before .before .before .before .before .before .before .before .before .before in let a = d .args in front-length (filled 128 0) (c .before .before .before .before .before .before .before .before .before .before .post-order .last .1 .1 .1 .0) (stepOrder (a .tree .now) (a .n)) (c .before .before .before .before .before .before .before .before .before .before .post-order .result) (c .before .before .before .before .before .before .before .before .before .before .post-order .ensures .1) (order-length (a .tree .now) (a .n) (d .pre .3) ∙ sym (c .before .before .before .before .before .before .before .before .before .before .post-order .ensures .0)) (omega (arith, c .before .before .before .before .before .before .before .before .before .before .post-order .ensures .0, d .pre .1 .fewLeaves))
+
+slice-requires : tie.Need-slice-requires
+unfolding filled
+slice-requires c κs = let d = c .before .before .before .before .before .before .before .before .before .before .before .before .before .before .before .before .before .before .before .before in let a = d .args in let p = priceable (d .pre .0) (d .pre .1) (d .pre .3) (order-front (filled 128 0) (c .before .before .before .before .before .before .before .before .before .before .post-order .last .1 .1 .1 .0) (stepOrder (a .tree .now) (a .n)) (c .before .before .before .before .before .before .before .before .before .before .post-order .result) (c .before .before .before .before .before .before .before .before .before .before .post-order .ensures .1) (order-length (a .tree .now) (a .n) (d .pre .3) ∙ sym (c .before .before .before .before .before .before .before .before .before .before .post-order .ensures .0)) (omega (arith, c .before .before .before .before .before .before .before .before .before .before .post-order .ensures .0, d .pre .1 .fewLeaves))) in (p, local-room (d .pre .1 .fewLeaves) (omega (arith, d .pre .2, c .before .before .before .before .before .before .before .before .before .ws .given)) (p .ordered), within-clear (networkOf (a .m) (a .n) (a .o) (a .weights .now) (a .counts .now) (a .legs .now) (a .outputs .now)) (a .m) (a .tree .now) (filled 256 0) (λ j. filled-all {A = ℕ} 256 j 0) (layout-index-count (a .m) (a .n) (a .o) (a .weights .now) (a .counts .now) (a .legs .now) (a .outputs .now)) (omega (arith, d .pre .1 .fewIndices, filled-length {A = ℕ} 256 0)) (d .pre .4))
+
+slice-aggregate-copy8 : tie.Need-slice-aggregate-copy8
+slice-aggregate-copy8 c = search needs
+
+copy8-requires : tie.Need-copy8-requires
+copy8-requires c κs = search needs
 
 same-length : tie.Need-same-length
 same-length c = search needs
@@ -32,11 +59,26 @@ same-length c = search needs
 same-length-2 : tie.Need-same-length-2
 same-length-2 c = search needs
 
-returns-2 : tie.Need-returns-2
-unfolding netOf
-returns-2 c = let a = c .before .before .before .before .before .before .before .before .before .before .before .before .before .before .before .before .before .before .before .before .before .before .before .before .before .before .before .before .before .before .args in let g = a .t1 in let f = accepted-facts (g .«index_count») (g .«leaf_count») (g .«output_count») (g .weights) (g .«leg_counts») (g .legs) (g .outputs) (sym (c .before .before .before .before .before .before .before .before .before .before .before .before .before .before .before .before .if1 .left) ∙ c .before .before .before .before .before .before .before .before .before .before .before .before .before .before .before .before .before .number .ensures) in let e = call-accepted (netOf g) (a .target) (length (a .ws .now)) (length (a .flags .now)) (a .tree .now) (f .passed) in let q = c .before .before .before .before .slice-in .ensures in (q .answer ∙ sym (ap slicedOf e), (q .flags-are ∙ sym (ap (λ (r : Result Plan). slicedFlags (netOf g) r (a .flags .now)) e), q .workspace ∙ sym (ap (λ (r : Result Plan). workspaceAfter plainWords r (a .ws .now)) e)))
+returns : tie.Need-returns
+unfolding filled
+returns c = let d = c .before .before .before .before .before .before .before .before .before .before .before .before .before .before .before .before .before .before .before .before .before .before .before .before .before .before .before .before .before .before .before .before .before in let a = d .args in let s = c .before .before .before .before .before .before .before .before .before .before .before .before .slice .ensures in sliced-to (networkOf (a .m) (a .n) (a .o) (a .weights .now) (a .counts .now) (a .legs .now) (a .outputs .now)) false (a .n) (a .m) (a .target) (a .tree .now) (filled 256 0) (λ j. filled-all {A = ℕ} 256 j 0) (layout-index-count (a .m) (a .n) (a .o) (a .weights .now) (a .counts .now) (a .legs .now) (a .outputs .now)) (d .pre .3) _ _ refl (s .plan-is) (a .flags .now) _ (omega (arith, s .same, d .pre .1 .fewIndices, filled-length {A = ℕ} 256 0)) (s .within .bytes) (c .before .before .copy8 .ensures)
 
 pub slice-as-is-spec : {M : Type 1} → statement M
 slice-as-is-spec =
     tie.close
-    (tie.spec number-requires returns slice-in-requires same-length same-length-2 returns-2)
+    (tie.spec
+    slice-aggregate-post-order
+    post-order-requires
+    slice-aggregate-slice
+    slice-aggregate-slice-2
+    slice-aggregate-slice-3
+    slice-aggregate-slice-4
+    slice-aggregate-slice-5
+    array-share-prefix-order
+    slice-aggregate-slice-6
+    slice-requires
+    slice-aggregate-copy8
+    copy8-requires
+    same-length
+    same-length-2
+    returns)

@@ -1,15 +1,17 @@
 -- Assumes nothing.
 use borrow.Author.Needs.{needs}
-use Rattle.slicetree.specs.Answers.{few-words, few-flags, by-rest}
-use Rattle.network.specs.Layouts.{layout-index-count}
-use Rattle.walk.specs.Entry.{lent-cleared}
-use Rattle.spec.specs.Memory.{cleared}
-use Rattle.spec.specs.Layout.{networkOf}
+use lib.ListN.{take}
 use lib.Seq.{length-take-le}
+use Rattle.spec.specs.Layout.{networkOf}
+use Rattle.spec.specs.Memory.{cleared}
+use Rattle.walk.specs.Entry.{lent-cleared}
+use Rattle.network.specs.Layouts.{layout-index-count}
+use Rattle.reconfigure.specs.Checks.{shorter, as-long}
+use Rattle.slicetree.specs.Answers.{few-words, few-flags, by-rest}
 use native.Mathlib.Omega.{arith}
-use Prim.Native.Nat.{ℕ, _+_, _-_, _*_, _<_, _≤_}
-use mathlib.Core.Path.{_≡_, refl, sym, ap, _∙_, subst}
-use lib.ListN.{length, take}
+use Prim.Native.Nat.{_≤_}
+use mathlib.Core.Path.{_≡_, refl, sym, ap, _∙_}
+use lib.ListN.{length}
 use Rattle.slicetree.proofs.slice_in.Statement.{statement}
 use Rattle.slicetree.proofs.slice_in.Tie as tie
 
@@ -17,10 +19,10 @@ stated-requires : tie.Need-stated-requires
 stated-requires c κs = search needs
 
 returns : tie.Need-returns
-returns c = let a = c .before .before .before .before .before .before .before .before .before .args in few-words (networkOf (a .m) (a .n) (a .o) (a .weights .now) (a .counts .now) (a .legs .now) (a .outputs .now)) (a .target) (a .tree .now) (a .flags .now) (a .ws .now) (omega (arith, c .if1 .taken, c .before .stated .ensures))
+returns c = let d = c .before .before .before .before .before .before .before .before .before in let a = d .args in few-words (networkOf (a .m) (a .n) (a .o) (a .weights .now) (a .counts .now) (a .legs .now) (a .outputs .now)) (a .improving) (a .target) (a .tree .now) (a .flags .now) (a .ws .now) (shorter (length (a .ws .now)) (c .before .stated .ensures) (c .if1 .taken))
 
 returns-2 : tie.Need-returns-2
-returns-2 c = let a = c .before .before .before .before .before .before .before .before .before .before .args in few-flags (networkOf (a .m) (a .n) (a .o) (a .weights .now) (a .counts .now) (a .legs .now) (a .outputs .now)) (a .target) (a .tree .now) (a .flags .now) (a .ws .now) (a .m) (layout-index-count (a .m) (a .n) (a .o) (a .weights .now) (a .counts .now) (a .legs .now) (a .outputs .now)) (omega (arith, c .before .if1 .left, c .before .before .stated .ensures)) (c .if2 .taken)
+returns-2 c = let d = c .before .before .before .before .before .before .before .before .before .before in let a = d .args in few-flags (networkOf (a .m) (a .n) (a .o) (a .weights .now) (a .counts .now) (a .legs .now) (a .outputs .now)) (a .improving) (a .target) (a .tree .now) (a .flags .now) (a .ws .now) (a .m) (layout-index-count (a .m) (a .n) (a .o) (a .weights .now) (a .counts .now) (a .legs .now) (a .outputs .now)) (as-long (length (a .ws .now)) (c .before .before .stated .ensures) (c .before .if1 .left)) (c .if2 .taken)
 
 slice-relend-prefix-slice-checked : tie.Need-slice-relend-prefix-slice-checked
 slice-relend-prefix-slice-checked c = search needs
@@ -29,7 +31,7 @@ slice-aggregate-slice-checked : tie.Need-slice-aggregate-slice-checked
 slice-aggregate-slice-checked c = sym (length-take-le (c .before .before .before .stated .result) (c .before .before .before .before .before .before .before .before .before .before .before .args .ws .now) (c .before .before .if1 .left))
 
 slice-checked-requires : tie.Need-slice-checked-requires
-slice-checked-requires c κs = let d = c .before .before .before .before .before .before .before .before .before .before .before .before in (d .pre .0, d .pre .1, omega (arith, c .before .before .before .before .stated .ensures, length-take-le (c .before .before .before .before .stated .result) (d .args .ws .now) (c .before .before .before .if1 .left)))
+slice-checked-requires c κs = let d = c .before .before .before .before .before .before .before .before .before .before .before .before .before in (d .pre .0, d .pre .1, as-long _ (c .before .before .before .before .before .stated .ensures) (omega (arith, length-take-le (c .before .before .before .before .before .stated .result) (d .args .ws .now) (c .before .before .before .before .if1 .left))))
 
 clear-requires : tie.Need-clear-requires
 clear-requires c κs = search needs
@@ -40,8 +42,11 @@ same-length c = search needs
 same-length-2 : tie.Need-same-length-2
 same-length-2 c = search needs
 
+same-length-3 : tie.Need-same-length-3
+same-length-3 c = search needs
+
 returns-3 : tie.Need-returns-3
-returns-3 c = let a = c .before .before .before .before .before .before .before .before .before .before .before .before .before .before .before .before .before .before .before .before .before .args in let w = c .before .before .before .before .before .before .before .before .before .before .before .before .before .stated .result in let fit : w ≤ length (a .ws .now) = c .before .before .before .before .before .before .before .before .before .before .before .before .if1 .left in let y = c .before .before .before .before .before .before .before .before .slice-checked .last .0 in let ly : length y ≡ length (take w (a .ws .now)) = search needs in let z = c .before .before .clear .ensures ∙ lent-cleared (a .ws .now) y w w fit ly refl ∙ ap (cleared (a .ws .now)) (c .before .before .before .before .before .before .before .before .before .before .before .before .before .stated .ensures) in by-rest (networkOf (a .m) (a .n) (a .o) (a .weights .now) (a .counts .now) (a .legs .now) (a .outputs .now)) (a .target) (a .tree .now) (a .flags .now) (a .ws .now) (a .m) (layout-index-count (a .m) (a .n) (a .o) (a .weights .now) (a .counts .now) (a .legs .now) (a .outputs .now)) (omega (arith, fit, c .before .before .before .before .before .before .before .before .before .before .before .before .before .stated .ensures)) (c .before .before .before .before .before .before .before .before .before .before .before .if2 .left) _ _ (c .before .before .before .before .before .before .before .before .slice-checked .result) z (c .before .before .before .before .before .before .before .before .slice-checked .ensures)
+returns-3 c = let d = c .before .before .before .before .before .before .before .before .before .before .before .before .before .before .before .before .before .before .before .before .before .before .before .before in let a = d .args in let w = c .before .before .before .before .before .before .before .before .before .before .before .before .before .before .before .before .stated .result in let fit : w ≤ length (a .ws .now) = c .before .before .before .before .before .before .before .before .before .before .before .before .before .before .before .if1 .left in let y = c .before .before .before .before .before .before .before .before .before .before .slice-checked .last .0 in let ly : length y ≡ length (take w (a .ws .now)) = search needs in by-rest (networkOf (a .m) (a .n) (a .o) (a .weights .now) (a .counts .now) (a .legs .now) (a .outputs .now)) (a .improving) (a .target) (a .tree .now) (a .flags .now) (a .ws .now) (a .m) (layout-index-count (a .m) (a .n) (a .o) (a .weights .now) (a .counts .now) (a .legs .now) (a .outputs .now)) (as-long (length (a .ws .now)) (c .before .before .before .before .before .before .before .before .before .before .before .before .before .before .before .before .stated .ensures) fit) (c .before .before .before .before .before .before .before .before .before .before .before .before .before .before .if2 .left) (c .before .before .clear .ensures ∙ lent-cleared (a .ws .now) y w w fit ly refl ∙ ap (cleared (a .ws .now)) (c .before .before .before .before .before .before .before .before .before .before .before .before .before .before .before .before .stated .ensures)) (c .before .before .before .before .before .before .before .before .before .before .slice-checked .ensures)
 
 pub slice-in-spec : {M : Type 1} → statement M
 slice-in-spec =
@@ -56,4 +61,5 @@ slice-in-spec =
     clear-requires
     same-length
     same-length-2
+    same-length-3
     returns-3)
