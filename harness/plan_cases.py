@@ -130,6 +130,24 @@ def refused_files():
     yield "131,072 bytes", write(SAMPLE) + bytes(131072 - len(write(SAMPLE)))
 
 
+def random_files(count, seed):
+    """Network files at random: up to 50 leaves, one in ten maybe with a loose index, one in 25 a strain."""
+    draws, files = Draws(seed), []
+    for number in range(count):
+        leaf_count = draws.below(20) if number % 4 else 20 + draws.below(30)
+        contents = random_contents(draws, leaf_count, 1 + draws.below(24), 2 + draws.below(5))
+        if draws.below(3):
+            contents.weights = [weight % 3 for weight in contents.weights]
+        if number % 10:
+            contents = closed(contents)
+        if number % 25 == 0:
+            contents = strain(2 + draws.below(6), 5 + draws.below(30), 1 + draws.below(10 ** 6))
+        if contents.target is not None or number % 50 == 0:
+            contents = with_target(contents, draws.below(12))
+        files.append(write(contents))
+    return files
+
+
 def all_cases():
     draws = Draws(88172645463325252)
     made = list(samples().items()) + list(few_leaves()) + list(edges()) + list(shaped(draws))
