@@ -3,29 +3,28 @@ use mathlib.Core.Path.{_≡_, refl, sym, ap, _∙_, subst}
 use mathlib.Core.Bool.{Bool, true, false, not, cond}
 use mathlib.Core.List.{List, [], _∷_}
 use mathlib.Core.Option.{some}
-use Prim.Native.Nat.{ℕ, zero, suc, _+_, _-_, _*_, _≤_, _<_}
+use Prim.Native.Nat.{ℕ, suc, _-_, _*_, _≤_, _<_}
 use native.Mathlib.Omega.{arith}
 use lib.Dec.{eqb}
-use lib.ListN.{length, getD, take, length-take}
-use lib.Seq.{getD-take}
+use lib.ListN.{length, getD}
 use borrow.Author.Tests.{le-ltb}
 use Rattle.spec.specs.Memory.{over, placed}
 use Rattle.spec.specs.Members.{All}
 use Rattle.spec.specs.Network.{Network, leafCount, indexCount, networkChecks, accepted}
-use Rattle.spec.specs.Tree.{Pair, valid, pairsOf, flatOf}
+use Rattle.spec.specs.Tree.{Pair, valid, pairsOf}
 use Rattle.spec.specs.Price as price
 use Rattle.spec.specs.Price.{priceOf}
 use Rattle.spec.specs.Refusal.{Result, done}
-use Rattle.spec.specs.Calls.{plainWords, setWords, stepNumbers, nodePlaces, stepPlaces, lent, lengthCheck, treeCheck, flagsCheck, flagAt, PriceRoom, priceChecks, priceCall}
+use Rattle.spec.specs.Calls.{plainWords, setWords, stepNumbers, nodePlaces, stepPlaces, lent, lengthCheck, flagAt, priceChecks, priceCall}
 use Rattle.spec.specs.Slicing.{Plan}
 use Rattle.spec.specs.File.{flagged}
 use Rattle.spec.specs.FileClaims.{LawfulTree, LawfulAsk}
 use Rattle.spec.specs.Host.{fullRoom}
-use Rattle.spec.specs.Program.{Printed, printed}
+use Rattle.spec.specs.Program.{printed}
 use Rattle.spec.specs.Text.{planText}
 use Rattle.laws.specs.Results.{checked-none}
 use Rattle.laws.specs.Accepted.{accepted-means}
-use Rattle.laws.specs.FileFields.{Fails, passes-fails, tree-fails, flags-fails}
+use Rattle.laws.specs.FileFields.{passes-fails, tree-fails, flags-fails}
 use Rattle.laws.specs.FlatLaws.{pairs-flat}
 use Rattle.network.specs.Record.{netOf}
 use Rattle.network.specs.Layouts.{layout-leaf-count, layout-index-count}

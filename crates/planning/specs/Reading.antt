@@ -1,21 +1,20 @@
 -- From what the reader answers to the plan. Assumes nothing.
 use mathlib.Core.Path.{_≡_, refl, sym, ap, ap₂, _∙_, subst}
-use mathlib.Core.Bool.{true, false, not, cond}
-use mathlib.Core.List.{List, [], _∷_, _++_}
+use mathlib.Core.Bool.{true, not, cond}
+use mathlib.Core.List.{List, [], _∷_}
 use mathlib.Core.Option.{Option, none, some}
-use Prim.Native.Nat.{ℕ, zero, suc, _+_, _-_, _*_, _≤_, _<_}
-use native.Mathlib.Decide.{decLe}
+use Prim.Native.Nat.{ℕ, zero, suc, _-_, _≤_, _<_}
 use native.Mathlib.Omega.{arith}
 use lib.Dec.{eqb}
 use lib.ListN.{length, getD, take, drop, replicate}
 use lib.Seq.{take-at, getD-take, length-take-le, ext-getD}
 use Rattle.spec.specs.Members.{All}
 use Rattle.spec.specs.Network.{Network, leafCount, indexCount, accepted}
-use Rattle.spec.specs.Refusal.{Refusal, numberOf, Result, refused, done, andThen}
-use Rattle.spec.specs.Calls.{treePlaces, flagAt}
-use Rattle.spec.specs.File.{Ask, plain, flagged, target, Contents, flagBytes, treeWritten, flagsWritten, readOf}
+use Rattle.spec.specs.Refusal.{Refusal, numberOf, Result, refused, done}
+use Rattle.spec.specs.Calls.{treePlaces}
+use Rattle.spec.specs.File.{Ask, plain, flagged, target, Contents, readOf}
 use Rattle.spec.specs.FileClaims.{Bytes, LawfulTree, LawfulAsk, TreeLeft, FlagsLeft}
-use Rattle.spec.specs.Program.{flagsOf, planOf, printed, program}
+use Rattle.spec.specs.Program.{flagsOf, program}
 use Rattle.spec.specs.Text.{refusedLine, outputOf}
 use Rattle.laws.specs.Accepted.{accepted-means}
 use Rattle.laws.specs.FileReads.{reads-just}

@@ -1,18 +1,18 @@
 -- The last stage: slicing to a target, or the plan as it stands. Assumes nothing.
 use mathlib.Core.Path.{_≡_, refl, sym, ap, _∙_, subst}
-use mathlib.Core.Bool.{Bool, true, false, cond}
+use mathlib.Core.Bool.{true, false, cond}
 use mathlib.Core.List.{List, [], _∷_, _++_, map}
 use mathlib.Core.Option.{some}
-use Prim.Native.Nat.{ℕ, _+_, _-_, _*_, _≤_, _<_}
+use Prim.Native.Nat.{ℕ, _+_, _-_, _*_, _≤_}
 use native.Mathlib.Nat.{le-trans, mul-le-mul-right}
 use native.Mathlib.Omega.{arith}
-use lib.ListN.{length, getD}
+use lib.ListN.{length}
 use borrow.Author.Tests.{le-ltb}
 use Rattle.spec.specs.Lists.{range}
 use Rattle.spec.specs.Memory.{over}
 use Rattle.spec.specs.Network.{Network, leafCount, indexCount, networkChecks}
 use Rattle.spec.specs.Tree.{valid, pairsOf, flatOf}
-use Rattle.spec.specs.Refusal.{Refusal, numberOf, Check, Result, refused, done, andThen, checked}
+use Rattle.spec.specs.Refusal.{numberOf, Check, Result, refused, done, andThen, checked}
 use Rattle.spec.specs.Slicing.{Plan, slice, onePass}
 use Rattle.spec.specs.Calls.{lent, lengthCheck, sliceWords, treeCheck, beyondCheck, danglingIf, followUp, sliceChecks, sliceCall, slicedTree, slicedFlags}
 use Rattle.spec.specs.File.{Ask, plain, flagged, target}

@@ -1,15 +1,13 @@
 -- What is printed is a refusal's line or a plan's text, and the printed steps run to the direct sum. Assumes nothing.
-use mathlib.Core.Path.{_≡_, refl, sym, ap, _∙_, subst}
-use mathlib.Core.Bool.{Bool}
+use mathlib.Core.Path.{_≡_, refl, subst}
 use mathlib.Core.List.{List}
 use mathlib.Core.Option.{Option}
 use Prim.Native.Nat.{ℕ}
-use Rattle.spec.specs.Refusal.{Result, refused, done, andThen}
+use Rattle.spec.specs.Refusal.{Result, refused, done}
 use Rattle.spec.specs.Network.{Network, Sliceable}
 use Rattle.spec.specs.Slicing.{Plan}
 use Rattle.spec.specs.File.{Ask, plain, flagged, target, Contents, readOf}
-use Rattle.spec.specs.Program.{flagsOf, planOf, Printed, printed, program}
-use Rattle.spec.specs.Text.{planText, outputOf}
+use Rattle.spec.specs.Program.{flagsOf, planOf}
 use Rattle.laws.specs.Integers.{ℤ-semiring}
 use Rattle.laws.specs.ProgramLaws.{plan-right, clear-fine, target-fine, flags-stand}
 use Rattle.planning.specs.Output.{programOn, planBytes, StepsSound, Prints}

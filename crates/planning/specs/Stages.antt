@@ -15,10 +15,10 @@ use Rattle.spec.specs.Improve as spec
 use Rattle.spec.specs.Improve.{improve}
 use Rattle.spec.specs.Greedy.{greedy}
 use Rattle.spec.specs.Slicing.{Plan}
-use Rattle.spec.specs.Calls.{lent, lengthCheck, plainWords, improveWords, treePlaces, flagAt, greedyChecks, greedyCall, improveChecks, improveCall, greedyTree, improvedTree}
-use Rattle.spec.specs.File.{Ask, plain, flagged, target, flagBytes}
+use Rattle.spec.specs.Calls.{lent, lengthCheck, plainWords, improveWords, treePlaces, greedyChecks, greedyCall, improveChecks, improveCall, greedyTree, improvedTree}
+use Rattle.spec.specs.File.{Ask, flagged, flagBytes}
 use Rattle.spec.specs.FileClaims.{LawfulTree}
-use Rattle.spec.specs.Program.{flagsOf, flaggedPlan, treeFor, improveFor, sliceFor, planOf}
+use Rattle.spec.specs.Program.{flagsOf, treeFor, improveFor, sliceFor, planOf}
 use Rattle.laws.specs.Results.{done-same, checked-done}
 use Rattle.laws.specs.Accepted.{accepted-means}
 use Rattle.laws.specs.FileFields.{fails-tree}

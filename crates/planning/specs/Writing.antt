@@ -9,7 +9,7 @@ use lib.ListN.{length, getD, take}
 use lib.Seq.{getD-take, length-take-le}
 use Rattle.spec.specs.Network.{Network, leafCount, indexCount, accepted}
 use Rattle.spec.specs.Tree.{Pair, valid, pairsOf, flatOf}
-use Rattle.spec.specs.Refusal.{Refusal, numberOf, Result, refused, done}
+use Rattle.spec.specs.Refusal.{numberOf, Result, refused, done}
 use Rattle.spec.specs.Calls.{plainWords}
 use Rattle.spec.specs.Slicing.{Plan}
 use Rattle.spec.specs.File.{Ask}
@@ -21,7 +21,7 @@ use Rattle.laws.specs.ProgramLaws.{plan-right}
 use Rattle.reconf.specs.declared.Visited.{Visited}
 use Rattle.reconfigure.specs.declared.Improved.the-variants.{Refused, Done}
 use Rattle.planning.specs.Printing.{Written, Printable}
-use Rattle.planning.specs.Stages.{FlagsHeld, PlanHeld, planAnswer, Answers}
+use Rattle.planning.specs.Stages.{PlanHeld, planAnswer, Answers}
 
 flag-low : (b : Bool) → cond b 1 0 ≤ 1
 flag-low true = omega arith

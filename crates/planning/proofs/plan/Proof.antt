@@ -3,12 +3,10 @@ use borrow.Author.Needs.{needs}
 use Rattle.planning.specs.Sound.{prints}
 use Rattle.planning.specs.Reading.{read-refused, read-done, whole-bytes, found-in, zeros}
 use Rattle.planning.specs.Printing.{put-written, written-as}
-use Rattle.spec.specs.Memory.{over}
 use lib.ListN.{replicate}
 use native.Mathlib.Omega.{arith}
-use Prim.Native.Nat.{ℕ, _+_, _-_, _*_, _<_, _≤_}
-use mathlib.Core.Path.{_≡_, refl, sym, ap, _∙_, subst}
-use lib.ListN.{length, getD, set, length-set}
+use Prim.Native.Nat.{_-_}
+use mathlib.Core.Path.{refl, sym, _∙_}
 use Rattle.planning.proofs.plan.Statement.{statement}
 use Rattle.planning.proofs.plan.Tie as tie
 

@@ -4,9 +4,9 @@ use Rattle.planning.specs.Stages.{ready-again, plan-given, greedy-refuse
 use Rattle.netfile.specs.Writer.{askHanded}
 use Rattle.network.specs.Record.{netOf}
 use native.Mathlib.Omega.{arith}
-use Prim.Native.Nat.{ℕ, _+_, _-_, _*_, _<_, _≤_}
-use mathlib.Core.Path.{_≡_, refl, sym, ap, _∙_, subst}
-use lib.ListN.{length, getD, set, length-set}
+use Prim.Native.Nat.{_-_}
+use mathlib.Core.Path.{sym, _∙_}
+use lib.ListN.{length}
 use Rattle.planning.proofs.planned.Statement.{statement}
 use Rattle.planning.proofs.planned.Tie as tie
 

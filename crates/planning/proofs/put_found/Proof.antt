@@ -10,9 +10,9 @@ use Rattle.spec.specs.Calls.{treePlaces}
 use lib.Seq.{length-take-le}
 use lib.ListN.{length-take, take}
 use native.Mathlib.Omega.{arith}
-use Prim.Native.Nat.{ℕ, _+_, _-_, _*_, _<_, _≤_}
-use mathlib.Core.Path.{_≡_, refl, sym, ap, _∙_, subst}
-use lib.ListN.{length, getD, set, length-set}
+use Prim.Native.Nat.{ℕ, _+_, _-_, _≤_}
+use mathlib.Core.Path.{_≡_, refl, ap, _∙_}
+use lib.ListN.{length}
 use Rattle.planning.proofs.put_found.Statement.{statement}
 use Rattle.planning.proofs.put_found.Tie as tie
 
