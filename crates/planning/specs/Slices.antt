@@ -38,6 +38,10 @@ use Rattle.planning.specs.Stages.{FlagsHeld, PlanHeld, planAnswer, Answe
 
 -- ---- without a target ----
 
+abbrev Stands : Network → (kids flags : List ℕ) → Visited → Asked → Type 0
+Stands N kids flags v a =
+    FlagsHeld N (flagsOf (askHanded a flags)) flags → Answers N (sliceFor N (askHanded a flags) (improvedIn kids v)) kids flags (Done v)
+
 module _ {N : Network} {kids flags : List ℕ} {v : Visited} (held : ImprovedHeld N kids v) where
   stands : (ask : Ask) → sliceFor N ask (improvedIn kids v) ≡ done (flaggedPlan (flagsOf ask) (improvedIn kids v)) → FlagsHeld N (flagsOf ask) flags
       → Answers N (sliceFor N ask (improvedIn kids v)) kids flags (Done v)
@@ -51,11 +55,11 @@ module _ {N : Network} {kids flags : List ℕ} {v : Visited} (held : ImprovedHel
 
   pub stands-plain : {a : Asked} → a ≡ Plain → FlagsHeld N (flagsOf (askHanded a flags)) flags
       → Answers N (sliceFor N (askHanded a flags) (improvedIn kids v)) kids flags (Done v)
-  stands-plain {a} e = subst (λ (x : Asked). FlagsHeld N (flagsOf (askHanded x flags)) flags → Answers N (sliceFor N (askHanded x flags) (improvedIn kids v)) kids flags (Done v)) (sym e) (stands plain refl)
+  stands-plain e = subst (Stands N kids flags v) (sym e) (stands plain refl)
 
   pub stands-flagged : {a : Asked} {n : ℕ} → a ≡ Flagged n → FlagsHeld N (flagsOf (askHanded a flags)) flags
       → Answers N (sliceFor N (askHanded a flags) (improvedIn kids v)) kids flags (Done v)
-  stands-flagged {a} {n} e = subst (λ (x : Asked). FlagsHeld N (flagsOf (askHanded x flags)) flags → Answers N (sliceFor N (askHanded x flags) (improvedIn kids v)) kids flags (Done v)) (sym e) (stands (askHanded (Flagged n) flags) refl)
+  stands-flagged {a} {n} e = subst (Stands N kids flags v) (sym e) (stands (askHanded (Flagged n) flags) refl)
 
 -- ---- to a target ----
 
@@ -64,9 +68,11 @@ slice-same : (N : Network) (w words places : ℕ) (kids : List ℕ) → sliceWor
     → sliceCall N true w words places kids ≡ sliceCall N true w (sliceWords true) (indexCount N) kids
 unfolding sliceCall
 slice-same N w words places kids h q =
-    let e : lengthCheck (lent words (sliceWords true) ∷ lent places (indexCount N) ∷ []) ≡ lengthCheck (lent (sliceWords true) (sliceWords true) ∷ lent (indexCount N) (indexCount N) ∷ []) =
+    let e : lengthCheck (lent words (sliceWords true) ∷ lent places (indexCount N) ∷ [])
+    ≡ lengthCheck (lent (sliceWords true) (sliceWords true) ∷ lent (indexCount N) (indexCount N) ∷ []) =
     rw (le-ltb words (sliceWords true) h, le-ltb places (indexCount N) q, le-ltb (indexCount N) (indexCount N) (omega arith)) in
-    ap (λ (x : Check). checked (networkChecks false N ++ (x ∷ treeCheck N kids ∷ beyondCheck N (λ j. false) (pairsOf kids) ∷ danglingIf N true)) (done (slice N w (followUp N true) (pairsOf kids)))) e
+    let rest : List Check = treeCheck N kids ∷ beyondCheck N (λ j. false) (pairsOf kids) ∷ danglingIf N true in
+    ap (λ (x : Check). checked (networkChecks false N ++ (x ∷ rest)) (done (slice N w (followUp N true) (pairsOf kids)))) e
 
 module _ (N : Network) (w : ℕ) (kids₀ flags₀ : List ℕ) (v : Visited) (words : ℕ) (ready : Ready N words (length flags₀)) (held : ImprovedHeld N kids₀ v) where
   abbrev call : Result Plan
@@ -78,7 +84,8 @@ module _ (N : Network) (w : ℕ) (kids₀ flags₀ : List ℕ) (v : Visited) (wo
   whole-is : whole ≡ andThen call λ p. done (counted (improvedIn kids₀ v) p)
   whole-is =
       ap (λ (x : Result Plan). andThen x (λ p. done (counted (improvedIn kids₀ v) p)))
-      (ap (sliceCall N true w (sliceWords true) (indexCount N)) (held .flat) ∙ sym (slice-same N w words (length flags₀) kids₀ (omega (arith, ready .stated)) (ready .room)))
+      (ap (sliceCall N true w (sliceWords true) (indexCount N)) (held .flat)
+      ∙ sym (slice-same N w words (length flags₀) kids₀ (omega (arith, ready .stated)) (ready .room)))
 
   module _ (p : Plan) (e : call ≡ done p) where
     is-slice : slice N w (onePass N) (pairsOf kids₀) ≡ p
