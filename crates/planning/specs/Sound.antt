@@ -1,0 +1,36 @@
+-- What is printed is a refusal's line or a plan's text, and the printed steps run to the direct sum. Assumes nothing.
+use mathlib.Core.Path.{_≡_, refl, subst}
+use mathlib.Core.List.{List}
+use mathlib.Core.Option.{Option}
+use Prim.Native.Nat.{ℕ}
+use Rattle.spec.specs.Refusal.{Result, refused, done}
+use Rattle.spec.specs.Network.{Network, Sliceable}
+use Rattle.spec.specs.Slicing.{Plan}
+use Rattle.spec.specs.File.{Ask, plain, flagged, target, Contents, readOf}
+use Rattle.spec.specs.Program.{flagsOf, planOf}
+use Rattle.laws.specs.Integers.{ℤ-semiring}
+use Rattle.laws.specs.ProgramLaws.{plan-right, clear-fine, target-fine, flags-stand}
+use Rattle.planning.specs.Output.{programOn, planBytes, StepsSound, Prints}
+
+-- given flags stand, and without them there is nothing to ask
+given-fine : (N : Network) (given : Option (List ℕ)) (ask : Ask) (p : Plan) → planOf N given ask ≡ done p → Sliceable N (p .flag) → Sliceable N (flagsOf ask)
+given-fine N given plain p e h = clear-fine N
+given-fine N given (flagged l) p e h = subst (Sliceable N) (flags-stand N given l p e) h
+given-fine N given (target w) p e h = target-fine N w
+
+steps-sound : (N : Network) (given : Option (List ℕ)) (ask : Ask) (p : Plan) → planOf N given ask ≡ done p → StepsSound N p
+steps-sound N given ask p e fine two tables = plan-right N given ask p e .runs (given-fine N given ask p e fine) two ℤ-semiring tables
+
+by-plan : (file : List ℕ) (c : Contents) → readOf 254 256 file ≡ done c → (x : Result Plan) → planOf (c .network) (c .tree) (c .ask) ≡ x → Prints file (planBytes file)
+unfolding planBytes programOn
+by-plan file c e (refused r) q = Prints.refuses r (rw (e, q))
+by-plan file c e (done p) q = Prints.plans c p e q (rw (e, q)) (steps-sound (c .network) (c .tree) (c .ask) p q)
+
+by-reading : (file : List ℕ) (x : Result Contents) → readOf 254 256 file ≡ x → Prints file (planBytes file)
+unfolding planBytes programOn
+by-reading file (refused r) e = Prints.refuses r (rw e)
+by-reading file (done c) e = by-plan file c e (planOf (c .network) (c .tree) (c .ask)) refl
+
+-- WHAT IS PRINTED IS SOUND
+pub prints : (file : List ℕ) → Prints file (planBytes file)
+prints file = by-reading file (readOf 254 256 file) refl

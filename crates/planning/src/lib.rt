@@ -1,0 +1,257 @@
+// The program `plan` as one function: from a network file's bytes to the text that is printed.
+ghost use mathlib.Core.Path.{_≡_};
+ghost use Prim.Native.Nat.{_≤_};
+ghost use lib.ListN.{length, take};
+ghost use Rattle.spec.specs.Memory.{over};
+ghost use Rattle.spec.specs.Calls.{treePlaces};
+ghost use Rattle.spec.specs.File.{target};
+ghost use Rattle.spec.specs.Program.{flagsOf, sliceFor, planOf, printed, program};
+ghost use Rattle.spec.specs.Slicing.{Plan};
+ghost use Rattle.spec.specs.Text.{planText, outputOf};
+ghost use Rattle.network.specs.Record.{netOf};
+ghost use Rattle.netfile.specs.Writer.{askHanded};
+ghost use Rattle.planning.specs.Output.{planBytes, Prints};
+ghost use Rattle.planning.specs.Printing.{Written, FullLists, Printable};
+ghost use Rattle.planning.specs.Stages.{FlagsHeld, PlanHeld, Answers, Ready, givenTree, flagCount, FoundIn, improvedIn, ImprovedHeld, fromTree};
+use cost::Priced;
+use greedy::Planned;
+use netfile::Answer;
+use netfile::Ask;
+use netfile::Found;
+use netfile::Tree;
+use network::Network;
+use reconf::Visited;
+use reconfigure::Improved;
+use reconfigure::Limit;
+use slicetree::Sliced;
+
+// How many flags are given.
+fn flag_count(ask: Ask) -> usize
+    ensures { λ r. ⌜ r ≡ flagCount ask ⌝ }
+{
+    match ask {
+        Ask::Plain => 0,
+        Ask::Flagged(count) => count,
+        Ask::Target(_) => 0,
+    }
+}
+
+// Slices the improved tree to a target, with improvement; the counts are added to those so far.
+fn slice_to(
+    network: Network,
+    bits: u8,
+    counts: Visited,
+    tree: &mut [u16],
+    flags: &mut [u8],
+    ws: &mut [u64],
+) -> Improved
+    requires { ⌜ Ready (netOf network) (length (now ws)) (length (now flags)) × ImprovedHeld (netOf network) (now tree) counts ⌝ }
+    ensures { λ r. ⌜ Answers (netOf network) (sliceFor (netOf network) (target bits) (improvedIn (now (tree .entry)) counts)) (now (tree .exit)) (now (flags .exit)) r ⌝ }
+{
+    let r = slicetree::slice_tree(network, true, tree, bits as u16, flags, ws);
+    match r {
+        Sliced::Refused(number) => Improved::Refused(number),
+        Sliced::Done { rebuilt, tried } => Improved::Done(Visited {
+            rebuilt: counts.rebuilt + rebuilt,
+            tried: counts.tried + tried,
+        }),
+    }
+}
+
+// Slices where the file has a target; else the plan stands, with the given flags.
+fn sliced(
+    network: Network,
+    ask: Ask,
+    counts: Visited,
+    tree: &mut [u16],
+    flags: &mut [u8],
+    ws: &mut [u64],
+) -> Improved
+    requires { ⌜ Ready (netOf network) (length (now ws)) (length (now flags)) × ImprovedHeld (netOf network) (now tree) counts × FlagsHeld (netOf network) (flagsOf (askHanded ask (now flags))) (now flags) ⌝ }
+    ensures { λ r. ⌜ Answers (netOf network) (sliceFor (netOf network) (askHanded ask (now (flags .entry))) (improvedIn (now (tree .entry)) counts)) (now (tree .exit)) (now (flags .exit)) r ⌝ }
+{
+    match ask {
+        Ask::Plain => Improved::Done(counts),
+        Ask::Flagged(_) => Improved::Done(counts),
+        Ask::Target(bits) => slice_to(network, bits, counts, tree, flags, ws),
+    }
+}
+
+// Improves a tree, with the given flags, and slices it.
+fn improved(
+    network: Network,
+    ask: Ask,
+    tree: &mut [u16],
+    flags: &mut [u8],
+    ws: &mut [u64],
+) -> Improved
+    requires { ⌜ Ready (netOf network) (length (now ws)) (length (now flags)) × FlagsHeld (netOf network) (flagsOf (askHanded ask (now flags))) (now flags) × (flagCount ask ≤ length (now flags)) ⌝ }
+    ensures { λ r. ⌜ Answers (netOf network) (fromTree (netOf network) (askHanded ask (now (flags .entry))) (now (tree .entry))) (now (tree .exit)) (now (flags .exit)) r ⌝ }
+{
+    let count = flag_count(ask);
+    let r = reconfigure::reconfigure(network, 8, 4, Limit::Unlimited, &flags[..count], tree, ws);
+    match r {
+        Improved::Refused(number) => Improved::Refused(number),
+        Improved::Done(counts) => sliced(network, ask, counts, tree, flags, ws),
+    }
+}
+
+// The plan of a network, from the given tree or from greedy's.
+fn planned(
+    network: Network,
+    given: Tree,
+    ask: Ask,
+    tree: &mut [u16],
+    flags: &mut [u8],
+    ws: &mut [u64],
+) -> Improved
+    requires { ⌜ Ready (netOf network) (length (now ws)) (length (now flags)) × FlagsHeld (netOf network) (flagsOf (askHanded ask (now flags))) (now flags) × (flagCount ask ≤ length (now flags)) × (length (now tree) ≡ treePlaces (netOf network)) ⌝ }
+    ensures { λ r. ⌜ Answers (netOf network) (planOf (netOf network) (givenTree given (now (tree .entry))) (askHanded ask (now (flags .entry)))) (now (tree .exit)) (now (flags .exit)) r ⌝ }
+{
+    match given {
+        Tree::Present(_) => improved(network, ask, tree, flags, ws),
+        Tree::Absent => {
+            let made = greedy::greedy(network, tree, ws);
+            match made {
+                Planned::Refused(number) => Improved::Refused(number),
+                Planned::Done => improved(network, ask, tree, flags, ws),
+            }
+        }
+    }
+}
+
+// Prices the plan in lists that are lent, and puts its text at the front of a buffer.
+fn put_priced(
+    network: Network,
+    counts: Visited,
+    tree: &[u16],
+    flags: &[u8],
+    ws: &mut [u64],
+    sets: &mut [u64],
+    sizes: &mut [u16],
+    works: &mut [u16],
+    steps: &mut [u16],
+    out: &mut [u8],
+) -> usize
+    requires { ⌜ Printable (netOf network) (now tree) (now flags) (length (now ws)) × FullLists (now sets) (now sizes) (now works) (now steps) ⌝ }
+    ensures { λ r. ⌜ ((p : Plan) → PlanHeld (netOf network) p (now (tree .entry)) (now (flags .entry)) → p .rebuilt ≡ counts .rebuilt → p .tried ≡ counts .tried → Written (now (out .entry)) (now (out .exit)) r (planText (printed (netOf network) p))) × (r ≤ 131072) ⌝ }
+{
+    let n = network.leaf_count;
+    let m = network.index_count;
+    let priced = cost::tree_cost(network, flags, tree, ws, sets, sizes, works, steps);
+    match priced {
+        Priced::Refused(_) => 0,
+        Priced::Done(prices) => text::put_plan(
+            out,
+            n,
+            m,
+            4,
+            prices,
+            steps,
+            sets,
+            flags,
+            counts.rebuilt,
+            counts.tried,
+        ),
+    }
+}
+
+// Puts the text of a plan at the front of a buffer.
+fn put_text(
+    network: Network,
+    counts: Visited,
+    tree: &[u16],
+    flags: &[u8],
+    ws: &mut [u64],
+    out: &mut [u8],
+) -> usize
+    requires { ⌜ Printable (netOf network) (now tree) (now flags) (length (now ws)) ⌝ }
+    ensures { λ r. ⌜ ((p : Plan) → PlanHeld (netOf network) p (now (tree .entry)) (now (flags .entry)) → p .rebuilt ≡ counts .rebuilt → p .tried ≡ counts .tried → Written (now (out .entry)) (now (out .exit)) r (planText (printed (netOf network) p))) × (r ≤ 131072) ⌝ }
+{
+    let mut sets = [0u64; 1020];
+    let mut sizes = [0u16; 255];
+    let mut works = [0u16; 255];
+    let mut steps = [0u16; 635];
+    put_priced(
+        network,
+        counts,
+        tree,
+        flags,
+        ws,
+        &mut sets,
+        &mut sizes,
+        &mut works,
+        &mut steps,
+        out,
+    )
+}
+
+// Plans, and puts the text of the plan or of the refusal at the front of a buffer.
+fn put_planned(
+    network: Network,
+    given: Tree,
+    ask: Ask,
+    tree: &mut [u16],
+    flags: &mut [u8],
+    ws: &mut [u64],
+    out: &mut [u8],
+) -> usize
+    requires { ⌜ Ready (netOf network) (length (now ws)) (length (now flags)) × FlagsHeld (netOf network) (flagsOf (askHanded ask (now flags))) (now flags) × (flagCount ask ≤ length (now flags)) × (length (now tree) ≡ treePlaces (netOf network)) ⌝ }
+    ensures { λ r. ⌜ Written (now (out .entry)) (now (out .exit)) r (outputOf (program (netOf network) (givenTree given (now (tree .entry))) (askHanded ask (now (flags .entry))))) × (r ≤ 131072) ⌝ }
+{
+    let r = planned(network, given, ask, tree, flags, ws);
+    match r {
+        Improved::Refused(number) => text::put_refused(out, number),
+        Improved::Done(counts) => {
+            let m = network.index_count;
+            put_text(network, counts, tree, &flags[..m], ws, out)
+        }
+    }
+}
+
+// Plans what was found in a file: its network, the tree at the front of `tree`, if there is one, and the given flags.
+fn put_found(
+    network: Network,
+    found: Found,
+    tree: &mut [u16],
+    flags: &mut [u8],
+    out: &mut [u8],
+) -> usize
+    requires { ⌜ FoundIn (netOf network) found (now tree) (now flags) ⌝ }
+    ensures { λ r. ⌜ Written (now (out .entry)) (now (out .exit)) r (outputOf (program (netOf network) (givenTree (found .tree) (take (treePlaces (netOf network)) (now (tree .entry)))) (askHanded (found .ask) (now (flags .entry))))) × (r ≤ 131072) ⌝ }
+{
+    let mut ws = [0u64; 6144];
+    let given = found.tree;
+    let ask = found.ask;
+    let n = cells::less(network.leaf_count, 1);
+    let places = n + n;
+    put_planned(
+        network,
+        given,
+        ask,
+        &mut tree[..places],
+        flags,
+        &mut ws,
+        out,
+    )
+}
+
+// The program `plan`: reads a network file, plans, and puts what is printed at the front of `out`. The answer is the text's length; a buffer
+// that is shorter gets the text's front. No text is longer than `text::BYTES`.
+pub fn plan(file: &[u8], out: &mut [u8]) -> usize
+    ensures bytes { λ r. ⌜ now (out .exit) ≡ over (now (out .entry)) (planBytes (now (file .entry))) ⌝ }
+    ensures count { λ r. ⌜ (r ≡ length (planBytes (now (file .entry)))) × (r ≤ 131072) ⌝ }
+    ensures sound { λ r. ⌜ Prints (now (file .entry)) (planBytes (now (file .entry))) ⌝ }
+{
+    let mut tree = [0u16; 254];
+    let mut flags = [0u8; 256];
+    let reading = netfile::read(file, &mut tree, &mut flags);
+    let answer = reading.answer;
+    match answer {
+        Answer::Refused(number) => text::put_refused(out, number),
+        Answer::Done(found) => {
+            let network = reading.network;
+            put_found(network, found, &mut tree, &mut flags, out)
+        }
+    }
+}

@@ -1,0 +1,46 @@
+"""The program `plan`, as document 01 says: from a network file's bytes to the text that it prints."""
+from greedy_plan import greedy
+from improvement import improve
+from network_file import Refused, parse, refuse_if
+from price_list import Network, members, price
+from slicing import slice_tree
+
+DEAR, LOOSE = 10, 11
+
+
+def planned(contents):
+    """The tree, the flags and the two counts of the plan; raises Refused."""
+    children = greedy(Network(contents)) if contents.tree is None else contents.tree
+    flags = contents.flags or []
+    network = Network(contents, flags)
+    refuse_if(price(network, children).beyond(), DEAR)
+    refuse_if(network.dangling(), LOOSE)
+    improved = improve(network, children, 8, 4, None)
+    if contents.target is None:
+        return improved.children, flags, improved.rebuilt, improved.tried
+    refuse_if(price(Network(contents), improved.children).beyond(), DEAR)
+    sliced = slice_tree(contents, improved.children, contents.target)
+    return sliced.children, sliced.flags, improved.rebuilt + sliced.rebuilt, improved.tried + sliced.tried
+
+
+def plan_lines(contents):
+    children, flags, rebuilt, tried = planned(contents)
+    network = Network(contents, flags)
+    prices = price(network, children)
+    count = len(contents.leaves)
+    lines = [f"plan {count} {len(contents.weights)}"]
+    for node in prices.order:
+        numbers = [node, *children[2 * (node - count):2 * (node - count) + 2], prices.works[node], prices.sizes[node], *members(prices.lists[node])]
+        lines.append("step " + " ".join(str(number) for number in numbers))
+    lines += [f"total {prices.total}", f"widest {'-' if prices.widest is None else prices.widest}"]
+    lines += [f"slice {index}" for index, flagged in enumerate(network.flags) if flagged]
+    return lines + [f"bits {prices.slice_bits}", f"improved {rebuilt}", f"splits {tried}"]
+
+
+def plan_text(data):
+    """What the program prints for a file's bytes."""
+    try:
+        lines = plan_lines(parse(data))
+    except Refused as refused:
+        lines = [f"refused {refused.number}"]
+    return "".join(line + "\n" for line in lines)
