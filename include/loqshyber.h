@@ -118,4 +118,11 @@ uint32_t loqshyber_slice_tree(const uint8_t *weights, size_t weights_length, con
     const uint16_t *legs, size_t legs_length, const uint16_t *outputs, size_t outputs_length, uint16_t *tree, size_t tree_length,
     uint8_t *flags, size_t flags_length, uint64_t *ws, size_t ws_length, uint64_t *answer, size_t answer_length, uint32_t improving, uint16_t target);
 
+/* loqshyber_plan is the program `plan`: it reads a network file, takes its tree or greedy's, improves it (k = 8, four passes, the file's flags), slices it
+ * to the file's target, if there is one, and writes the text of the plan, or `refused` and the number, to the front of `out`. It returns the text's
+ * length, at most LOQSHYBER_TEXT bytes; a shorter `out` gets the text's front. */
+#define LOQSHYBER_TEXT 131072
+
+size_t loqshyber_plan(const uint8_t *file, size_t file_length, uint8_t *out, size_t out_length);
+
 #endif

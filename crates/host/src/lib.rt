@@ -1,7 +1,9 @@
-// The functions that a C host calls: a file's bytes priced, a network in memory priced, its greedy plan, a tree of it improved, a tree of it sliced.
+// The functions that a C host calls: a file's bytes priced, a file planned, a network in memory priced, its greedy plan, a tree of it improved, a
+// tree of it sliced.
 ghost use mathlib.Core.Path.{_≡_};
 ghost use Prim.Native.Nat.{_≤_};
 ghost use lib.ListN.{length, take};
+ghost use Rattle.spec.specs.Memory.{over};
 ghost use Rattle.spec.specs.Host.{listingCall, hostCall, Answered, lentNetwork, limitNumber};
 ghost use Rattle.network.specs.Record.{netOf};
 ghost use Rattle.host.specs.Reading.{placesOf, countOf};
@@ -10,6 +12,7 @@ ghost use Rattle.memory.specs.Promise.{MemoryCost};
 ghost use Rattle.memoryplans.specs.Plan.{MemoryGreedy};
 ghost use Rattle.memoryreconf.specs.Promise.{MemoryReconfigures};
 ghost use Rattle.memoryslice.specs.Promise.{improvingNumber, MemorySlices};
+ghost use Rattle.planning.specs.Output.{planBytes, Prints};
 use netfile::Answer;
 use netfile::Ask;
 use netfile::Found;
@@ -186,4 +189,14 @@ pub extern "C" fn loqshyber_slice_tree(
         improving,
         target,
     ) as u32
+}
+
+// The program `plan`: the text for a file's bytes to the front of `out`, and its length. A buffer that is shorter gets the text's front.
+#[no_mangle]
+pub extern "C" fn loqshyber_plan(file: &[u8], out: &mut [u8]) -> usize
+    ensures bytes { λ r. ⌜ now (out .exit) ≡ over (now (out .entry)) (planBytes (now (file .entry))) ⌝ }
+    ensures count { λ r. ⌜ (r ≡ length (planBytes (now (file .entry)))) × (r ≤ 131072) ⌝ }
+    ensures sound { λ r. ⌜ Prints (now (file .entry)) (planBytes (now (file .entry))) ⌝ }
+{
+    planning::plan(file, out)
 }
