@@ -15,6 +15,7 @@ mod listing;
 mod memory;
 mod networks;
 mod numbers;
+mod plan_bench;
 mod port;
 mod reconfigure;
 mod record;
@@ -40,7 +41,7 @@ const GREEDY_RUNS: &str = concat!(env!("CARGO_MANIFEST_DIR"), "/../crates/greedy
 /// The crate whose input and output `reconfigure-record` writes.
 const RECONF_RUNS: &str = concat!(env!("CARGO_MANIFEST_DIR"), "/../crates/reconfruns");
 
-const USAGE: &str = "usage: harness compare|greedy|reconfigure|slice [NETWORKS [SEED]] | bisect [NETWORKS [SEED [LEAVES]]] | bench | greedy-bench | reconfigure-bench | slice-bench | record | tree-record | greedy-record | reconfigure-record";
+const USAGE: &str = "usage: harness compare|greedy|reconfigure|slice [NETWORKS [SEED]] | bisect [NETWORKS [SEED [LEAVES]]] | bench | greedy-bench | reconfigure-bench | slice-bench | plan-bench | record | tree-record | greedy-record | reconfigure-record";
 
 fn compare(count: usize, seed: u64) -> ExitCode {
     if !port::AT_HAND {
@@ -96,6 +97,10 @@ fn main() -> ExitCode {
         (Some("slice"), Some(count), Some(seed)) => slice::run(count as usize, seed),
         (Some("slice-bench"), ..) => {
             slice::bench::run();
+            ExitCode::SUCCESS
+        }
+        (Some("plan-bench"), ..) => {
+            plan_bench::run();
             ExitCode::SUCCESS
         }
         (Some("bisect"), Some(count), Some(seed)) => {

@@ -10,6 +10,7 @@ pub const MISSING: &str = "the port is not linked: run `rt staticlib host` at th
 #[cfg(port)]
 extern "C" {
     fn loqshyber_price(file: *const u8, file_len: usize, out: *mut u8, out_len: usize) -> u32;
+    fn loqshyber_plan(file: *const u8, file_len: usize, out: *mut u8, out_len: usize) -> usize;
     fn loqshyber_tree_cost(
         weights: *const u8,
         weights_len: usize,
@@ -43,6 +44,13 @@ extern "C" {
 pub fn price(file: &[u8], out: &mut [u8]) -> u32 {
     // SAFETY: both parts are as long as is said, and neither is kept past the call
     unsafe { loqshyber_price(file.as_ptr(), file.len(), out.as_mut_ptr(), out.len()) }
+}
+
+/// What the program `plan` prints for a file: its text to the front of `out`, and its length.
+#[cfg(port)]
+pub fn plan(file: &[u8], out: &mut [u8]) -> usize {
+    // SAFETY: both parts are as long as is said, and neither is kept past the call
+    unsafe { loqshyber_plan(file.as_ptr(), file.len(), out.as_mut_ptr(), out.len()) }
 }
 
 /// Prices a network in memory: the number of the refusal, or 0 and the price list.
@@ -86,5 +94,10 @@ pub fn tree_cost(_given: &Given, _lent: &mut Lent) -> u32 {
 
 #[cfg(not(port))]
 pub fn price(_file: &[u8], _out: &mut [u8]) -> u32 {
+    panic!("{MISSING}")
+}
+
+#[cfg(not(port))]
+pub fn plan(_file: &[u8], _out: &mut [u8]) -> usize {
     panic!("{MISSING}")
 }

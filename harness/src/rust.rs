@@ -49,8 +49,8 @@ pub struct Answer {
 
 #[cfg(path_rs)]
 pub use compiled::{
-    bisection, greedy, greedy_call, quiet_caught_panics, reconfigure, reconfigure_call, slice, slice_call, tree_cost_call,
-    valid_cost_call,
+    bisection, greedy, greedy_call, plan_call, quiet_caught_panics, reconfigure, reconfigure_call, slice, slice_call,
+    tree_cost_call, valid_cost_call,
 };
 
 /// Runs path.rs, if it is at hand. A case without a tree is one with no internal node.
@@ -63,7 +63,7 @@ pub fn answer(case: &Case) -> Option<Answer> {
 
 #[cfg(not(path_rs))]
 pub use missing::{
-    answer, bisection, greedy, greedy_call, quiet_caught_panics, reconfigure, reconfigure_call, slice, slice_call,
+    answer, bisection, greedy, greedy_call, plan_call, quiet_caught_panics, reconfigure, reconfigure_call, slice, slice_call,
     tree_cost_call, valid_cost_call,
 };
 
@@ -100,6 +100,10 @@ mod missing {
     }
 
     pub fn slice_call<'a>(_case: &Case, _target: u16, _improving: bool) -> Call<'a> {
+        None
+    }
+
+    pub fn plan_call<'a>(_case: &Case, _target: Option<u8>) -> Call<'a> {
         None
     }
 
@@ -252,6 +256,17 @@ mod compiled {
         Some(Box::new(move || {
             let mut tree = input.tree.clone();
             black_box(path::reconfigure(&input.network, &mut tree, &input.sliced, k, limit, passes));
+        }))
+    }
+
+    /// The calls that the program `plan` makes: greedy, improvement, slicing to a target if there is one, pricing.
+    pub fn plan_call<'a>(case: &Case, target: Option<u8>) -> Call<'a> {
+        let input = Input::new(case);
+        Some(Box::new(move || {
+            let mut tree = path::greedy(&input.network, &GreedyParams::default(), 0);
+            path::reconfigure(&input.network, &mut tree, &[], 8, None, 4);
+            let sliced = target.map_or(Vec::new(), |bits| path::slice_tree(&input.network, &mut tree, bits.into(), true));
+            black_box(path::tree_cost(&input.network, &tree, &sliced));
         }))
     }
 
