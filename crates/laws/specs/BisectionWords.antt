@@ -1,20 +1,20 @@
 -- The words that a bisection takes: each part of it goes alike with other words after those that it takes (WordLaws). Assumes nothing.
-use mathlib.Core.Path.{_≡_, refl}
-use mathlib.Core.Bool.{Bool, true, false, not, cond}
-use mathlib.Core.List.{List, [], _∷_, map}
+use mathlib.Core.Path.{refl}
+use mathlib.Core.Bool.{true, false, not}
+use mathlib.Core.List.{List, [], map}
 use mathlib.Core.Option.{Option, none, some}
-use Prim.Native.Nat.{ℕ, zero, suc, _+_, _-_, _*_}
+use Prim.Native.Nat.{ℕ, zero, suc, _-_, _*_}
 use lib.Dec.{eqb, leb, ltb}
 use lib.ListN.{length, getD, set, replicate}
-use lib.Ieee.{Float, binary64, add, mul, div, neg, lt, le}
+use lib.Ieee.{Float, binary64, add, div, neg, le}
 use Rattle.spec.specs.Lists.{memb, range}
-use Rattle.spec.specs.Floats.{zeroFloat, micro, wholeFloat}
-use Rattle.spec.specs.Draws.{Words, lentWords, Drawn, drawn, draw, unitOf, unitDraw, indexOf, indexDraw}
+use Rattle.spec.specs.Floats.{zeroFloat, wholeFloat}
+use Rattle.spec.specs.Draws.{Words, lentWords, Drawn, drawn, indexDraw}
 use Rattle.spec.specs.Hypergraph.{until, foldOver, Hypergraph, vertexCount, vertexWeight, totalWeight, netsAt, allPins, sideOf, Sides, sidesOf, moved}
-use Rattle.spec.specs.Fm.{Entry, Queue, largest, takenOut, keyOf, gain, enteredAs, firstQueue, enteredAgain, Gains, counted, Pass, Refined, moveLimit, fitsIn, afterMove, takenOff, turnOf, passTurn, runPass, startPass, rolledBack, endPass, passes, fm}
-use Rattle.spec.specs.Coarsen.{swapped, shuffled, Choice, Level, unmatched, ratings, lookedAt, choiceOf, mated, matched, matching, levelOf, worthwhile, coarsen}
-use Rattle.spec.specs.Bisection.{Growth, Strongest, offered, strongest, linkedBy, half, grownOn, grownBy, growthTurn, ended, grown, Candidate, better, candidateOf, candidate, tries, partOf, initial, sideLimit, refinedFrom, throughLevel, multilevel, bisect}
-use Rattle.laws.specs.WordLaws.{Held, words-held, drawn-held, Goes, still, stays, either, after, over, turns-go, drawing}
+use Rattle.spec.specs.Fm.{Entry, Queue, largest, takenOut, enteredAs, enteredAgain, Gains, counted, Pass, Refined, moveLimit, fitsIn, afterMove, turnOf, passTurn, runPass, startPass, endPass, fm}
+use Rattle.spec.specs.Coarsen.{swapped, shuffled, Choice, Level, unmatched, ratings, lookedAt, mated, matched, matching, levelOf, worthwhile, coarsen}
+use Rattle.spec.specs.Bisection.{Growth, Strongest, offered, linkedBy, half, grownOn, grownBy, growthTurn, ended, grown, Candidate, better, candidateOf, tries, partOf, initial, sideLimit, refinedFrom, throughLevel, multilevel, bisect}
+use Rattle.laws.specs.WordLaws.{Held, drawn-held, Goes, still, stays, either, after, over, turns-go, drawing}
 
 -- ---- the states ----
 
@@ -183,7 +183,7 @@ module _ (G : Hypergraph) where
       let n = vertexCount G in
       let run : Growth → Growth = λ g. until (suc n) (λ g. ended G (g .next)) (λ g. growthTurn G (g .next) g) g in
       let begin : Drawn ℕ → Growth = λ seed.
-          record { part = replicate n 0; weight = zeroFloat; links = replicate n zeroFloat; next = some (seed .value); words = seed .words } in
+      record { part = replicate n 0; weight = zeroFloat; links = replicate n zeroFloat; next = some (seed .value); words = seed .words } in
       after (drawn-held ℕ) growth-held (λ seed. run (begin seed)) (drawing (drawn-held ℕ) (λ ws ws′ e. rw e))
       (λ seed. turns-go growth-held (suc n) (λ g. ended G (g .next)) (λ g. growthTurn G (g .next) g) (λ ws g. refl) (λ g. growth-goes (g .next) g) (begin seed))
 

@@ -1,6 +1,6 @@
 -- Runs that take words: a run goes alike with other words after those that it takes, and past the end of them if it would take more. Said of
 -- any state that holds words; closed under everything that a run is made of. Assumes nothing.
-use mathlib.Core.Path.{_≡_, refl, sym, ap}
+use mathlib.Core.Path.{_≡_, refl, ap}
 use mathlib.Core.Logic.{_⊎_, inl, inr}
 use mathlib.Core.Bool.{Bool, true, false, cond}
 use mathlib.Core.List.{List, [], _∷_, _++_}
@@ -17,9 +17,6 @@ pub record Held (T : Type 0) : Type 0 where
   pub put : Words → T → T
   pub get-put : (ws : Words) (t : T) → get (put ws t) ≡ ws
   pub put-get : (t : T) → put (get t) t ≡ t
-
-abbrev pub words-held : Held Words
-words-held = record { get = λ ws. ws; put = λ ws t. ws; get-put = λ ws t. refl; put-get = λ t. refl }
 
 abbrev pub drawn-held : (A : Type 0) → Held (Drawn A)
 drawn-held A =
@@ -77,6 +74,7 @@ module _ {S T : Type 0} (J : Held S) (H : Held T) where
     where
       beyond : (l : List ℕ) (t : S) → Past l (J .get t) → Past l (H .get (f t))
       beyond l t k = rw (J .put-get t) at (h t .past l (J .get t) k)
+
       go : (r m : List ℕ) (t t′ : S) → Alike J r m t t′ → Alike H r m (f t) (f t′)
       go r m t t′ (inl (q, u, e, e′)) = rw (e, e′) (h u .step r m q)
       go r m t t′ (inr (k, k′)) = inr (beyond r t k, beyond m t′ k′)
@@ -116,6 +114,7 @@ drawing H {c} e =
   where
     first : (l : List ℕ) → Past l (H .get (c (lentWords l)))
     first l = rw (ap (H .get) (e (lentWords l) (lentWords l) refl), H .get-put) (draw-past l l false (λ k. omega arith))
+
     go : (r m p : List ℕ) → Alike H r m (c (lentWords (p ++ r))) (c (lentWords (p ++ m)))
     go r m [] = inr (first r, first m)
     go r m (w ∷ p) =
