@@ -139,6 +139,18 @@ and-none : (b : Bool) → (b && false) ≡ false
 and-none true = refl
 and-none false = refl
 
+off-in : {heap : List Entry} {e : Entry} {rest : List Entry} → ComesOff heap e rest → In e heap
+off-in {heap} {e} {rest} c = rw (c .whole) (in-middle (c .before))
+  where
+    in-middle : (a : List Entry) → In e (a ++ (e ∷ c .behind))
+    in-middle [] = here refl
+    in-middle (x ∷ a) = there (in-middle a)
+
+rest-all : (P : Entry → Type 0) {heap : List Entry} {e : Entry} {rest : List Entry} → ComesOff heap e rest → All P heap → All P rest
+rest-all P {heap} {e} {rest} c h =
+    let (a, b) = all-parts P (c .before) (e ∷ c .behind) (subst (All P) (c .whole) h) in
+    subst (All P) (sym (c .others)) (all-append P (c .before) (c .behind) a (b .1))
+
 module _ (n : ℕ) (moves : List ℕ) (q : Queue) (heap : List Entry) (e : Entry) (rest : List Entry) (H : HeapOf n moves q heap) (c : ComesOff heap e rest) where
   -- those of another vertex, or none that is live
   kept-others : (v : ℕ) → liveOf moves q v e ≡ false → keep (liveOf moves q v) rest ≡ keep (liveOf moves q v) heap
@@ -147,25 +159,13 @@ module _ (n : ℕ) (moves : List ℕ) (q : Queue) (heap : List Entry) (e : Entry
       ∙ sym (ap (keep (liveOf moves q v)) (c .whole) ∙ keep-append (liveOf moves q v) (c .before) (e ∷ c .behind)
       ∙ ap (λ b. keep (liveOf moves q v) (c .before) ++ cond b (e ∷ keep (liveOf moves q v) (c .behind)) (keep (liveOf moves q v) (c .behind))) l)
 
-  rest-older : All (λ f. f .stamp ≤ getD (q .stamps) (f .vertex) 0) rest
-  rest-older =
-      let (a, b) = all-parts _ (c .before) (e ∷ c .behind) (rw (c .whole) at (H .older)) in
-      rw (c .others) (all-append _ (c .before) (c .behind) a (b .1))
-
   passed-over : live moves q e ≡ false → HeapOf n moves q rest
   passed-over l =
       record {
         present = λ v. kept-others v (ap (λ b. eqb (e .vertex) v && b) l ∙ and-none (eqb (e .vertex) v)) ∙ H .present v;
-        older = rest-older;
+        older = rest-all _ c (H .older);
         sized = H .sized;
       }
-
-  off-in : In e heap
-  off-in = rw (c .whole) (in-middle (c .before))
-    where
-      in-middle : (a : List Entry) → In e (a ++ (e ∷ c .behind))
-      in-middle [] = here refl
-      in-middle (x ∷ a) = there (in-middle a)
 
   -- the entry was its vertex's only live one
   none-left : live moves q e ≡ true → keep (liveOf moves q (e .vertex)) rest ≡ []
@@ -175,7 +175,7 @@ module _ (n : ℕ) (moves : List ℕ) (q : Queue) (heap : List Entry) (e : Entry
       let whole : keep p (c .before) ++ (e ∷ keep p (c .behind)) ≡ entryOf q (e .vertex) ∷ [] =
           sym (ap (keep p) (c .whole) ∙ keep-append p (c .before) (e ∷ c .behind)
           ∙ ap (λ b. keep p (c .before) ++ cond b (e ∷ keep p (c .behind)) (keep p (c .behind))) t)
-          ∙ H .present (e .vertex) ∙ ap (λ b. cond b (entryOf q (e .vertex) ∷ []) []) (live-waits n moves q heap H e off-in l .0) in
+          ∙ H .present (e .vertex) ∙ ap (λ b. cond b (entryOf q (e .vertex) ∷ []) []) (live-waits n moves q heap H e (off-in c) l .0) in
       ap (keep p) (c .others) ∙ keep-append p (c .before) (c .behind) ∙ only (keep p (c .before)) (keep p (c .behind)) (ap length whole)
     where
       only : (a b : List Entry) → length (a ++ (e ∷ b)) ≡ 1 → a ++ b ≡ []
@@ -187,13 +187,13 @@ module _ (n : ℕ) (moves : List ℕ) (q : Queue) (heap : List Entry) (e : Entry
   taken-off l =
       record {
         present = λ v. by-cases (eqb (e .vertex) v) (λ k. rw (← eqb-true (e .vertex) v k) same) (λ k. other v k);
-        older = rest-older;
+        older = rest-all _ c (H .older);
         sized = (H .sized .0, H .sized .1, length-set (q .waiting) (e .vertex) 0 ∙ H .sized .2);
       }
     where
       same : keep (liveOf moves q (e .vertex)) rest ≡ cond (waits (takenOut (e .vertex) q) (e .vertex)) (entryOf q (e .vertex) ∷ []) []
       same =
-          let h : e .vertex < length (q .waiting) = omega (arith, waits-below n moves q heap H (e .vertex) (live-waits n moves q heap H e off-in l .0), H .sized .2) in
+          let h : e .vertex < length (q .waiting) = omega (arith, waits-below n moves q heap H (e .vertex) (live-waits n moves q heap H e (off-in c) l .0), H .sized .2) in
           rw (getD-set-same (q .waiting) (e .vertex) 0 0 h) (none-left l)
       other : (v : ℕ) → eqb (e .vertex) v ≡ false
           → keep (liveOf moves q v) rest ≡ cond (waits (takenOut (e .vertex) q) v) (entryOf q v ∷ []) []
@@ -208,7 +208,7 @@ heap-gives n moves q _ _ _ H num nothing = sym (none-found q none-waits (range n
     none-waits : (v : ℕ) → waits q v ≡ false
     none-waits v = by-cases (waits q v) (λ w. absurd (let z : 0 ≡ 1 = ap length (H .present v ∙ ap (λ b. cond b (entryOf q v ∷ []) []) w) in omega arith)) (λ w. w)
 heap-gives n moves q _ _ _ H num (alive heap e rest c l) =
-    let (w, p) = live-waits n moves q heap H e (off-in n moves q heap e rest H c) l in
+    let (w, p) = live-waits n moves q heap H e (off-in c) l in
     let f : (u : ℕ) → waits q u ≡ true → above (entryOf q u) (entryOf q (e .vertex)) ≡ false =
         λ u k. ap (above (entryOf q u)) (sym p) ∙ all-in (λ f. above f e ≡ false) (entryOf q u) heap (c .first) (waits-in n moves q heap H u k) in
     ap some p ∙ sym (scan-finds q num (e .vertex) w f (range n) none tt (memb-from (e .vertex) 0 n (omega arith) (omega (arith, waits-below n moves q heap H (e .vertex) w))))
@@ -292,3 +292,48 @@ heap-pushed G part n moves h v H k m =
     push n moves (h .queue) (h .heap) (keyOf (gain G part v) (unitDraw (h .queue .words) .value)) (suc (getD (h .queue .stamps) v 0)) v
     (unitDraw (h .queue .words) .words) H k m
     (all-map _ _ (h .heap) (λ e o z. omega (arith, o, ap (λ x. getD (h .queue .stamps) x 0) z)) (H .older))
+
+-- ---- a heap gives something ----
+
+-- the entry that comes off
+top-of : (x : Entry) (l : List Entry) → All Numbered (x ∷ l) → (e : Entry) × (rest : List Entry) × ComesOff (x ∷ l) e rest
+top-of x [] h =
+    (x, [], record { before = []; behind = []; whole = refl; others = refl; first = (not-before-self entry-order (x, h .0), tt) })
+top-of x (y ∷ l) h =
+    let (e, rest, c) = top-of y l (h .1) in
+    let p : Numbered e = all-in Numbered e (y ∷ l) (h .1) (off-in c) in
+    by-cases (above x e)
+    (λ k.
+    (x, y ∷ l,
+    record {
+      before = [];
+      behind = y ∷ l;
+      whole = refl;
+      others = refl;
+      first =
+          (not-before-self entry-order (x, h .0),
+          all-map _ _ (y ∷ l) (λ f (a, b). entry-order .trans (f, b) (e, p) (x, h .0) a (entry-order .asym (x, h .0) (e, p) k)) (all-both _ _ (y ∷ l) (c .first) (h .1)));
+    }))
+    (λ k.
+    (e, x ∷ rest,
+    record {
+      before = x ∷ c .before;
+      behind = c .behind;
+      whole = ap (λ (l : List Entry). x ∷ l) (c .whole);
+      others = ap (λ (l : List Entry). x ∷ l) (c .others);
+      first = (k, c .first);
+    }))
+
+heap-runs-in : (k : ℕ) (moves : List ℕ) (q : Queue) (heap : List Entry) → All Numbered heap → length heap ≤ k → (o : Option Entry) × (rest : List Entry) × Gives moves q heap o rest
+heap-runs-in zero moves q [] h z = (none, [], nothing)
+heap-runs-in zero moves q (x ∷ l) h z = absurd (omega arith)
+heap-runs-in (suc k) moves q [] h z = (none, [], nothing)
+heap-runs-in (suc k) moves q (x ∷ l) h z =
+    let (e, rest, c) = top-of x l h in
+    let s : length rest ≤ k =
+        omega (arith, ap length (c .whole), ap length (c .others), length-append (c .before) (e ∷ c .behind), length-append (c .before) (c .behind)) in
+    let (o, last, g) = heap-runs-in k moves q rest (rest-all Numbered c h) s in
+    by-cases (live moves q e) (λ t. (some e, rest, alive (x ∷ l) e rest c t)) (λ t. (o, last, stale (x ∷ l) e rest o last c t g))
+
+pub heap-runs : HeapRuns
+heap-runs moves q heap h = heap-runs-in (length heap) moves q heap h (omega arith)
