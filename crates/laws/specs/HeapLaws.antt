@@ -139,6 +139,14 @@ and-none : (b : Bool) → (b && false) ≡ false
 and-none true = refl
 and-none false = refl
 
+-- a vertex that is taken out waits no more
+pub out-now : (q : Queue) (v : ℕ) → waits (takenOut v q) v ≡ false
+out-now q v =
+    by-cases (ltb v (length (q .waiting)))
+    (λ k. rw (getD-set-same (q .waiting) v 0 0 (ltb-true v (length (q .waiting)) k)))
+    (λ k. let h : length (set (q .waiting) v 0) ≤ v = omega (arith, ltb-false v (length (q .waiting)) k, length-set (q .waiting) v 0) in
+    rw (List·getD-eq-default (set (q .waiting) v 0) 0 h))
+
 off-in : {heap : List Entry} {e : Entry} {rest : List Entry} → ComesOff heap e rest → In e heap
 off-in {heap} {e} {rest} c = rw (c .whole) (in-middle (c .before))
   where
@@ -159,7 +167,7 @@ module _ (n : ℕ) (moves : List ℕ) (q : Queue) (heap : List Entry) (e : Entry
       ∙ sym (ap (keep (liveOf moves q v)) (c .whole) ∙ keep-append (liveOf moves q v) (c .before) (e ∷ c .behind)
       ∙ ap (λ b. keep (liveOf moves q v) (c .before) ++ cond b (e ∷ keep (liveOf moves q v) (c .behind)) (keep (liveOf moves q v) (c .behind))) l)
 
-  passed-over : live moves q e ≡ false → HeapOf n moves q rest
+  pub passed-over : live moves q e ≡ false → HeapOf n moves q rest
   passed-over l =
       record {
         present = λ v. kept-others v (ap (λ b. eqb (e .vertex) v && b) l ∙ and-none (eqb (e .vertex) v)) ∙ H .present v;
@@ -192,9 +200,7 @@ module _ (n : ℕ) (moves : List ℕ) (q : Queue) (heap : List Entry) (e : Entry
       }
     where
       same : keep (liveOf moves q (e .vertex)) rest ≡ cond (waits (takenOut (e .vertex) q) (e .vertex)) (entryOf q (e .vertex) ∷ []) []
-      same =
-          let h : e .vertex < length (q .waiting) = omega (arith, waits-below n moves q heap H (e .vertex) (live-waits n moves q heap H e (off-in c) l .0), H .sized .2) in
-          rw (getD-set-same (q .waiting) (e .vertex) 0 0 h) (none-left l)
+      same = rw (out-now q (e .vertex)) (none-left l)
       other : (v : ℕ) → eqb (e .vertex) v ≡ false
           → keep (liveOf moves q v) rest ≡ cond (waits (takenOut (e .vertex) q) v) (entryOf q v ∷ []) []
       other v k =
@@ -236,7 +242,7 @@ heap-locked n moves q heap v H w =
 
 -- v is entered with a key and a stamp, one that is later than all of its entries'
 module _ (n : ℕ) (moves : List ℕ) (q : Queue) (heap : List Entry) (key : Float) (stamp v : ℕ) (ws : Words) (H : HeapOf n moves q heap) (h : v < n) where
-  abbrev entered : Queue
+  abbrev pub entered : Queue
   entered = record { keys = set (q .keys) v key; stamps = set (q .stamps) v stamp; waiting = set (q .waiting) v 1; words = ws }
 
   stamp-now : getD (set (q .stamps) v stamp) v 0 ≡ stamp
@@ -245,7 +251,7 @@ module _ (n : ℕ) (moves : List ℕ) (q : Queue) (heap : List Entry) (key : Flo
   stamp-else : (u : ℕ) → eqb v u ≡ false → getD (set (q .stamps) v stamp) u 0 ≡ getD (q .stamps) u 0
   stamp-else u k = getD-set-other (q .stamps) v u stamp 0 (λ z. eqb-false v u k (sym z))
 
-  push : memb v moves ≡ false → All (λ e. e .vertex ≡ v → e .stamp < stamp) heap → HeapOf n moves entered (entryOf entered v ∷ heap)
+  pub push : memb v moves ≡ false → All (λ e. e .vertex ≡ v → e .stamp < stamp) heap → HeapOf n moves entered (entryOf entered v ∷ heap)
   push m newer =
       record {
         present = λ u. by-cases (eqb v u) (λ k. rw (← eqb-true v u k) same) (λ k. other u k);

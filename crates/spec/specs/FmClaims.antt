@@ -8,14 +8,14 @@ use Prim.Native.Nat.{ℕ, suc, _^_, _≤_, _<_}
 use lib.Dec.{eqb}
 use lib.IntN.{subℕ}
 use lib.Ieee.{Float, binary64, ofInt, eq}
-use lib.ListN.{length, getD, set}
+use lib.ListN.{length, getD, set, replicate}
 use Rattle.spec.specs.Lists.{memb, keep, sumOf, range}
 use Rattle.spec.specs.Members.{All}
 use Rattle.spec.specs.Network.{repeats}
-use Rattle.spec.specs.Floats.{wholeFloat}
+use Rattle.spec.specs.Floats.{zeroFloat, wholeFloat}
 use Rattle.spec.specs.Draws.{Words}
-use Rattle.spec.specs.Hypergraph.{foldOver, Net, Hypergraph, vertexCount, sideOf, otherSide, isCut}
-use Rattle.spec.specs.Fm.{gain, Entry, above, Queue, waits, entryOf, largest, takenOut, enteredAs, firstQueue, enteredAgain}
+use Rattle.spec.specs.Hypergraph.{foldOver, Net, Hypergraph, vertexCount, netsAt, allPins, sideOf, otherSide, isCut}
+use Rattle.spec.specs.Fm.{gain, Entry, above, Queue, waits, entryOf, largest, takenOut, enteredAs, firstQueue, Pass, fitsIn, takenOff, passTurn}
 
 -- nets with weights in whole bits
 pub record WholeNet : Type 0 where
@@ -111,6 +111,40 @@ pushed G part stamp v h =
     let q = enteredAs G part stamp v (h .queue) in
     record { queue = q; heap = entryOf q v ∷ h .heap }
 
+abbrev pub pushedNext : Hypergraph → List ℕ → ℕ → Heaped → Heaped
+pushedNext G part u h = pushed G part (suc (getD (h .queue .stamps) u 0)) u h
+
 abbrev pub HeapPushed : Type 0
 HeapPushed = (G : Hypergraph) (part : List ℕ) (n : ℕ) (moves : List ℕ) (h : Heaped) (v : ℕ) → HeapOf n moves (h .queue) (h .heap) → v < n → memb v moves ≡ false
-    → let p = pushed G part (suc (getD (h .queue .stamps) v 0)) v h in HeapOf n moves (p .queue) (p .heap)
+    → HeapOf n moves (pushedNext G part v h .queue) (pushedNext G part v h .heap)
+
+-- So it is through a whole pass: at its start each vertex is pushed with the stamp 0,
+abbrev pub startHeap : Hypergraph → List ℕ → Words → Heaped
+startHeap G part ws =
+    let n = vertexCount G in
+    foldOver (pushed G part 0) (range n)
+    (record { queue = record { keys = replicate n zeroFloat; stamps = replicate n 0; waiting = replicate n 0; words = ws }; heap = [] })
+
+abbrev pub HeapStarts : Type 0
+HeapStarts = (G : Hypergraph) (part : List ℕ) (ws : Words) → HeapOf (vertexCount G) [] (firstQueue G part ws) (startHeap G part ws .heap)
+
+-- and at each turn an entry comes off, and if its vertex moves and the pass is not over, each pin that is not locked is pushed.
+abbrev pub pushedAgain : Hypergraph → List ℕ → List ℕ → ℕ → Heaped → Heaped
+pushedAgain G part moves u h =
+    let again = pushedNext G part u h in
+    cond (memb u moves) h again
+
+module _ (G : Hypergraph) (maxw : Float) where
+  abbrev pub heapAfter : Option Entry → List Entry → Pass → List Entry
+  heapAfter none rest p = rest
+  heapAfter (some e) rest p =
+      let t = takenOff G maxw e p in
+      let from : Heaped = record { queue = takenOut (e .vertex) (p .queue); heap = rest } in
+      let again = foldOver (pushedAgain G (t .sides .part) (t .gains .moves)) (allPins (netsAt G (e .vertex))) from .heap in
+      cond (fitsIn G maxw (e .vertex) (p .sides) && not (t .over)) again rest
+
+abbrev pub HeapTurns : Type 0
+HeapTurns = (G : Hypergraph) (maxw : Float) (p : Pass) (heap : List Entry) (o : Option Entry) (rest : List Entry)
+    → All (λ e. All (λ u. u < vertexCount G) (e .pins)) (G .nets) → HeapOf (vertexCount G) (p .gains .moves) (p .queue) heap
+    → ((v : ℕ) → waits (p .queue) v ≡ true → Numbered (entryOf (p .queue) v)) → Gives (p .gains .moves) (p .queue) heap o rest
+    → HeapOf (vertexCount G) (passTurn G maxw p .gains .moves) (passTurn G maxw p .queue) (heapAfter G maxw o rest p)
