@@ -10,19 +10,19 @@ use lib.Dec.{eqb, ltb}
 use lib.Ieee.{Float, eq}
 use lib.ListN.{length, getD, set, length-append, length-set, List·getD-eq-default}
 use lib.Seq.{getD-set-same, getD-set-other}
-use borrow.Author.Tests.{eqb-true, eqb-false, eq-eqb, ne-eqb, ltb-true, ltb-false}
+use borrow.Author.Tests.{eqb-true, eqb-false, ne-eqb, ltb-true, ltb-false}
 use Rattle.spec.specs.Lists.{memb, keep, range}
 use Rattle.spec.specs.Members.{All, In, here, there}
 use Rattle.spec.specs.Floats.{zeroFloat}
 use Rattle.spec.specs.Draws.{Words, unitDraw}
-use Rattle.spec.specs.Hypergraph.{foldOver, Hypergraph}
-use Rattle.spec.specs.Fm.{Entry, above, Queue, waits, entryOf, orAbove, offered, largest, takenOut, keyOf, gain}
-use Rattle.spec.specs.FmClaims.{ComesOff, live, Gives, nothing, alive, stale, HeapOf, Numbered, HeapGives, HeapRuns, HeapTaken, HeapLocked, Heaped, pushed, HeapPushed}
-use Rattle.laws.specs.Booleans.{by-cases, clash, and-left, and-right, and-both, eqb-self, eqb-sym}
+use Rattle.spec.specs.Hypergraph.{foldOver}
+use Rattle.spec.specs.Fm.{Entry, above, Queue, waits, entryOf, orAbove, offered, takenOut, keyOf, gain}
+use Rattle.spec.specs.FmClaims.{ComesOff, live, Gives, nothing, alive, stale, HeapOf, Numbered, HeapGives, HeapRuns, HeapTaken, HeapLocked, HeapPushed}
+use Rattle.laws.specs.Booleans.{by-cases, clash, and-right, and-both, eqb-self, eqb-sym}
 use Rattle.laws.specs.MemberLaws.{all-append, all-parts, all-map, all-both, all-in, all-intro}
-use Rattle.laws.specs.ListLaws.{from-memb, memb-from}
+use Rattle.laws.specs.ListLaws.{memb-from}
 use Rattle.laws.specs.Lexicographic.{Order, not-before-self, by-number, then-by, order-of}
-use Rattle.laws.specs.FloatOrder.{Number, by-float}
+use Rattle.laws.specs.FloatOrder.{by-float}
 
 -- ---- the order of entries ----
 
@@ -181,9 +181,9 @@ module _ (n : ℕ) (moves : List ℕ) (q : Queue) (heap : List Entry) (e : Entry
       let p : Entry → Bool = liveOf moves q (e .vertex) in
       let t : p e ≡ true = and-both _ _ (eqb-self (e .vertex)) l in
       let whole : keep p (c .before) ++ (e ∷ keep p (c .behind)) ≡ entryOf q (e .vertex) ∷ [] =
-          sym (ap (keep p) (c .whole) ∙ keep-append p (c .before) (e ∷ c .behind)
-          ∙ ap (λ b. keep p (c .before) ++ cond b (e ∷ keep p (c .behind)) (keep p (c .behind))) t)
-          ∙ H .present (e .vertex) ∙ ap (λ b. cond b (entryOf q (e .vertex) ∷ []) []) (live-waits n moves q heap H e (off-in c) l .0) in
+      sym (ap (keep p) (c .whole) ∙ keep-append p (c .before) (e ∷ c .behind)
+      ∙ ap (λ b. keep p (c .before) ++ cond b (e ∷ keep p (c .behind)) (keep p (c .behind))) t)
+      ∙ H .present (e .vertex) ∙ ap (λ b. cond b (entryOf q (e .vertex) ∷ []) []) (live-waits n moves q heap H e (off-in c) l .0) in
       ap (keep p) (c .others) ∙ keep-append p (c .before) (c .behind) ∙ only (keep p (c .before)) (keep p (c .behind)) (ap length whole)
     where
       only : (a b : List Entry) → length (a ++ (e ∷ b)) ≡ 1 → a ++ b ≡ []
@@ -201,6 +201,7 @@ module _ (n : ℕ) (moves : List ℕ) (q : Queue) (heap : List Entry) (e : Entry
     where
       same : keep (liveOf moves q (e .vertex)) rest ≡ cond (waits (takenOut (e .vertex) q) (e .vertex)) (entryOf q (e .vertex) ∷ []) []
       same = rw (out-now q (e .vertex)) (none-left l)
+
       other : (v : ℕ) → eqb (e .vertex) v ≡ false
           → keep (liveOf moves q v) rest ≡ cond (waits (takenOut (e .vertex) q) v) (entryOf q v ∷ []) []
       other v k =
@@ -216,7 +217,7 @@ heap-gives n moves q _ _ _ H num nothing = sym (none-found q none-waits (range n
 heap-gives n moves q _ _ _ H num (alive heap e rest c l) =
     let (w, p) = live-waits n moves q heap H e (off-in c) l in
     let f : (u : ℕ) → waits q u ≡ true → above (entryOf q u) (entryOf q (e .vertex)) ≡ false =
-        λ u k. ap (above (entryOf q u)) (sym p) ∙ all-in (λ f. above f e ≡ false) (entryOf q u) heap (c .first) (waits-in n moves q heap H u k) in
+    λ u k. ap (above (entryOf q u)) (sym p) ∙ all-in (λ f. above f e ≡ false) (entryOf q u) heap (c .first) (waits-in n moves q heap H u k) in
     ap some p ∙ sym (scan-finds q num (e .vertex) w f (range n) none tt (memb-from (e .vertex) 0 n (omega arith) (omega (arith, waits-below n moves q heap H (e .vertex) w))))
 heap-gives n moves q _ _ _ H num (stale heap e rest′ o last c l g) = heap-gives n moves q rest′ o last (passed-over n moves q heap e rest′ H c l) num g
 
@@ -234,6 +235,7 @@ heap-locked n moves q heap v H w =
   where
     same : keep (liveOf (v ∷ moves) q v) heap ≡ cond (waits q v) (entryOf q v ∷ []) []
     same = rw w (keep-none (liveOf (v ∷ moves) q v) heap (all-intro _ heap (λ e i. by-cases (eqb (e .vertex) v) (λ k. rw k) (λ k. rw k))))
+
     other : (u : ℕ) → eqb u v ≡ false → keep (liveOf (v ∷ moves) q u) heap ≡ cond (waits q u) (entryOf q u ∷ []) []
     other u k =
         keep-same (liveOf (v ∷ moves) q u) (liveOf moves q u) heap
@@ -266,24 +268,28 @@ module _ (n : ℕ) (moves : List ℕ) (q : Queue) (heap : List Entry) (key : Flo
           by-cases (eqb v (e .vertex))
           (λ k. rw (← eqb-true v (e .vertex) k, stamp-now) (omega (arith, a (sym (eqb-true v (e .vertex) k)))))
           (λ k. rw (stamp-else (e .vertex) k) b)
+
       gone : (e : Entry) → (e .vertex ≡ v → e .stamp < stamp) → liveOf moves entered v e ≡ false
       gone e a =
           by-cases (eqb (e .vertex) v)
           (λ k. let z : e .vertex ≡ v = eqb-true (e .vertex) v k in
           let s : eqb (e .stamp) (getD (set (q .stamps) v stamp) (e .vertex) 0) ≡ false =
-              rw (z, stamp-now) (ne-eqb (e .stamp) stamp (λ t. omega (arith, a z))) in
+          rw (z, stamp-now) (ne-eqb (e .stamp) stamp (λ t. omega (arith, a z))) in
           rw (k, s) (and-none (not (memb (e .vertex) moves))))
           (λ k. rw k)
+
       same : keep (liveOf moves entered v) (entryOf entered v ∷ heap) ≡ cond (waits entered v) (entryOf entered v ∷ []) []
       same =
           let l : liveOf moves entered v (entryOf entered v) ≡ true = rw (eqb-self v, m, eqb-self (getD (set (q .stamps) v stamp) v 0)) in
           ap₂ (λ b (k : List Entry). cond b (entryOf entered v ∷ k) k) l (keep-none (liveOf moves entered v) heap (all-map _ _ heap gone newer))
           ∙ sym (ap (λ b. cond (eqb b 1) (entryOf entered v ∷ []) []) (getD-set-same (q .waiting) v 1 0 (omega (arith, H .sized .2))))
+
       alike : (u : ℕ) → eqb v u ≡ false → (e : Entry) → In e heap → liveOf moves entered u e ≡ liveOf moves q u e
       alike u k e i =
           by-cases (eqb (e .vertex) u)
           (λ z. ap (λ s. eqb (e .vertex) u && (not (memb (e .vertex) moves) && eqb (e .stamp) s)) (stamp-else (e .vertex) (ap (eqb v) (eqb-true (e .vertex) u z) ∙ k)))
           (λ z. rw z)
+
       other : (u : ℕ) → eqb v u ≡ false → keep (liveOf moves entered u) (entryOf entered v ∷ heap) ≡ cond (waits entered u) (entryOf entered u ∷ []) []
       other u k =
           rw k (keep-same (liveOf moves entered u) (liveOf moves q u) heap (all-intro _ heap (alike u k)) ∙ H .present u
@@ -309,26 +315,31 @@ top-of x (y ∷ l) h =
     let (e, rest, c) = top-of y l (h .1) in
     let p : Numbered e = all-in Numbered e (y ∷ l) (h .1) (off-in c) in
     by-cases (above x e)
-    (λ k.
-    (x, y ∷ l,
-    record {
-      before = [];
-      behind = y ∷ l;
-      whole = refl;
-      others = refl;
-      first =
-          (not-before-self entry-order (x, h .0),
-          all-map _ _ (y ∷ l) (λ f (a, b). entry-order .trans (f, b) (e, p) (x, h .0) a (entry-order .asym (x, h .0) (e, p) k)) (all-both _ _ (y ∷ l) (c .first) (h .1)));
-    }))
-    (λ k.
-    (e, x ∷ rest,
-    record {
-      before = x ∷ c .before;
-      behind = c .behind;
-      whole = ap (λ (l : List Entry). x ∷ l) (c .whole);
-      others = ap (λ (l : List Entry). x ∷ l) (c .others);
-      first = (k, c .first);
-    }))
+    (λ k. (
+      x,
+      y ∷ l,
+      record {
+        before = [];
+        behind = y ∷ l;
+        whole = refl;
+        others = refl;
+        first = (
+          not-before-self entry-order (x, h .0),
+          all-map _ _ (y ∷ l) (λ f (a, b). entry-order .trans (f, b) (e, p) (x, h .0) a (entry-order .asym (x, h .0) (e, p) k)) (all-both _ _ (y ∷ l) (c .first) (h .1)),
+        );
+      },
+    ))
+    (λ k. (
+      e,
+      x ∷ rest,
+      record {
+        before = x ∷ c .before;
+        behind = c .behind;
+        whole = ap (λ (l : List Entry). x ∷ l) (c .whole);
+        others = ap (λ (l : List Entry). x ∷ l) (c .others);
+        first = (k, c .first);
+      },
+    ))
 
 heap-runs-in : (k : ℕ) (moves : List ℕ) (q : Queue) (heap : List Entry) → All Numbered heap → length heap ≤ k → (o : Option Entry) × (rest : List Entry) × Gives moves q heap o rest
 heap-runs-in zero moves q [] h z = (none, [], nothing)
@@ -337,7 +348,7 @@ heap-runs-in (suc k) moves q [] h z = (none, [], nothing)
 heap-runs-in (suc k) moves q (x ∷ l) h z =
     let (e, rest, c) = top-of x l h in
     let s : length rest ≤ k =
-        omega (arith, ap length (c .whole), ap length (c .others), length-append (c .before) (e ∷ c .behind), length-append (c .before) (c .behind)) in
+    omega (arith, ap length (c .whole), ap length (c .others), length-append (c .before) (e ∷ c .behind), length-append (c .before) (c .behind)) in
     let (o, last, g) = heap-runs-in k moves q rest (rest-all Numbered c h) s in
     by-cases (live moves q e) (λ t. (some e, rest, alive (x ∷ l) e rest c t)) (λ t. (o, last, stale (x ∷ l) e rest o last c t g))
 

@@ -1,23 +1,22 @@
 -- LAW B7, through a whole pass. Assumes nothing.
-use mathlib.Core.Path.{_≡_, refl, sym, ap, ap₂, _∙_, subst}
-use mathlib.Core.Bool.{Bool, true, false, not, _&&_, cond}
-use mathlib.Core.List.{List, [], _∷_, _++_}
+use mathlib.Core.Path.{_≡_, refl, subst}
+use mathlib.Core.Bool.{Bool}
+use mathlib.Core.List.{List, [], _∷_}
 use mathlib.Core.Option.{Option, none, some}
 use Prim.Native.Nat.{ℕ, zero, suc, _+_, _-_, _≤_, _<_}
 use native.Mathlib.Omega.{arith}
-use lib.Dec.{eqb, ltb}
+use lib.Dec.{ltb}
 use lib.Ieee.{Float}
 use lib.ListN.{length, getD, replicate, length-replicate, getD-replicate, List·getD-eq-default}
-use lib.Seq.{getD-set-same}
 use borrow.Author.Tests.{ltb-true, ltb-false}
-use Rattle.spec.specs.Lists.{memb, keep, from, range}
+use Rattle.spec.specs.Lists.{memb, keep, from}
 use Rattle.spec.specs.Members.{All}
 use Rattle.spec.specs.Floats.{zeroFloat}
-use Rattle.spec.specs.Draws.{Words, unitDraw}
+use Rattle.spec.specs.Draws.{unitDraw}
 use Rattle.spec.specs.Hypergraph.{foldOver, Net, Hypergraph, vertexCount, netsAt, allPins, moved}
-use Rattle.spec.specs.Fm.{Entry, Queue, waits, entryOf, largest, takenOut, keyOf, gain, enteredAs, firstQueue, enteredAgain, Gains, counted, Pass, moveLimit, fitsIn, afterMove, takenOff, turnOf, passTurn}
-use Rattle.spec.specs.FmClaims.{live, Gives, nothing, alive, stale, HeapOf, Heaped, pushed, pushedNext, startHeap, HeapStarts, pushedAgain, heapAfter, HeapTurns}
-use Rattle.laws.specs.Booleans.{by-cases, clash}
+use Rattle.spec.specs.Fm.{Entry, Queue, takenOut, keyOf, gain, enteredAs, enteredAgain, Gains, counted, Pass, moveLimit, fitsIn, turnOf}
+use Rattle.spec.specs.FmClaims.{Gives, nothing, stale, HeapOf, Heaped, pushed, HeapStarts, pushedAgain, heapAfter, HeapTurns}
+use Rattle.laws.specs.Booleans.{by-cases}
 use Rattle.laws.specs.MemberLaws.{all-append, all-map}
 use Rattle.laws.specs.HeapLaws.{push, heap-gives, heap-taken, heap-locked, heap-pushed, passed-over, out-now}
 
