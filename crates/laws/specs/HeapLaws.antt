@@ -1,7 +1,7 @@
 -- LAW B7: the largest live entry is what the Rust's heap would give. Assumes nothing.
 use mathlib.Core.Path.{_≡_, refl, sym, ap, ap₂, _∙_, subst}
 use mathlib.Core.Logic.{_≢_}
-use mathlib.Core.Bool.{Bool, true, false, not, _&&_, cond}
+use mathlib.Core.Bool.{Bool, true, false, not, _&&_, cond, and-false}
 use mathlib.Core.List.{List, [], _∷_, _++_}
 use mathlib.Core.Option.{Option, none, some}
 use Prim.Native.Nat.{ℕ, zero, suc, _≤_, _<_}
@@ -135,10 +135,6 @@ none-found q h (u ∷ l) = rw (h u) (none-found q h l)
 
 -- ---- entries come off ----
 
-and-none : (b : Bool) → (b && false) ≡ false
-and-none true = refl
-and-none false = refl
-
 -- a vertex that is taken out waits no more
 pub out-now : (q : Queue) (v : ℕ) → waits (takenOut v q) v ≡ false
 out-now q v =
@@ -170,7 +166,7 @@ module _ (n : ℕ) (moves : List ℕ) (q : Queue) (heap : List Entry) (e : Entry
   pub passed-over : live moves q e ≡ false → HeapOf n moves q rest
   passed-over l =
       record {
-        present = λ v. kept-others v (ap (λ b. eqb (e .vertex) v && b) l ∙ and-none (eqb (e .vertex) v)) ∙ H .present v;
+        present = λ v. kept-others v (ap (λ b. eqb (e .vertex) v && b) l ∙ and-false (eqb (e .vertex) v)) ∙ H .present v;
         older = rest-all _ c (H .older);
         sized = H .sized;
       }
@@ -275,7 +271,7 @@ module _ (n : ℕ) (moves : List ℕ) (q : Queue) (heap : List Entry) (key : Flo
           (λ k. let z : e .vertex ≡ v = eqb-true (e .vertex) v k in
           let s : eqb (e .stamp) (getD (set (q .stamps) v stamp) (e .vertex) 0) ≡ false =
           rw (z, stamp-now) (ne-eqb (e .stamp) stamp (λ t. omega (arith, a z))) in
-          rw (k, s) (and-none (not (memb (e .vertex) moves))))
+          rw (k, s) (and-false (not (memb (e .vertex) moves))))
           (λ k. rw k)
 
       same : keep (liveOf moves entered v) (entryOf entered v ∷ heap) ≡ cond (waits entered v) (entryOf entered v ∷ []) []
