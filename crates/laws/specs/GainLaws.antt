@@ -63,7 +63,7 @@ diff-sub a b (suc w) =
     ap (λ (z : ℤ). z +ℤ negsuc w) (sub-ge a b h) ∙ same-sub (a - b) (suc w) a (b + suc w) (omega arith))
 
 -- a difference of numbers up to 2^53 is an f64
-in-float : (a b : ℕ) → a ≤ 2 ^ 53 → b ≤ 2 ^ 53 → T (inFloat binary64 (subℕ a b))
+pub in-float : (a b : ℕ) → a ≤ 2 ^ 53 → b ≤ 2 ^ 53 → T (inFloat binary64 (subℕ a b))
 unfolding inFloat
 in-float a b p q = go (ltb a b) refl
   where

@@ -13,9 +13,9 @@ use Rattle.spec.specs.Lists.{memb, keep, sumOf, range}
 use Rattle.spec.specs.Members.{All}
 use Rattle.spec.specs.Network.{repeats}
 use Rattle.spec.specs.Floats.{zeroFloat, wholeFloat}
-use Rattle.spec.specs.Draws.{Words}
+use Rattle.spec.specs.Draws.{Words, unitOf}
 use Rattle.spec.specs.Hypergraph.{foldOver, Net, Hypergraph, vertexCount, netsAt, allPins, sideOf, otherSide, isCut}
-use Rattle.spec.specs.Fm.{gain, Entry, above, Queue, waits, entryOf, largest, takenOut, enteredAs, firstQueue, Pass, fitsIn, takenOff, passTurn}
+use Rattle.spec.specs.Fm.{gain, keyOf, Entry, above, Queue, waits, entryOf, largest, takenOut, enteredAs, firstQueue, Pass, fitsIn, takenOff, passTurn}
 
 -- nets with weights in whole bits
 pub record WholeNet : Type 0 where
@@ -88,7 +88,13 @@ abbrev pub HeapGives : Type 0
 HeapGives = (n : ℕ) (moves : List ℕ) (q : Queue) (heap : List Entry) (o : Option Entry) (rest : List Entry) → HeapOf n moves q heap
     → ((v : ℕ) → waits q v ≡ true → Numbered (entryOf q v)) → Gives moves q heap o rest → o ≡ largest n q
 
--- and it always gives something or runs empty
+-- with nets as in LAW B3 no key is a NaN,
+abbrev pub KeysNumbered : Type 0
+KeysNumbered = (weights : List Float) (nets : List WholeNet) (part : List ℕ) (v : ℕ) → v < length part → sideOf part v < 2 → All (LawfulNet part) nets
+    → sumOf (λ e. e .bits) nets ≤ 2 ^ 52 → (w : ℕ)
+    → let k = keyOf (gain (wholeGraph weights nets) part v) (unitOf w) in eq k k ≡ true
+
+-- and where none is, the heap gives something or runs empty
 abbrev pub HeapRuns : Type 0
 HeapRuns = (moves : List ℕ) (q : Queue) (heap : List Entry) → All Numbered heap → (o : Option Entry) × (rest : List Entry) × Gives moves q heap o rest
 
