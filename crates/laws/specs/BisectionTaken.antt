@@ -2,14 +2,14 @@
 use mathlib.Core.Path.{_≡_, refl, sym, ap, _∙_, subst}
 use mathlib.Core.Logic.{_⊎_, inl, inr}
 use mathlib.Core.Bool.{Bool, true, false, _||_, cond}
-use mathlib.Core.List.{List, [], _∷_, _++_, append-nil}
-use Prim.Native.Nat.{ℕ, zero, suc, _-_, _<_, _≤_, max}
+use mathlib.Core.List.{List, [], _∷_, _++_, append-assoc, append-nil}
+use Prim.Native.Nat.{ℕ, zero, suc, _+_, _-_, _<_, _≤_, max}
 use native.Mathlib.Omega.{arith}
 use lib.Dec.{eqb, ltb, leb}
 use lib.Ieee.{Float}
 use lib.ListN.{length, take, drop, take-append-drop, length-append, length-drop}
-use lib.Seq.{length-take-le, take-append-le}
-use borrow.Author.Tests.{ltb-true, ltb-false}
+use lib.Seq.{length-take-le, take-append-le, take-length}
+use borrow.Author.Tests.{eqb-true, eqb-false, ltb-true, ltb-false}
 use Rattle.spec.specs.Lists.{range}
 use Rattle.spec.specs.Network.{Network, leafCount}
 use Rattle.spec.specs.Tree.{Pair}
@@ -18,10 +18,10 @@ use Rattle.spec.specs.Draws.{Words, lentWords, Drawn}
 use Rattle.spec.specs.Greedy.{Built, joinAll, leavesOf, greedyFrom}
 use Rattle.spec.specs.Hypergraph.{hypergraphOf}
 use Rattle.spec.specs.Bisection.{imbalance, Halved, withWords, leftHalf, rightHalf, smallEnd, joinHalves, halves, bisectRec, bisectedFrom, Bisected, bisection}
-use Rattle.spec.specs.BisectionClaims.{TakenDecide, SpentShort, SpentJust, WideStands}
-use Rattle.laws.specs.Booleans.{by-cases}
+use Rattle.spec.specs.BisectionClaims.{TakenDecide, SpentShort, SpentJust, WideStands, WideMet}
+use Rattle.laws.specs.Booleans.{by-cases, clash}
 use Rattle.laws.specs.Results.{not-done, done-same, refused-same, and-then}
-use Rattle.laws.specs.BisectionRefusals.{then-refused}
+use Rattle.laws.specs.BisectionRefusals.{then-refused, only-wide-or-spent}
 use Rattle.laws.specs.WordLaws.{drawn-held, Past, Alike, Goes}
 use Rattle.laws.specs.BisectionWords.{bisect-goes}
 
@@ -217,3 +217,54 @@ spent-just N i cutoff words more b e f =
     enough h =
         ap (bisection N i cutoff) (sym (take-append-drop (b .taken) words) ∙ ap (λ (l : List ℕ). l ++ drop (b .taken) words) (sym (take-append-le (b .taken) words more h)))
         ∙ taken-decide N i cutoff (words ++ more) b f .1 (drop (b .taken) words)
+
+-- ---- where greedy meets 12 ----
+
+abbrev isWide : Result Bisected → Bool
+isWide (done b) = false
+isWide (refused r) = eqb (numberOf r) (numberOf tableTooWide)
+
+-- the first number that passes a test, where n does
+first-of : (p : ℕ → Bool) (n : ℕ) → p n ≡ true → (t : ℕ) × (t ≤ n) × (p t ≡ true) × ((k : ℕ) → k < t → p k ≡ false)
+first-of p n h = go n 0 (omega arith) (λ k l. absurd (omega arith))
+  where
+    go : (d j : ℕ) → j + d ≡ n → ((k : ℕ) → k < j → p k ≡ false) → (t : ℕ) × (t ≤ n) × (p t ≡ true) × ((k : ℕ) → k < t → p k ≡ false)
+    go zero j e f = (j, omega arith, (let z : j ≡ n = omega arith in ap p z ∙ h), f)
+    go (suc d) j e f =
+        let next : p j ≡ false → (k : ℕ) → k < suc j → p k ≡ false =
+        λ q k l. by-cases (eqb k j) (λ z. ap p (eqb-true k j z) ∙ q) (λ z. f k (omega (arith, eqb-false k j z))) in
+        by-cases (p j) (λ q. (j, omega arith, q, f)) (λ q. go d (suc j) (omega arith) (next q))
+
+-- what a bisection answers that is not refused 12 with some of the words, where with all of them it is: it is refused 13
+short-spent : (N : Network) (i cutoff : ℕ) (words : List ℕ) (k : ℕ) → bisection N i cutoff words ≡ refused tableTooWide
+    → (x : Result Bisected) → bisection N i cutoff (take k words) ≡ x → isWide x ≡ false → bisection N i cutoff (take k words) ≡ refused drawsExhausted
+short-spent N i cutoff words k e (done b) x h =
+    let l : List ℕ = take k words in
+    let whole : take (b .taken) l ++ (drop (b .taken) l ++ drop k words) ≡ words =
+    sym (append-assoc (take (b .taken) l) (drop (b .taken) l) (drop k words)) ∙ ap (λ (z : List ℕ). z ++ drop k words) (take-append-drop (b .taken) l)
+    ∙ take-append-drop k words in
+    not-done tableTooWide b (sym e ∙ ap (bisection N i cutoff) (sym whole) ∙ taken-decide N i cutoff l b x .1 (drop (b .taken) l ++ drop k words))
+short-spent N i cutoff words k e (refused r) x h = go (only-wide-or-spent N i cutoff (take k words) r x)
+  where
+    go : (r ≡ tableTooWide) ⊎ (r ≡ drawsExhausted) → bisection N i cutoff (take k words) ≡ refused drawsExhausted
+    go (inl q) = clash (rw q) h
+    go (inr q) = x ∙ ap (λ r. refused r) q
+
+is-wide : (N : Network) (i cutoff : ℕ) (words : List ℕ) (x : Result Bisected) → bisection N i cutoff words ≡ x → isWide x ≡ true
+    → bisection N i cutoff words ≡ refused tableTooWide
+is-wide N i cutoff words (done b) x h = clash h refl
+is-wide N i cutoff words (refused r) x h = go (only-wide-or-spent N i cutoff words r x)
+  where
+    go : (r ≡ tableTooWide) ⊎ (r ≡ drawsExhausted) → bisection N i cutoff words ≡ refused tableTooWide
+    go (inl q) = x ∙ ap (λ r. refused r) q
+    go (inr q) = clash h (rw q)
+
+pub wide-met : WideMet
+wide-met N i cutoff words e =
+    let (t, within, wide, first) = first-of (λ k. isWide (bisection N i cutoff (take k words))) (length words) (rw (take-length words, e)) in
+    record {
+      t = t;
+      within = within;
+      wide = λ more. wide-stands N i cutoff (take t words) more (is-wide N i cutoff (take t words) (bisection N i cutoff (take t words)) refl wide);
+      short = λ k l. short-spent N i cutoff words k e (bisection N i cutoff (take k words)) refl (first k l);
+    }

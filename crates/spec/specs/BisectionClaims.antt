@@ -56,3 +56,13 @@ SpentJust = (N : Network) (i cutoff : ℕ) (words more : List ℕ) (b : Bisected
 abbrev pub WideStands : Type 0
 WideStands = (N : Network) (i cutoff : ℕ) (words more : List ℕ) → bisection N i cutoff words ≡ refused tableTooWide
     → bisection N i cutoff (words ++ more) ≡ refused tableTooWide
+
+-- So t words are taken by then: with them any words after are of no account, and with fewer it is refused 13.
+pub record MeetsWide (N : Network) (i cutoff : ℕ) (words : List ℕ) : Type 0 where
+  pub t : ℕ
+  pub within : t ≤ length words
+  pub wide : (more : List ℕ) → bisection N i cutoff (take t words ++ more) ≡ refused tableTooWide
+  pub short : (k : ℕ) → k < t → bisection N i cutoff (take k words) ≡ refused drawsExhausted
+
+abbrev pub WideMet : Type 0
+WideMet = (N : Network) (i cutoff : ℕ) (words : List ℕ) → bisection N i cutoff words ≡ refused tableTooWide → MeetsWide N i cutoff words
