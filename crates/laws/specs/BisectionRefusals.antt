@@ -1,5 +1,5 @@
 -- LAW B4: bisection refuses by nothing but 12 and 13. Assumes nothing.
-use mathlib.Core.Path.{_≡_, refl, sym}
+use mathlib.Core.Path.{_≡_, sym}
 use mathlib.Core.Logic.{_⊎_, inl, inr}
 use mathlib.Core.Bool.{Bool, true, false, _||_, cond}
 use mathlib.Core.List.{List, [], _∷_}
@@ -23,7 +23,7 @@ not-refused : {A : Type 0} {P : Type 0} (x : A) (k : Refusal) → _≡_ {A = Res
 not-refused x k e = not-done k x (sym e)
 
 -- what a refusal comes from
-then-refused : {A B : Type 0} {P : Type 0} (r : Result A) (f : A → Result B) (k : Refusal) → andThen r f ≡ refused k
+pub then-refused : {A B : Type 0} {P : Type 0} (r : Result A) (f : A → Result B) (k : Refusal) → andThen r f ≡ refused k
     → (r ≡ refused k → P) → ((x : A) → f x ≡ refused k → P) → P
 then-refused (refused j) f k e g h = g (subst-refused j k e)
   where

@@ -2,21 +2,21 @@
 use Prim.Native.Nat.{ℕ, zero, suc, _+_, _-_, _^_, _<_, _≤_}
 use mathlib.Core.Path.{_≡_, refl, sym, ap, ap₂, _∙_, subst}
 use mathlib.Core.List.{List, [], _∷_, map}
-use mathlib.Core.Bool.{Bool, true, false, cond, _&&_, _||_, not}
+use mathlib.Core.Bool.{Bool, true, false, cond, _&&_, not}
 use native.Mathlib.Omega.{arith}
-use lib.Dec.{T, ltb, eqb, leb, le→leb, lt→ltb}
+use lib.Dec.{T, ltb, eqb, le→leb, lt→ltb}
 use borrow.Author.Tests.{lt-ltb, le-ltb, ltb-true, ltb-false, eqb-true, eqb-false, eq-eqb, ne-eqb}
 use lib.IntN.{ℤ, pos, negsuc, subℕ, _+ℤ_, _-ℤ_}
-use lib.ListN.{length, getD, set}
+use lib.ListN.{length, set}
 use lib.Seq.{getD-set-same, getD-set-other}
 use lib.Ieee.{Float, binary64, add, sub, ofInt, round, inFloat}
 use Rattle.spec.specs.Lists.{memb, keep, anyb, sumOf}
 use Rattle.spec.specs.Members.{All}
 use Rattle.spec.specs.Network.{repeats}
-use Rattle.spec.specs.Floats.{zeroFloat, wholeFloat}
-use Rattle.spec.specs.Hypergraph.{foldOver, Net, netsAt, sideOf, otherSide, pinsOn, isCut}
+use Rattle.spec.specs.Floats.{wholeFloat}
+use Rattle.spec.specs.Hypergraph.{foldOver, Net, sideOf, otherSide, pinsOn, isCut}
 use Rattle.spec.specs.Fm.{gainNet, gainAt, gain}
-use Rattle.spec.specs.FmClaims.{WholeNet, asNet, wholeGraph, afterMoveOf, madeUncut, newlyCut, LawfulNet, GainIs}
+use Rattle.spec.specs.FmClaims.{WholeNet, asNet, wholeGraph, madeUncut, newlyCut, LawfulNet, GainIs}
 use Rattle.laws.specs.Booleans.{by-cases, or-none, clash}
 use Rattle.laws.specs.MemberLaws.{all-map}
 use Rattle.laws.specs.WholeFloats.{add-whole, sub-whole}
@@ -63,7 +63,7 @@ diff-sub a b (suc w) =
     ap (λ (z : ℤ). z +ℤ negsuc w) (sub-ge a b h) ∙ same-sub (a - b) (suc w) a (b + suc w) (omega arith))
 
 -- a difference of numbers up to 2^53 is an f64
-in-float : (a b : ℕ) → a ≤ 2 ^ 53 → b ≤ 2 ^ 53 → T (inFloat binary64 (subℕ a b))
+pub in-float : (a b : ℕ) → a ≤ 2 ^ 53 → b ≤ 2 ^ 53 → T (inFloat binary64 (subℕ a b))
 unfolding inFloat
 in-float a b p q = go (ltb a b) refl
   where

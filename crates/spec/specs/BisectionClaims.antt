@@ -1,12 +1,13 @@
--- What is claimed of bisection. Definitions only; proofs in BisectionLaws, BisectionHalves and BisectionRefusals of laws. Assumes nothing.
+-- What is claimed of bisection. Definitions only; proofs in BisectionLaws, BisectionHalves, BisectionRefusals and BisectionTaken of laws.
+-- Assumes nothing.
 use mathlib.Core.Bool.{true, false}
-use mathlib.Core.List.{List}
+use mathlib.Core.List.{List, _++_}
 use mathlib.Core.Logic.{_⊎_}
 use mathlib.Core.Path.{_≡_}
 use Prim.Native.Nat.{ℕ, _+_, _<_, _≤_}
 use lib.Dec.{eqb}
 use lib.Ieee.{Float}
-use lib.ListN.{length}
+use lib.ListN.{length, take}
 use Rattle.spec.specs.Lists.{count}
 use Rattle.spec.specs.Network.{Network, leafCount}
 use Rattle.spec.specs.Tree.{Pair, valid}
@@ -36,3 +37,32 @@ FuelEnough = (N : Network) (eps : Float) (cutoff fuel : ℕ) (leaves : List ℕ)
 abbrev pub OnlyWideOrSpent : Type 0
 OnlyWideOrSpent = (N : Network) (i cutoff : ℕ) (words : List ℕ) (r : Refusal) → bisection N i cutoff words ≡ refused r
     → (r ≡ tableTooWide) ⊎ (r ≡ drawsExhausted)
+
+-- LAW B5. "with no refusal, words past those taken do not matter"
+abbrev pub TakenDecide : Type 0
+TakenDecide = (N : Network) (i cutoff : ℕ) (words : List ℕ) (b : Bisected) → bisection N i cutoff words ≡ done b
+    → (b .taken ≤ length words) × ((more : List ℕ) → bisection N i cutoff (take (b .taken) words ++ more) ≡ done b)
+
+-- LAW B6. "13 exactly if a draw is due past the list's end": so with fewer words than are taken, and no other way.
+abbrev pub SpentShort : Type 0
+SpentShort = (N : Network) (i cutoff : ℕ) (words : List ℕ) (b : Bisected) (k : ℕ) → bisection N i cutoff words ≡ done b → k < b .taken
+    → bisection N i cutoff (take k words) ≡ refused drawsExhausted
+
+abbrev pub SpentJust : Type 0
+SpentJust = (N : Network) (i cutoff : ℕ) (words more : List ℕ) (b : Bisected) → bisection N i cutoff words ≡ refused drawsExhausted
+    → bisection N i cutoff (words ++ more) ≡ done b → length words < b .taken
+
+-- "12 as greedy meets it": no words after those taken by then change it.
+abbrev pub WideStands : Type 0
+WideStands = (N : Network) (i cutoff : ℕ) (words more : List ℕ) → bisection N i cutoff words ≡ refused tableTooWide
+    → bisection N i cutoff (words ++ more) ≡ refused tableTooWide
+
+-- So t words are taken by then: with them any words after are of no account, and with fewer it is refused 13.
+pub record MeetsWide (N : Network) (i cutoff : ℕ) (words : List ℕ) : Type 0 where
+  pub t : ℕ
+  pub within : t ≤ length words
+  pub wide : (more : List ℕ) → bisection N i cutoff (take t words ++ more) ≡ refused tableTooWide
+  pub short : (k : ℕ) → k < t → bisection N i cutoff (take k words) ≡ refused drawsExhausted
+
+abbrev pub WideMet : Type 0
+WideMet = (N : Network) (i cutoff : ℕ) (words : List ℕ) → bisection N i cutoff words ≡ refused tableTooWide → MeetsWide N i cutoff words

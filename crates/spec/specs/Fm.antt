@@ -1,5 +1,6 @@
 -- Refinement of a partition by moves of single vertices (Fiduccia and Mattheyses): `fm`. Definitions only. Assumes nothing.
--- The Rust has a heap of entries (key, stamp, vertex), and passes over those that are stale. Here each vertex has at most one entry.
+-- The Rust has a heap of entries (key, stamp, vertex), and passes over those that are stale. Here each vertex has at most one entry: the same
+-- (FmClaims, law B7).
 use mathlib.Core.Bool.{Bool, true, false, not, _&&_, _||_, cond}
 use mathlib.Core.List.{List, [], _∷_}
 use mathlib.Core.Option.{Option, none, some}
