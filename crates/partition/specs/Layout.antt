@@ -7,7 +7,7 @@ use Prim.Native.Nat.{ℕ, zero, suc, _+_, _-_, _*_, _≤_, _<_}
 use native.Mathlib.Omega.{arith}
 use native.Mathlib.Nat.{lt-of-not-le}
 use lib.Dec.{eqb, ltb}
-use lib.Ieee.{Float}
+use lib.Ieee.{Float, binary64, add, sub}
 use lib.ListN.{length, getD, List·getD-map}
 use borrow.Author.Tests.{lt-ltb, le-ltb}
 use Rattle.spec.specs.Lists.{memb, keep, from, range}
@@ -19,6 +19,7 @@ use Rattle.laws.specs.ListLaws.{keep-ext-from, keep-none-from, keep-passes, mem
 use Rattle.slots.specs.Slots.{held}
 use Rattle.slots.specs.Rising.{risingOf, memb-rising, keep-add}
 use Rattle.partition.specs.Common.{commonOf}
+use Rattle.partition.specs.Few.{Few}
 use Rattle.partition.specs.Folds.{fold-map}
 
 module _ (ws : List ℕ) (nets : ℕ) (weights : List ℕ) where
@@ -41,6 +42,12 @@ pub record Laid (ws : List ℕ) (nets vertices sides m n : ℕ) : Type 0 where
 
 -- ---- gains, by members in common ----
 
+-- a vertex that is alone on its side, and a side that has no pin
+abbrev gainBy : Bool → Bool → Float → Float → Float
+gainBy alone none w g =
+    let freed = cond alone (add binary64 g w) g in
+    cond none (sub binary64 freed w) freed
+
 module _ (ws : List ℕ) (nets here there : ℕ) (weights : List ℕ) where
   abbrev pub gainStep : ℕ → Float → Float
   gainStep e g = gainNet (length (commonOf ws 2 (nets + e) here)) (length (commonOf ws 2 (nets + e) there)) (wholeFloat (getD weights e 0)) g
@@ -48,6 +55,6 @@ module _ (ws : List ℕ) (nets here there : ℕ) (weights : List ℕ) where
   abbrev pub gainSum : List ℕ → Float
   gainSum l = foldOver gainStep l zeroFloat
 
-  pub step-is : (e x y w : ℕ) (g r : Float) → x ≡ length (commonOf ws 2 (nets + e) here) → y ≡ length (commonOf ws 2 (nets + e) there)
+  pub step-is : (e x y w : ℕ) (g r : Float) → Few x (length (commonOf ws 2 (nets + e) here)) → Few y (length (commonOf ws 2 (nets + e) there))
       → w ≡ getD weights e 0 → r ≡ gainNet x y (wholeFloat w) g → r ≡ gainStep e g
-  step-is e x y w g r p q s t = t ∙ (λ i. gainNet (p i) (q i) (wholeFloat (s i)) g)
+  step-is e x y w g r p q s t = t ∙ (λ i. gainBy (p .0 i) (q .1 i) (wholeFloat (s i)) g)

@@ -1,4 +1,5 @@
 pub mod Common
+pub mod Few
 pub mod Folds
 pub mod Layout
 pub mod Gains

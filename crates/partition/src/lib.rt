@@ -1,10 +1,12 @@
 // Hypergraphs in slots of lent words, and partitions of their vertices: gains and cuts.
 ghost use mathlib.Core.Path.{_≡_};
 ghost use Prim.Native.Nat.{_<_, _≤_};
+ghost use lib.Count.{ones};
 ghost use lib.ListN.{length, take};
 ghost use Rattle.spec.specs.Floats.{wholeFloat};
 ghost use Rattle.spec.specs.Fm.{gainNet};
 ghost use Rattle.partition.specs.Common.{commonOf};
+ghost use Rattle.partition.specs.Few.{capped, Few};
 ghost use Rattle.partition.specs.Layout.{Laid, gainStep, gainSum};
 ghost use Rattle.partition.specs.Gains.{IsGain};
 ghost use Rattle.partition.specs.Cuts.{cutStep, IsCutWeight};
@@ -23,6 +25,31 @@ pub fn common(words: &[u64], w: usize, a: usize, b: usize) -> usize
         n += bits::count_ones(x & y);
     }
     n
+}
+
+// How many digits of `x` are set, where 2 stands for two or more.
+fn few_ones(x: u64) -> usize
+    ensures { λ r. ⌜ (r ≡ capped (ones x)) × (r ≤ 2) ⌝ }
+{
+    if x == 0 {
+        return 0;
+    }
+    if x & (x - 1) == 0 {
+        return 1;
+    }
+    2
+}
+
+// Have slots `a` and `b` of two words no member in common, just one, or more: 0, 1, or above.
+fn few(words: &[u64], a: usize, b: usize) -> usize
+    requires { ⌜ (a < 1048576) × (b < 1048576) ⌝ }
+    ensures { λ r. ⌜ Few r (length (commonOf (now (words .entry)) 2 a b)) ⌝ }
+{
+    let p = a * 2;
+    let q = b * 2;
+    let x = few_ones(cells::get64(words, p) & cells::get64(words, q));
+    let y = few_ones(cells::get64(words, p + 1) & cells::get64(words, q + 1));
+    x + y
 }
 
 // The gain with one net of weight `w`, that has `here` pins on the vertex's side and `there` on the other.
@@ -55,8 +82,8 @@ fn gain_step(
     requires { ⌜ (nets < 65536) × (here < 65536) × (there < 65536) × (e < 65536) ⌝ }
     ensures { λ r. ⌜ r ≡ gainStep (now (words .entry)) nets here there (now (weights .entry)) e g ⌝ }
 {
-    let x = common(words, 2, nets + e, here);
-    let y = common(words, 2, nets + e, there);
+    let x = few(words, nets + e, here);
+    let y = few(words, nets + e, there);
     gain_net(x, y, cells::get8(weights, e), g)
 }
 

@@ -41,7 +41,7 @@ zero-all : (G : Hypergraph) (part l : List ℕ) (q : Queue) → Stamped 0 (q .st
 zero-all G part [] q h = h
 zero-all G part (v ∷ l) q h = zero-all G part l (enteredAs G part 0 v q) (zero-set (q .stamps) v h)
 
-zero-filled : (n : ℕ) → Stamped 0 (filled n 0)
+pub zero-filled : (n : ℕ) → Stamped 0 (filled n 0)
 unfolding filled
 zero-filled n u = zeros n u
   where

@@ -8,17 +8,17 @@ use lib.ListN.{length, getD, set, length-set}
 use Rattle.partition.proofs.gain_step.Statement.{statement}
 use Rattle.partition.proofs.gain_step.Tie as tie
 
-add-common : tie.Need-add-common
-add-common c = search needs
+add-few : tie.Need-add-few
+add-few c = search needs
 
-common-requires : tie.Need-common-requires
-common-requires c κs = search needs
+few-requires : tie.Need-few-requires
+few-requires c κs = search needs
 
-add-common-2 : tie.Need-add-common-2
-add-common-2 c = search needs
+add-few-2 : tie.Need-add-few-2
+add-few-2 c = search needs
 
-common-requires-2 : tie.Need-common-requires-2
-common-requires-2 c κs = search needs
+few-requires-2 : tie.Need-few-requires-2
+few-requires-2 c κs = search needs
 
 get8-requires : tie.Need-get8-requires
 get8-requires c κs = search needs
@@ -29,18 +29,18 @@ gain-net-requires c κs = search needs
 returns : tie.Need-returns
 returns c =
     let d = c .before .before .before .before .before .before .args in
-    step-is (d .words .now) (d .nets) (d .here) (d .there) (d .weights .now) (d .e) (c .before .before .before .common .result)
-    (c .before .before .common2 .result) (c .before .get8 .result) (d .g) _ (c .before .before .before .common .ensures)
-    (c .before .before .common2 .ensures) (c .before .get8 .ensures) (c .gain-net .ensures)
+    step-is (d .words .now) (d .nets) (d .here) (d .there) (d .weights .now) (d .e) (c .before .before .before .few .result)
+    (c .before .before .few2 .result) (c .before .get8 .result) (d .g) _ (c .before .before .before .few .ensures)
+    (c .before .before .few2 .ensures) (c .before .get8 .ensures) (c .gain-net .ensures)
 
 pub gain-step-spec : {M : Type 1} → statement M
 gain-step-spec =
     tie.close
     (tie.spec
-    add-common
-    common-requires
-    add-common-2
-    common-requires-2
+    add-few
+    few-requires
+    add-few-2
+    few-requires-2
     get8-requires
     gain-net-requires
     returns)
