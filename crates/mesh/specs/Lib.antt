@@ -3,4 +3,5 @@ pub mod Fronts
 pub mod Entries
 pub mod Crossed
 pub mod Compact
+pub mod Levels
 pub mod Mesh
