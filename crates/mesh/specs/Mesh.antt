@@ -1,18 +1,17 @@
 -- A hypergraph in slots, whole: the nets of two pins or more of those that stand in the nets' slots, and the nets of each vertex. Assumes nothing.
-use mathlib.Core.Path.{_≡_, sym, _∙_, subst}
+use mathlib.Core.Path.{_≡_, sym, ap, _∙_, subst}
 use mathlib.Core.List.{List, [], map}
-use Prim.Native.Nat.{ℕ, _+_, _*_, _≤_}
+use Prim.Native.Nat.{ℕ, _+_, _*_, _≤_, _<_}
 use native.Mathlib.Omega.{arith}
-use lib.ListN.{length}
+use lib.ListN.{length, getD}
 use Rattle.spec.specs.Lists.{range}
-use Rattle.spec.specs.Floats.{zeroFloat}
-use Rattle.spec.specs.Hypergraph.{nets≥2}
+use Rattle.spec.specs.Floats.{zeroFloat, wholeFloat}
+use Rattle.spec.specs.Hypergraph.{Net, nets≥2}
 use Rattle.network.specs.Layouts.{map-range-ext}
 use Rattle.partition.specs.Layout.{netIn}
 use Rattle.matching.specs.Meshed.{Meshed}
-use Rattle.mesh.specs.Stays.{Stays, stays-then, stays-wider}
+use Rattle.mesh.specs.Stays.{Stays, stays-then, stays-wider, held-below, rising-below}
 use Rattle.mesh.specs.Crossed.{crossed, crossed-meshed, crossed-stays}
-use Rattle.mesh.specs.Levels.{net-below, within-below}
 use Rattle.mesh.specs.Compact.{keptOf, compacted, Compacts, compacts, Within}
 
 -- from the raw nets in ws, m of them, to the hypergraph of r nets and n vertices in ws′
@@ -35,12 +34,18 @@ module _ (ws ws₁ ws₂ : List ℕ) (nets vertices : ℕ) (weights start weight
   crossing : Stays (vertices * 4) ((vertices + 128) * 4) ws₁ ws₂
   crossing = subst (Stays (vertices * 4) ((vertices + 128) * 4) ws₁) (sym f) (crossed-stays nets vertices ws₁ n r fewer apart (omega (arith, made .stays .same)))
 
+  same-net : (i : ℕ) → i < r → netIn ws₂ nets weights′ i ≡ netIn ws₁ nets weights′ i
+  same-net i l = ap (λ p. netWith p) (rising-below _ _ ws₁ ws₂ crossing 2 (nets + i) (omega (arith, fewer .0)))
+    where
+      netWith : List ℕ → Net
+      netWith p = record { pins = p; weight = wholeFloat (getD weights′ i 0) }
+
   pub built : Built ws nets vertices weights m n ws₂ weights′ r
   built =
       record {
         few = made .few;
-        nets-are = map-range-ext (record { pins = []; weight = zeroFloat }) (netIn ws₂ nets weights′) (netIn ws₁ nets weights′) r (λ i l. net-below _ _ ws₁ ws₂ crossing nets (omega arith) weights′ i (omega (arith, fewer .0))) ∙ made .nets-are;
+        nets-are = map-range-ext (record { pins = []; weight = zeroFloat }) (netIn ws₂ nets weights′) (netIn ws₁ nets weights′) r same-net ∙ made .nets-are;
         meshed = subst (λ t. Meshed t nets vertices r n) (sym f) (crossed-meshed nets vertices ws₁ n r fewer apart (omega (arith, made .stays .same)));
-        within = λ w. within-below _ _ ws₁ ws₂ crossing nets (omega arith) r n (fewer .0) (made .inside n w);
+        within = λ w i v l b q. made .inside n w i v l b (sym (held-below _ _ ws₁ ws₂ crossing 2 (nets + i) (omega (arith, fewer .0)) v b) ∙ q);
         stays = stays-then _ _ ws ws₁ ws₂ (stays-wider _ _ _ _ ws ws₁ (omega arith) (omega arith) (made .stays)) (stays-wider _ _ _ _ ws₁ ws₂ (omega arith) (omega arith) crossing);
       }

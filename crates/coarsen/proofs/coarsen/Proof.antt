@@ -1,9 +1,8 @@
 -- Assumes nothing.
 use borrow.Author.Needs.{needs}
-use lib.ListN.{length}
-use Rattle.coarsen.specs.Shrinks.{shrinks}
-use Rattle.coarsen.specs.Level.{drawn-paired, coarsened, finer}
+use Rattle.coarsen.specs.Level.{drawn-paired, coarsened}
 use native.Mathlib.Omega.{arith}
+use Prim.Native.Nat.{_-_}
 use Rattle.coarsen.proofs.coarsen.Statement.{statement}
 use Rattle.coarsen.proofs.coarsen.Tie as tie
 
@@ -47,7 +46,7 @@ same-length-10 : tie.Need-same-length-10
 same-length-10 c = search needs
 
 returns : tie.Need-returns
-returns c = let d = c .before .before .before .before .before .before .before .before .before .before .before .before .before .before .before .before .before .before .before .before .before .before .before .before .before .before .before .before .before .before .before .before .before .before .before .before .before .before .before .before .before .before .before .before .before .before .before .before .before .before .before in let p = d .pre in let a = d .args in let o = c .before .before .before .before .before .before .before .before .before .before .before .before .before .before .before .before .before .before .before .before .before .before .before .before .before .before .before .before .before .before .match-all in let l = c .before .before .before .before .before .before .before .before .before .before .before .level in (coarsened (a .graph .now) (a .nets) (a .weights .now) (a .m) (a .vw .now) (a .limit) (a .words .now) _ (a .at) (o .result) (o .ensures) _ (a .nets2) _ (l .result .nets) _ (l .result .vertices) _ (c .is-worthwhile .result) (l .ensures .0 .level-is (a .limit)) (l .ensures .1) (c .is-worthwhile .ensures), (l .ensures .0, (finer (a .graph .now) _ (a .nets) (a .vertices) (a .nets2) _ (a .weights .now) (a .m) (a .vw .now) (l .ensures .0 .stays) (p .14) (p .19) (p .7) (p .10), λ f. shrinks (length (a .vw .now)) (l .result .vertices) (c .is-worthwhile .result) (p .7 .few .1) (l .ensures .0 .few .1) (c .is-worthwhile .ensures) f)))
+returns c = let d = c .before .before .before .before .before .before .before .before .before .before .before .before .before .before .before .before .before .before .before .before .before .before .before .before .before .before .before .before .before .before .before .before .before .before .before .before .before .before .before .before .before .before .before .before .before .before .before .before .before .before .before in let a = d .args in let o = c .before .before .before .before .before .before .before .before .before .before .before .before .before .before .before .before .before .before .before .before .before .before .before .before .before .before .before .before .before .before .match-all in let l = c .before .before .before .before .before .before .before .before .before .before .before .level in (coarsened (a .graph .now) (a .nets) (a .weights .now) (a .m) (a .vw .now) (a .limit) (a .words .now) _ (a .at) (o .result) (o .ensures) _ (a .nets2) _ (l .result .nets) _ (l .result .vertices) _ (c .is-worthwhile .result) (l .ensures .0 .level-is (a .limit)) (l .ensures .1) (c .is-worthwhile .ensures), l .ensures .0)
 
 pub coarsen-spec : {M : Type 1} → statement M
 coarsen-spec =

@@ -1,0 +1,4 @@
+pub mod Spans
+pub mod Shrinks
+pub mod Stage
+pub mod Deeper
