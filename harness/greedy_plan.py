@@ -2,7 +2,7 @@
 from network_file import refuse_if
 from price_list import listed
 
-WIDE = 12
+TABLE_TOO_WIDE = 12
 MOST_BITS = 40
 
 
@@ -16,7 +16,7 @@ class Table:
 def scored(network, first_slot, first, second_slot, second):
     """A pair's key: its score, its first slot, its second slot."""
     merged = network.bits(listed(network, first.leaves | second.leaves))
-    refuse_if(max(first.size, second.size, merged) > MOST_BITS, WIDE)
+    refuse_if(max(first.size, second.size, merged) > MOST_BITS, TABLE_TOO_WIDE)
     return 2 ** merged - 2 ** first.size - 2 ** second.size, first_slot, second_slot
 
 

@@ -7,7 +7,7 @@ from dataclasses import dataclass, field
 
 LEAVES, INDICES, LEGS, OUTPUTS, WEIGHT = 128, 256, 32, 32, 8
 WEIGHTS_TAG, LEAF_TAG, OUTPUTS_TAG, TREE_TAG, FLAGS_TAG, TARGET_TAG = 1, 2, 3, 4, 5, 6
-SHORT, TAG, LARGE, HEAVY, STRAY, TWICE, ROOM, TREE, FLAG = range(1, 10)
+TRUNCATED, WRONG_TAG, TOO_LARGE, OVERWEIGHT, OUT_OF_RANGE, REPEATED, SHORT_BUFFER, INVALID_TREE, INVALID_FLAGS = range(1, 10)
 
 # the tags that may follow each tag
 NEXT = {
@@ -47,8 +47,8 @@ def index_list(payload, index_count):
     """The indices of a leaf or of the outputs, byte by byte."""
     seen = []
     for byte in payload:
-        refuse_if(byte >= index_count, STRAY)
-        refuse_if(byte in seen, TWICE)
+        refuse_if(byte >= index_count, OUT_OF_RANGE)
+        refuse_if(byte in seen, REPEATED)
         seen.append(byte)
     return seen
 
@@ -76,25 +76,25 @@ def take_payload(contents, tag, payload):
     """One field whose header, tag and payload are in order."""
     size, index_count = len(payload), len(contents.weights)
     if tag == WEIGHTS_TAG:
-        refuse_if(size > INDICES, LARGE)
-        refuse_if(any(weight > WEIGHT for weight in payload), HEAVY)
+        refuse_if(size > INDICES, TOO_LARGE)
+        refuse_if(any(weight > WEIGHT for weight in payload), OVERWEIGHT)
         contents.weights = list(payload)
     elif tag == LEAF_TAG:
-        refuse_if(size > LEGS or len(contents.leaves) == LEAVES, LARGE)
+        refuse_if(size > LEGS or len(contents.leaves) == LEAVES, TOO_LARGE)
         contents.leaves.append(index_list(payload, index_count))
     elif tag == OUTPUTS_TAG:
-        refuse_if(size > OUTPUTS, LARGE)
+        refuse_if(size > OUTPUTS, TOO_LARGE)
         contents.outputs = index_list(payload, index_count)
     elif tag == TREE_TAG:
-        refuse_if(size % 2 == 1, TREE)
-        refuse_if(not is_valid(len(contents.leaves), list(payload)), TREE)
+        refuse_if(size % 2 == 1, INVALID_TREE)
+        refuse_if(not is_valid(len(contents.leaves), list(payload)), INVALID_TREE)
         contents.tree = list(payload)
     elif tag == FLAGS_TAG:
-        refuse_if(size > index_count, FLAG)
-        refuse_if(any(flag > 1 for flag in payload), FLAG)
+        refuse_if(size > index_count, INVALID_FLAGS)
+        refuse_if(any(flag > 1 for flag in payload), INVALID_FLAGS)
         contents.flags = list(payload)
     else:
-        refuse_if(size != 1, LARGE)
+        refuse_if(size != 1, TOO_LARGE)
         contents.target = payload[0]
 
 
@@ -102,11 +102,11 @@ def parse(data):
     """The contents of a file's bytes; raises Refused."""
     contents, before, at = Contents(), None, 0
     while at < len(data) or before in (None, WEIGHTS_TAG, LEAF_TAG):
-        refuse_if(len(data) - at < 3, SHORT)
+        refuse_if(len(data) - at < 3, TRUNCATED)
         tag, size = data[at], 256 * data[at + 1] + data[at + 2]
-        refuse_if(tag not in NEXT[before], TAG)
+        refuse_if(tag not in NEXT[before], WRONG_TAG)
         at += 3
-        refuse_if(len(data) - at < size, SHORT)
+        refuse_if(len(data) - at < size, TRUNCATED)
         take_payload(contents, tag, data[at:at + size])
         before, at = tag, at + size
     return contents
@@ -117,11 +117,11 @@ def read(data, tree_list, flag_list):
     contents = parse(data)
     tree_after, flags_after = list(tree_list), list(flag_list)
     if contents.tree is not None:
-        refuse_if(len(tree_list) < len(contents.tree), ROOM)
+        refuse_if(len(tree_list) < len(contents.tree), SHORT_BUFFER)
         tree_after[:len(contents.tree)] = contents.tree
     if contents.flags is not None:
         index_count = len(contents.weights)
-        refuse_if(len(flag_list) < index_count, ROOM)
+        refuse_if(len(flag_list) < index_count, SHORT_BUFFER)
         flags_after[:index_count] = contents.flags + [0] * (index_count - len(contents.flags))
     return contents, tree_after, flags_after
 

@@ -5,7 +5,7 @@ from network_file import Refused, parse, refuse_if
 from price_list import Network, members, price
 from slicing import slice_tree
 
-DEAR, LOOSE = 10, 11
+TOTAL_BEYOND, DANGLING_INDEX = 10, 11
 
 
 def planned(contents):
@@ -13,12 +13,12 @@ def planned(contents):
     children = greedy(Network(contents)) if contents.tree is None else contents.tree
     flags = contents.flags or []
     network = Network(contents, flags)
-    refuse_if(price(network, children).beyond(), DEAR)
-    refuse_if(network.dangling(), LOOSE)
+    refuse_if(price(network, children).beyond(), TOTAL_BEYOND)
+    refuse_if(network.dangling(), DANGLING_INDEX)
     improved = improve(network, children, 8, 4, None)
     if contents.target is None:
         return improved.children, flags, improved.rebuilt, improved.tried
-    refuse_if(price(Network(contents), improved.children).beyond(), DEAR)
+    refuse_if(price(Network(contents), improved.children).beyond(), TOTAL_BEYOND)
     sliced = slice_tree(contents, improved.children, contents.target)
     return sliced.children, sliced.flags, improved.rebuilt + sliced.rebuilt, improved.tried + sliced.tried
 

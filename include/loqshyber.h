@@ -1,8 +1,8 @@
-/* Loqshyber for a C host: the prices of a contraction plan, the greedy plan, a plan improved, and a plan sliced.
+/* Loqshyber for a C host: the prices of a contraction plan, the greedy plan, a plan improved, a plan sliced, and the text of a file's plan.
  *
- * Each function returns 0, or the number of the refusal. Each list is a pointer and a length in its own units. The pointer is not null, and is aligned
+ * Each function but loqshyber_plan returns 0, or the number of the refusal. Each list is a pointer and a length in its own units. The pointer is not null, and is aligned
  * as C has it for the list's type; for an empty list any such pointer will do. No list that is written overlaps another. A list that is
- * written and is shorter than stated is refused 7; one that is longer keeps its places past the stated ones. */
+ * written and is shorter than stated is refused 7, but by loqshyber_plan; one that is longer keeps its places past the stated ones. */
 #ifndef LOQSHYBER_H
 #define LOQSHYBER_H
 
@@ -12,7 +12,7 @@
 /* The refusals. Of a file's own the first that its bytes meet decides; of all others the lowest. */
 #define LOQSHYBER_TRUNCATED 1      /* a field of the file, or the file before its outputs, ends early */
 #define LOQSHYBER_WRONG_TAG 2      /* a tag that is not allowed at its place */
-#define LOQSHYBER_TOO_LARGE 3      /* over 128 leaves, 256 indices, 32 indices of a leaf or 32 outputs; a target field not of one byte */
+#define LOQSHYBER_TOO_LARGE 3      /* over 128 leaves, 256 indices, 32 indices of a leaf or 32 outputs; over 255 passes; a target field not of one byte */
 #define LOQSHYBER_OVERWEIGHT 4     /* a weight above 8 */
 #define LOQSHYBER_OUT_OF_RANGE 5   /* an index that is not below the number of indices */
 #define LOQSHYBER_REPEATED 6       /* an index twice in a leaf or in the outputs */
@@ -20,7 +20,7 @@
 #define LOQSHYBER_INVALID_TREE 8   /* a tree that is not valid for this number of leaves, or of odd length */
 #define LOQSHYBER_INVALID_FLAGS 9  /* more flags than indices, or a flag over 1 */
 #define LOQSHYBER_TOTAL_BEYOND 10  /* improvement and slicing: the total is 2^53 or more */
-#define LOQSHYBER_DANGLING 11      /* improvement: an index that just one leaf names, and that is no output */
+#define LOQSHYBER_DANGLING 11      /* improvement, and slicing with it: an index that just one leaf names, and that is no output */
 #define LOQSHYBER_TABLE_TOO_WIDE 12 /* greedy: a scored pair has a table, or makes one, of over 40 bits */
 
 /* loqshyber_price reads a network file with its tree, and flags if it has them, and writes the plan's listing to `out`.

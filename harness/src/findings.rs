@@ -107,15 +107,6 @@ fn bisection_takes_an_empty_table_first() {
     assert_eq!((run.children, run.taken, run.missed), (vec![[1, 0], [2, 3]], 48, 0));
 }
 
-#[test]
-fn slicing_takes_another_index_within_its_tolerance() {
-    let all = [0, 1, 2, 3, 4, 5, 6];
-    let network = hypergraph(&network(&[8, 5, 8, 4, 4, 7, 8], &[&all, &all, &[]]));
-    let mut tree = ContractionTree { n_leaves: 3, children: vec![[1, 0], [3, 2]] };
-    let sliced = path::slice_tree(&network, &mut tree, 40.0, false);
-    assert_eq!(sliced, [false, true, false, false, false, false, false]);
-}
-
 /// The port's improvement with no flags, k = 8, one pass and no limit, if the port is linked.
 fn improved(network: &Network, tree: &Tree) -> Option<Result<Improved, u32>> {
     tell_if_missing();

@@ -29,7 +29,7 @@ struct Counts {
     /// Refused 10, and 11.
     beyond: usize,
     dangling: usize,
-    /// path.rs has another answer, and a choice was close.
+    /// path.rs has another answer, to which choices that are close lead.
     close: usize,
     unnamed: usize,
 }
@@ -45,16 +45,17 @@ fn outcome(question: &Question, target: Target) -> Result<Outcome, String> {
     let Question { network, tree, .. } = question;
     let port = call::answer(&Given::new(network), tree, target)?;
     let read = model::slice(network, tree, target);
-    if port != read.clone().map(|(sliced, _)| sliced) {
+    if port != read {
         return Err(format!("port {port:?}, second reading {read:?}"));
     }
-    let (sliced, close) = match read {
+    let sliced = match port {
         Err(number) => return Ok(Outcome::Refused(number)),
-        Ok(read) => read,
+        Ok(sliced) => sliced,
     };
     let case = Case { network: network.clone(), tree: Some(tree.clone()), flags: None };
     match rust::slice(&case, target.bits, target.improving) {
         Some(rust) if rust != (sliced.tree.clone(), sliced.flags.clone()) => {
+            let close = model::is_close(network, tree, target, &rust);
             close.then_some(Outcome::Close).ok_or_else(|| format!("port {sliced:?}, Rust {rust:?}"))
         }
         _ => Ok(Outcome::Same(sliced)),

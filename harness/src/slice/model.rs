@@ -27,13 +27,8 @@ const fn ask(limit: Option<u32>) -> Ask {
 /// What ranks an index: its cost, the summed size of the tables above the target that list it, and its number.
 type Rank = (u128, Reverse<u32>, usize);
 
-/// Whether the least undercuts another candidate by no more than one part in 10^9: there the Rust may take another.
-fn is_close(least: Rank, ranks: &[Rank]) -> bool {
-    ranks.iter().any(|other| other.2 != least.2 && (other.0 - least.0) * 1_000_000_000 <= other.0)
-}
-
-/// The index that is sliced next, if a table is above the target and has one, and whether the choice is close.
-fn choice(network: &Network, sliced: &Sliced, target: u32) -> Option<(usize, bool)> {
+/// The candidates by rank, the least first, if a table is above the target and has one.
+fn ranks(network: &Network, sliced: &Sliced, target: u32) -> Vec<Rank> {
     let reading = Reading::new(network, &sliced.flags, ask(None));
     let prices = reading.prices(&sliced.tree);
     let sizes: Vec<u32> = prices.sets.iter().map(|&set| reading.weight(set)).collect();
@@ -49,33 +44,54 @@ fn choice(network: &Network, sliced: &Sliced, target: u32) -> Option<(usize, boo
     };
     let open =
         |&i: &usize| !network.outputs.contains(&(i as u16)) && !sliced.flags[i] && network.weights[i] > 0 && touched(i) > 0;
-    let ranks: Vec<Rank> = (0..network.weights.len()).filter(open).map(|i| (cost(i), Reverse(touched(i)), i)).collect();
-    let least = *ranks.iter().min()?;
-    Some((least.2, is_close(least, &ranks)))
+    let mut ranks: Vec<Rank> = (0..network.weights.len()).filter(open).map(|i| (cost(i), Reverse(touched(i)), i)).collect();
+    ranks.sort_unstable();
+    ranks
 }
 
-/// Slicing of a valid tree of an accepted network, and whether a choice was close; or its refusal, 10 or 11.
-pub fn slice(network: &Network, tree: &Tree, target: Target) -> Result<(Sliced, bool), u32> {
-    let none = vec![false; network.weights.len()];
-    if model::price(network, tree, &none).0.is_none() {
+/// One index more is flagged; with improvement a pass follows.
+fn flagged(network: &Network, mut sliced: Sliced, i: usize, target: Target) -> Result<Sliced, u32> {
+    sliced.flags[i] = true;
+    if target.improving {
+        let limit = model::price(network, &sliced.tree, &sliced.flags).1.max(target.bits.into());
+        let improved = model::improve(network, &sliced.tree, &sliced.flags, ask(Some(limit)))?;
+        sliced.tree = improved.tree;
+        sliced.rebuilt += improved.rebuilt;
+        sliced.tried += improved.tried;
+    }
+    Ok(sliced)
+}
+
+/// Whether choices that are close lead to a tree and flags: at each turn one of those candidates is taken that the least undercuts by no more than
+/// one part in 10^9.
+fn leads(network: &Network, sliced: Sliced, target: Target, plan: &(Tree, Vec<bool>)) -> bool {
+    let ranks = ranks(network, &sliced, target.bits.into());
+    let Some(&least) = ranks.first() else { return sliced.tree == plan.0 && sliced.flags == plan.1 };
+    let close = |rank: &&Rank| (rank.0 - least.0) * 1_000_000_000 <= rank.0 && plan.1[rank.2];
+    let next = |rank: &Rank| flagged(network, sliced.clone(), rank.2, target);
+    ranks.iter().filter(close).any(|rank| next(rank).is_ok_and(|sliced| leads(network, sliced, target, plan)))
+}
+
+/// Whether the Rust may answer so, where it has another answer.
+pub fn is_close(network: &Network, tree: &Tree, target: Target, plan: &(Tree, Vec<bool>)) -> bool {
+    leads(network, start(network, tree), target, plan)
+}
+
+fn start(network: &Network, tree: &Tree) -> Sliced {
+    Sliced { tree: tree.clone(), flags: vec![false; network.weights.len()], rebuilt: 0, tried: 0 }
+}
+
+/// Slicing of a valid tree of an accepted network, or its refusal, 10 or 11.
+pub fn slice(network: &Network, tree: &Tree, target: Target) -> Result<Sliced, u32> {
+    let mut sliced = start(network, tree);
+    if model::price(network, tree, &sliced.flags).0.is_none() {
         return Err(10);
     }
-    if target.improving && Reading::new(network, &none, ask(None)).dangling() {
+    if target.improving && Reading::new(network, &sliced.flags, ask(None)).dangling() {
         return Err(11);
     }
-    let bits = target.bits as u32;
-    let mut sliced = Sliced { tree: tree.clone(), flags: none, rebuilt: 0, tried: 0 };
-    let mut close = false;
-    while let Some((i, is_close)) = choice(network, &sliced, bits) {
-        close |= is_close;
-        sliced.flags[i] = true;
-        if target.improving {
-            let limit = model::price(network, &sliced.tree, &sliced.flags).1.max(bits);
-            let improved = model::improve(network, &sliced.tree, &sliced.flags, ask(Some(limit)))?;
-            sliced.tree = improved.tree;
-            sliced.rebuilt += improved.rebuilt;
-            sliced.tried += improved.tried;
-        }
+    while let Some(least) = ranks(network, &sliced, target.bits.into()).first() {
+        sliced = flagged(network, sliced, least.2, target)?;
     }
-    Ok((sliced, close))
+    Ok(sliced)
 }

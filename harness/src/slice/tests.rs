@@ -1,13 +1,13 @@
-//! The scope document's row of three tables, and a choice that is close, as the second reading and the port have them.
+//! The scope document's row of three tables, and choices that are close, as the second reading, the port and the Rust have them.
 
 use super::call;
-use super::model::{slice, Sliced, Target};
-use crate::case::{Network, Tree};
+use super::model::{is_close, slice, Sliced, Target};
+use crate::case::{Case, Network, Tree};
 use crate::greedy::call::Given;
-use crate::port;
+use crate::{port, rust};
 
 fn both(network: &Network, tree: &Tree, target: Target) -> Result<Sliced, u32> {
-    let read = slice(network, tree, target).map(|(sliced, _)| sliced);
+    let read = slice(network, tree, target);
     if port::AT_HAND {
         assert_eq!(call::answer(&Given::new(network), tree, target), Ok(read.clone()));
     }
@@ -26,11 +26,32 @@ fn a_row_of_three_tables() {
     assert_eq!(both(&network, &tree, Target { bits: 2, improving: true }), Ok(improved));
 }
 
+/// The flags of so many indices, of which one is flagged.
+fn flags(count: usize, i: usize) -> Vec<bool> {
+    (0..count).map(|j| j == i).collect()
+}
+
+/// Here index `i`, the Rust index `j`; those that are close.
+fn close(network: &Network, tree: &Tree, bits: u16, i: usize, j: usize) -> Vec<usize> {
+    let (target, count) = (Target { bits, improving: false }, network.weights.len());
+    assert_eq!(both(network, tree, target).unwrap().flags, flags(count, i));
+    let case = Case { network: network.clone(), tree: Some(tree.clone()), flags: None };
+    let plan = (tree.clone(), flags(count, j));
+    assert!(rust::slice(&case, bits, false).is_none_or(|rust| rust == plan));
+    let close = |k: usize| is_close(network, tree, target, &(tree.clone(), flags(count, k)));
+    (0..count).filter(|&k| close(k)).collect()
+}
+
 #[test]
-fn the_least_cost_without_a_tolerance() {
+fn a_cost_within_the_tolerance() {
     let all: Vec<u16> = (0..7).collect();
     let network = Network { weights: vec![8, 5, 8, 4, 4, 7, 8], leaves: vec![all.clone(), all, vec![]], outputs: vec![] };
-    let (tree, target) = (vec![[1, 0], [3, 2]], Target { bits: 40, improving: false });
-    assert_eq!(both(&network, &tree, target).unwrap().flags, [false, false, false, true, false, false, false]);
-    assert!(slice(&network, &tree, target).unwrap().1);
+    assert_eq!(close(&network, &vec![[1, 0], [3, 2]], 40, 3, 1), [0, 1, 2, 3, 4, 5, 6]);
+}
+
+#[test]
+fn equal_costs_that_are_rounded() {
+    let leaves = vec![vec![0, 2], vec![], vec![0, 1], vec![3, 4], vec![1, 2], vec![1, 4]];
+    let network = Network { weights: vec![8; 5], leaves, outputs: vec![] };
+    assert_eq!(close(&network, &vec![[0, 1], [6, 2], [7, 3], [8, 4], [9, 5]], 23, 1, 2), [1, 2]);
 }
