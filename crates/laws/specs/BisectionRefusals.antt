@@ -50,7 +50,7 @@ finish-refused : (N : Network) (r : Result State) (k : Refusal) → finish N r �
 finish-refused N (refused j) k e h = h (cc (refused-same {A = Built} j k e))
 finish-refused N (done s) k e h = not-refused _ k e
 
-greedy-refused : (N : Network) (a : List Pair) (ts : List Tree) (k : Refusal) → greedyFrom N a ts ≡ refused k → k ≡ tableTooWide
+pub greedy-refused : (N : Network) (a : List Pair) (ts : List Tree) (k : Refusal) → greedyFrom N a ts ≡ refused k → k ≡ tableTooWide
 unfolding greedyFrom
 greedy-refused N a ts k e =
     finish-refused N (connect N (length ts) (length ts) (startOf a ts)) k e (connect-refused N (length ts) (length ts) (startOf a ts) k)

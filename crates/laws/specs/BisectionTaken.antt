@@ -18,11 +18,11 @@ use Rattle.spec.specs.Draws.{Words, lentWords, Drawn}
 use Rattle.spec.specs.Greedy.{Built, joinAll, leavesOf, greedyFrom}
 use Rattle.spec.specs.Hypergraph.{hypergraphOf}
 use Rattle.spec.specs.Bisection.{imbalance, Halved, withWords, leftHalf, rightHalf, smallEnd, joinHalves, halves, bisectRec, bisectedFrom, Bisected, bisection}
-use Rattle.spec.specs.BisectionClaims.{TakenDecide, SpentShort, SpentJust, WideStands, WideMet}
+use Rattle.spec.specs.BisectionClaims.{firstOf, WordsSuffice, TakenDecide, SpentShort, SpentJust, WideStands, WideMet}
 use Rattle.laws.specs.Booleans.{by-cases, clash}
 use Rattle.laws.specs.Results.{not-done, done-same, refused-same, and-then}
-use Rattle.laws.specs.BisectionRefusals.{then-refused, only-wide-or-spent}
-use Rattle.laws.specs.WordLaws.{drawn-held, Past, Alike, Goes}
+use Rattle.laws.specs.BisectionRefusals.{then-refused, greedy-refused, only-wide-or-spent}
+use Rattle.laws.specs.WordLaws.{afterFirst, first-more, drawn-held, Past, Alike, Goes, leaves}
 use Rattle.laws.specs.BisectionWords.{bisect-goes}
 
 -- ---- answers with words ----
@@ -37,14 +37,24 @@ abbrev Agree : List ℕ → List ℕ → Result Halved → Result Halved → Typ
 Agree r m x y =
     ((q : List ℕ) × (v : Result Built) × (x ≡ withWords (lentWords (q ++ r)) v) × (y ≡ withWords (lentWords (q ++ m)) v)) ⊎ (Over r x × Over m y)
 
+-- it is not refused 13, and an answer leaves no word
+abbrev Settled : Result Halved → Type 0
+Settled (refused k) = k ≡ drawsExhausted → ⊥
+Settled (done h) = h .words ≡ lentWords []
+
 record Answers (c : Words → Result Halved) : Type 0 where
   past : (l : List ℕ) (ws : Words) → ws .spent ≡ false → length (ws .left) < length l → Over l (c ws)
   step : (r m p : List ℕ) → Agree r m (c (lentWords (p ++ r))) (c (lentWords (p ++ m)))
+  ends : (s : ℕ → ℕ) → (k : ℕ) × Settled (c (lentWords (firstOf s k)))
 
 -- nothing is drawn
-plain : (v : Result Built) → Answers (λ ws. withWords ws v)
-plain v = record { past = λ l ws e h. go l ws e h v; step = λ r m p. inl (p, v, refl, refl) }
+plain : (v : Result Built) → (v ≡ refused drawsExhausted → ⊥) → Answers (λ ws. withWords ws v)
+plain v n = record { past = λ l ws e h. go l ws e h v; step = λ r m p. inl (p, v, refl, refl); ends = λ s. (0, settled v n) }
   where
+    settled : (v : Result Built) → (v ≡ refused drawsExhausted → ⊥) → Settled (withWords (lentWords []) v)
+    settled (refused k) n = λ e. n (ap (λ k. refused k) e)
+    settled (done b) n = refl
+
     go : (l : List ℕ) (ws : Words) → ws .spent ≡ false → length (ws .left) < length l → (v : Result Built) → Over l (withWords ws v)
     go l ws e h (refused k) = inr (omega arith)
     go l ws e h (done b) = (e, h)
@@ -53,14 +63,46 @@ choose : {c d : Words → Result Halved} (b : Bool) → Answers c → Answers d 
 choose true g h = g
 choose false g h = h
 
+-- an answer with words left
+from-words : {P : Type 0} (h : Halved) (l : List ℕ) (v : Result Built) → done h ≡ withWords (lentWords l) v
+    → ((b : Built) → v ≡ done b → h ≡ record { built = b; words = lentWords l } → P) → P
+from-words h l (refused j) e f = not-done j h (sym e)
+from-words h l (done b) e f = f b refl (done-same h (record { built = b; words = lentWords l }) e)
+
 next : {c : Words → Result Halved} (f : Halved → Result Halved) → Answers c → ((b : Built) → Answers (λ ws. f (record { built = b; words = ws })))
     → Answers (λ ws. andThen (c ws) f)
 next {c} f g h =
     record {
       past = λ l ws e k. beyond l (c ws) (g .past l ws e k);
       step = λ r m p. go r m (c (lentWords (p ++ r))) (c (lentWords (p ++ m))) (g .step r m p);
+      ends = λ s. let (k, e) = g .ends s in both s k (c (lentWords (firstOf s k))) refl e;
     }
   where
+    -- where just the words p are taken, others after them are left
+    left : (p m : List ℕ) (y : Halved) → c (lentWords p) ≡ done y → y .words ≡ lentWords []
+        → c (lentWords (p ++ m)) ≡ done (record { built = y .built; words = lentWords m })
+    left p m y e w = after (rw append-nil at (g .step [] m p))
+      where
+        none-more : (q : List ℕ) (b : Built) → y ≡ record { built = b; words = lentWords (q ++ []) }
+            → _≡_ {A = Result Halved} (done (record { built = b; words = lentWords (q ++ m) })) (done (record { built = y .built; words = lentWords m }))
+        none-more [] b x = ap (λ (z : Halved). done (record { built = z .built; words = lentWords m })) (sym x)
+        none-more (v ∷ q) b x =
+            absurd (let z : _≡_ {A = ℕ} (suc (length (q ++ []))) 0 = sym (ap (λ (z : Halved). length (z .words .left)) x) ∙ ap (λ (ws : Words). length (ws .left)) w in omega arith)
+
+        after : Agree [] m (c (lentWords p)) (c (lentWords (p ++ m))) → c (lentWords (p ++ m)) ≡ done (record { built = y .built; words = lentWords m })
+        after (inl (q, v, x, z)) = from-words y (q ++ []) v (sym e ∙ x) (λ b a i. z ∙ ap (withWords (lentWords (q ++ m))) a ∙ none-more q b i)
+        after (inr (o, o′)) = absurd (omega (arith, (rw e at o) .1))
+
+    both : (s : ℕ → ℕ) (k : ℕ) (x : Result Halved) → c (lentWords (firstOf s k)) ≡ x → Settled x
+        → (k : ℕ) × Settled (andThen (c (lentWords (firstOf s k))) f)
+    both s k (refused r) e n = (k, rw e n)
+    both s k (done y) e w =
+        let (j, d) = h (y .built) .ends (afterFirst k s) in (
+          k + j,
+          subst Settled (sym (ap (λ (l : List ℕ). andThen (c (lentWords l)) f) (first-more k j s)
+              ∙ ap (λ (x : Result Halved). andThen x f) (left (firstOf s k) (firstOf (afterFirst k s) j) y e w))) d,
+        )
+
     beyond : (l : List ℕ) (x : Result Halved) → Over l x → Over l (andThen x f)
     beyond l (refused k) o = o
     beyond l (done y) (e, k) = h (y .built) .past l (y .words) e k
@@ -83,8 +125,18 @@ spent-or {c} f g h =
     record {
       past = λ l ws e k. beyond l (c ws) (g .past l ws (λ s. k));
       step = λ r m p. go r m (c (lentWords (p ++ r))) (c (lentWords (p ++ m))) (g .step r m p);
+      ends = both;
     }
   where
+    both : (s : ℕ → ℕ) → (k : ℕ) × Settled (unlessSpent f (c (lentWords (firstOf s k))))
+    both s =
+        let (k, e) = g .ends s in
+        let (j, d) = h (c (lentWords (firstOf s k)) .value) .ends (afterFirst k s) in (
+          k + j,
+          subst Settled (sym (ap (λ (l : List ℕ). unlessSpent f (c (lentWords l))) (first-more k j s)
+              ∙ ap (unlessSpent f) (leaves (drawn-held (List ℕ)) g (firstOf s k) (firstOf (afterFirst k s) j) e))) d,
+        )
+
     beyond : (l : List ℕ) (d : Drawn (List ℕ)) → Past l (d .words) → Over l (unlessSpent f d)
     beyond l d k = by-cases (d .words .spent) (λ e. rw e (inl refl)) (λ e. rw e (h (d .value) .past l (lentWords (d .words .left)) refl (k e)))
 
@@ -96,14 +148,14 @@ spent-or {c} f g h =
 
 module _ (N : Network) (eps : Float) (cutoff : ℕ) where
   small-answers : (leaves : List ℕ) (a : List Pair) → Answers (smallEnd N eps cutoff leaves a)
-  small-answers leaves a = plain (greedyFrom N a (leavesOf leaves))
+  small-answers leaves a = plain (greedyFrom N a (leavesOf leaves)) (λ e. absurd (omega (arith, ap numberOf (greedy-refused N a (leavesOf leaves) drawsExhausted e))))
 
   halves-answer : (go : List ℕ → List Pair → Words → Result Halved) → ((l : List ℕ) (a : List Pair) → Answers (go l a))
       → (left right : List ℕ) (a : List Pair) → Answers (halves N eps cutoff go left right a)
   halves-answer go h left right a =
       next (λ x. andThen (go right (x .built .pairs) (x .words)) (λ y. done (joinHalves N eps cutoff x y))) (h left a)
       (λ b. next (λ y. done (joinHalves N eps cutoff (record { built = b; words = lentWords [] }) y)) (h right (b .pairs))
-      (λ b′. plain (done (joinAll N (b′ .pairs) (b .tops ++ b′ .tops)))))
+      (λ b′. plain (done (joinAll N (b′ .pairs) (b .tops ++ b′ .tops))) (λ e. not-done drawsExhausted (joinAll N (b′ .pairs) (b .tops ++ b′ .tops)) (sym e))))
 
   rec-answers : (fuel : ℕ) (leaves : List ℕ) (a : List Pair) → Answers (bisectRec N eps cutoff fuel leaves a)
   rec-answers zero leaves a = small-answers leaves a
@@ -124,12 +176,6 @@ answers N i cutoff = rec-answers N (imbalance i) cutoff (leafCount N) (range (le
 
 left-least : (N : Network) (i cutoff : ℕ) (words : List ℕ) (h : Halved) → bisected N i cutoff (lentWords words) ≡ done h → length (h .words .left) ≤ length words
 left-least N i cutoff words h e = omega (arith, (rw e at (answers N i cutoff .past (0 ∷ words) (lentWords words) refl (omega arith))) .1)
-
--- an answer with words left
-from-words : {P : Type 0} (h : Halved) (l : List ℕ) (v : Result Built) → done h ≡ withWords (lentWords l) v
-    → ((b : Built) → v ≡ done b → h ≡ record { built = b; words = lentWords l } → P) → P
-from-words h l (refused j) e f = not-done j h (sym e)
-from-words h l (done b) e f = f b refl (done-same h (record { built = b; words = lentWords l }) e)
 
 module _ (N : Network) (i cutoff : ℕ) (p r m : List ℕ) (h : Halved) (e : bisected N i cutoff (lentWords (p ++ r)) ≡ done h) where
   -- A run that begins with the words p and answers with as many left as were after p: with others after p it answers the same.
@@ -189,6 +235,15 @@ spent-short N i cutoff words b k e lt =
     ap (λ x. andThen x (λ h. done (bisectedFrom (take k words) h)))
     (rw append-nil at (spent-answer N i cutoff (take k words) (drop k words) [] h (rw (take-append-drop k words) e₁)
     (omega (arith, length-drop k words, ap (λ (b : Bisected). b .taken) (done-same (bisectedFrom words h) b e₂))) refl)))
+
+pub words-suffice : WordsSuffice
+unfolding bisection
+words-suffice N i cutoff s = let (k, e) = answers N i cutoff .ends s in (k, go (firstOf s k) (bisected N i cutoff (lentWords (firstOf s k))) refl e)
+  where
+    go : (words : List ℕ) (x : Result Halved) → bisected N i cutoff (lentWords words) ≡ x → Settled x
+        → andThen (bisected N i cutoff (lentWords words)) (λ h. done (bisectedFrom words h)) ≡ refused drawsExhausted → ⊥
+    go words (refused r) e n q = n (refused-same {A = Bisected} r drawsExhausted (sym (ap (λ (x : Result Halved). andThen x (λ h. done (bisectedFrom words h))) e) ∙ q))
+    go words (done h) e w q = not-done drawsExhausted (bisectedFrom words h) (sym q ∙ ap (λ (x : Result Halved). andThen x (λ h. done (bisectedFrom words h))) e)
 
 -- a run that is refused 12 with no words after those given is refused 12 with any
 stands : (more : List ℕ) (x y : Result Halved) → x ≡ refused tableTooWide → Agree [] more x y → y ≡ refused tableTooWide

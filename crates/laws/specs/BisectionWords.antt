@@ -24,6 +24,7 @@ queue-held =
       get = λ q. q .words;
       put = λ ws q. record { keys = q .keys; stamps = q .stamps; waiting = q .waiting; words = ws };
       get-put = λ ws q. refl;
+      put-put = λ ws ws′ q. refl;
       put-get = λ q. refl;
     }
 
@@ -33,6 +34,7 @@ pass-held =
       get = λ p. p .queue .words;
       put = λ ws p. record { sides = p .sides; queue = queue-held .put ws (p .queue); gains = p .gains; over = p .over };
       get-put = λ ws p. refl;
+      put-put = λ ws ws′ p. refl;
       put-get = λ p. refl;
     }
 
@@ -42,6 +44,7 @@ refined-held =
       get = λ r. r .words;
       put = λ ws r. record { sides = r .sides; better = r .better; words = ws };
       get-put = λ ws r. refl;
+      put-put = λ ws ws′ r. refl;
       put-get = λ r. refl;
     }
 
@@ -51,6 +54,7 @@ choice-held =
       get = λ c. c .words;
       put = λ ws c. record { best = c .best; mate = c .mate; rating = c .rating; words = ws };
       get-put = λ ws c. refl;
+      put-put = λ ws ws′ c. refl;
       put-get = λ c. refl;
     }
 
@@ -60,6 +64,7 @@ strongest-held =
       get = λ c. c .words;
       put = λ ws c. record { link = c .link; vertex = c .vertex; words = ws };
       get-put = λ ws c. refl;
+      put-put = λ ws ws′ c. refl;
       put-get = λ c. refl;
     }
 
@@ -69,6 +74,7 @@ growth-held =
       get = λ g. g .words;
       put = λ ws g. record { part = g .part; weight = g .weight; links = g .links; next = g .next; words = ws };
       get-put = λ ws g. refl;
+      put-put = λ ws ws′ g. refl;
       put-get = λ g. refl;
     }
 

@@ -21,10 +21,10 @@ use Rattle.laws.specs.FileFields.{Fails, Begun, Named, accepted-parts, p
 
 -- ---- what is written is read back ----
 
-abbrev leavesAt : List ℕ → List (List ℕ) → Reading
+abbrev pub leavesAt : List ℕ → List (List ℕ) → Reading
 leavesAt w ls = record { due = leavesDue; read = bare (record { leaves = ls; outputs = []; weights = w }) }
 
-leaves-back : (w : List ℕ) (before ls : List (List ℕ)) (rest : List ℕ) → Begun w (before ++ ls)
+pub leaves-back : (w : List ℕ) (before ls : List (List ℕ)) (rest : List ℕ) → Begun w (before ++ ls)
     → readFrom (leavesAt w before) (leafFields ls ++ rest) ≡ readFrom (leavesAt w (before ++ ls)) rest
 leaves-back w before [] rest b = ap (λ (x : List (List ℕ)). readFrom (leavesAt w x) rest) (sym (append-nil before))
 leaves-back w before (l ∷ ls) rest b =
@@ -40,7 +40,7 @@ leaves-back w before (l ∷ ls) rest b =
 
 -- flags or a target, at a place where both are allowed and the file may end
 module _ (N : Network) (t : Option (List ℕ)) where
-  abbrev at : Due → Ask → Reading
+  abbrev pub at : Due → Ask → Reading
   at d a = record { due = d; read = record { network = N; tree = t; ask = a } }
 
   ask-back : (d : Due) (a : Ask) → mayEnd d ≡ true → allowed d 5 ≡ true → allowed d 6 ≡ true → LawfulAsk N a

@@ -43,11 +43,11 @@ rising-off s lo (x ∷ l) r =
     (λ e. rw e (rising-less lo (suc (x .slot)) (off s l) (omega (arith, r .0)) (rising-off s (suc (x .slot)) l (r .1))))
     (λ e. rw e (r .0, rising-off s (suc (x .slot)) l (r .1)))
 
-rising-last : (lo : ℕ) (l : List Live) (x : Live) → Rising lo l → lo ≤ x .slot → All (λ y. y .slot < x .slot) l → Rising lo (l ++ (x ∷ []))
+pub rising-last : (lo : ℕ) (l : List Live) (x : Live) → Rising lo l → lo ≤ x .slot → All (λ y. y .slot < x .slot) l → Rising lo (l ++ (x ∷ []))
 rising-last lo [] x r h k = (h, tt)
 rising-last lo (y ∷ l) x r h k = (r .0, rising-last (suc (y .slot)) l x (r .1) (k .0) (k .1))
 
-off-all : (P : Live → Type 0) (s : ℕ) (l : List Live) → All P l → All P (off s l)
+pub off-all : (P : Live → Type 0) (s : ℕ) (l : List Live) → All P l → All P (off s l)
 off-all P s [] h = tt
 off-all P s (x ∷ l) h = by-cases (eqb (x .slot) s) (λ e. rw e (off-all P s l (h .1))) (λ e. rw e (h .0, off-all P s l (h .1)))
 
@@ -117,7 +117,7 @@ module _ (s : State) (r : Rising 0 (s .live)) (c : Cand) (f : Fine (s .live) c) 
 
 -- ---- a turn ----
 
-trees-append : (l k : List Live) → trees (l ++ k) ≡ trees l ++ trees k
+pub trees-append : (l k : List Live) → trees (l ++ k) ≡ trees l ++ trees k
 trees-append [] k = refl
 trees-append (x ∷ l) k = ap (λ y. x .tree ∷ y) (trees-append l k)
 
@@ -206,11 +206,11 @@ pub trees-slots : (k : ℕ) (ts : List Tree) → trees (slots k ts) ≡ ts
 trees-slots k [] = refl
 trees-slots k (t ∷ ts) = ap (λ l. t ∷ l) (trees-slots (suc k) ts)
 
-slots-rising : (k : ℕ) (ts : List Tree) → Rising k (slots k ts)
+pub slots-rising : (k : ℕ) (ts : List Tree) → Rising k (slots k ts)
 slots-rising k [] = tt
 slots-rising k (t ∷ ts) = (omega arith, slots-rising (suc k) ts)
 
-slots-below : (k : ℕ) (ts : List Tree) → All (λ x. x .slot < k + length ts) (slots k ts)
+pub slots-below : (k : ℕ) (ts : List Tree) → All (λ x. x .slot < k + length ts) (slots k ts)
 slots-below k [] = tt
 slots-below k (t ∷ ts) = (omega arith, all-map _ _ (slots (suc k) ts) (λ x h. omega arith) (slots-below (suc k) ts))
 

@@ -1,71 +1,53 @@
--- LAW G5: greedy refuses only by 12, and just if it comes to a state with a pair that is too wide. Assumes nothing.
-use mathlib.Core.Path.{_≡_, refl, sym, ap, _∙_}
-use mathlib.Core.Bool.{true, false}
-use mathlib.Core.List.{List, [], _∷_}
-use Prim.Native.Nat.{ℕ, zero, suc, _+_, _-_, _≤_, _<_}
-use native.Mathlib.Omega.{arith}
+-- LAW G5: greedy refuses only by 12, and just if it comes to a state with a pair that is too wide. It is LAW G7 over all leaves, onto the empty
+-- array. Assumes nothing.
+use mathlib.Core.Path.{_≡_, sym, ap, _∙_}
+use mathlib.Core.List.{List, []}
+use Prim.Native.Nat.{ℕ}
 use lib.ListN.{length}
+use Rattle.spec.specs.Lists.{range}
 use Rattle.spec.specs.Network.{Network, leafCount}
-use Rattle.spec.specs.Refusal.{Refusal, tableTooWide, Result, refused, done}
-use Rattle.spec.specs.Greedy.{Live, Cand, sharingPairs, least, anyWide, State, merge, turn, connect, trees, finish, greedyFrom, arrayOf, greedy}
-use Rattle.spec.specs.GreedyClaims.{startAll, pairsIn, Reached, begin, then, Refuses}
-use Rattle.laws.specs.Booleans.{by-cases, clash}
+use Rattle.spec.specs.Tree.{Tree}
+use Rattle.spec.specs.Refusal.{Refusal, Result, refused, done}
+use Rattle.spec.specs.Greedy.{anyWide, State, Built, sharingPairs, leavesOf, greedyFrom, arrayOf, greedy}
+use Rattle.spec.specs.GreedyClaims.{pairsIn, Reached, begin, then, Refuses}
+use Rattle.spec.specs.EndClaims.{pairsAfter, ReachedFrom, beginFrom, thenFrom}
 use Rattle.laws.specs.Results.{not-done, refused-same}
 use Rattle.laws.specs.GreedyForest.{leaves-length}
-use Rattle.laws.specs.GreedyRuns.{reached-sound, reached-connect}
+use Rattle.laws.specs.GreedyFrom.{refuses-from}
 
 module _ (N : Network) where
-  -- a reached state with a pair that is too wide
-  abbrev Wide : Type 0
-  Wide = (k : ℕ) × (s : State) × Reached N k s × (anyWide N (pairsIn N s) ≡ true)
+  abbrev start : List Tree
+  start = leavesOf (range (leafCount N))
 
-  connect-refuses : (fuel k : ℕ) (s : State) (r : Refusal) → Reached N k s → connect N (leafCount N) fuel s ≡ refused r → (r ≡ tableTooWide) × Wide
-  connect-refuses zero k s r h e = not-done r s (sym e)
-  connect-refuses (suc fuel) k s r h e = go (pairsIn N s) refl e (λ c l p w. connect-refuses fuel (suc k) (merge N (least N c l) s) r (then c l h p w))
-    where
-      go : (cs : List Cand) → pairsIn N s ≡ cs → turn N cs s (λ s′. connect N (leafCount N) fuel s′) ≡ refused r
-          → ((c : Cand) (l : List Cand) → pairsIn N s ≡ c ∷ l → anyWide N (c ∷ l) ≡ false
-          → connect N (leafCount N) fuel (merge N (least N c l) s) ≡ refused r → (r ≡ tableTooWide) × Wide)
-          → (r ≡ tableTooWide) × Wide
-      go [] p q on = not-done r s (sym q)
-      go (c ∷ l) p q on =
-          by-cases (anyWide N (c ∷ l))
-          (λ w. (sym (refused-same tableTooWide r (rw w at q)), (k, s, h, ap (anyWide N) p ∙ w)))
-          (λ w. on c l p w (rw w at q))
+  -- the pairs of a state, and the states that are reached, are the same
+  same-pairs : (s : State) → pairsAfter N (length start) s ≡ pairsIn N s
+  same-pairs s = ap (λ n. sharingPairs N n (s .live)) (leaves-length (leafCount N))
 
-  -- greedy refuses just as the merging does
-  finish-refuses : (x : Result State) (r : Refusal) → arrayOf (finish N x) ≡ refused r → x ≡ refused r
-  finish-refuses (refused k) r e = ap refused (refused-same k r e)
-  finish-refuses (done s) r e = not-done r _ (sym e)
+  to-from : (k : ℕ) (s : State) → Reached N k s → ReachedFrom N [] start k s
+  to-from k s begin = beginFrom
+  to-from k s (then {k = k′} {s = s′} c l r e w) = thenFrom c l (to-from k′ s′ r) (same-pairs s′ ∙ e) w
 
-  abbrev merging : Result State
-  merging = connect N (leafCount N) (leafCount N) (startAll N)
+  of-from : (k : ℕ) (s : State) → ReachedFrom N [] start k s → Reached N k s
+  of-from k s beginFrom = begin
+  of-from k s (thenFrom {k = k′} {s = s′} c l r e w) = then c l (of-from k′ s′ r) (sym (same-pairs s′) ∙ e) w
 
-  greedy-is : greedy N ≡ arrayOf (finish N merging)
-  unfolding greedy greedyFrom
-  greedy-is = ap (λ z. arrayOf (finish N (connect N z z (startAll N)))) (leaves-length (leafCount N))
+  array-refused : (x : Result Built) (r : Refusal) → arrayOf x ≡ refused r → x ≡ refused r
+  array-refused (refused k) r e = ap refused (refused-same k r e)
+  array-refused (done b) r e = not-done r _ (sym e)
 
-  -- a pair that is too wide is a pair of live tables, so the merging is not at its end
-  some-live : (l : List Live) → anyWide N (sharingPairs N (leafCount N) l) ≡ true → 1 ≤ length (trees l)
-  some-live [] w = clash w refl
-  some-live (x ∷ l) w = omega arith
+  from-greedy : (r : Refusal) → greedy N ≡ refused r → greedyFrom N [] start ≡ refused r
+  unfolding greedy
+  from-greedy r e = array-refused (greedyFrom N [] start) r e
 
-  wide-refused : (k : ℕ) (s : State) → Reached N k s → anyWide N (pairsIn N s) ≡ true → merging ≡ refused tableTooWide
-  wide-refused k s h w =
-      let (g, p) = reached-sound N k s h in
-      let b : k < leafCount N = omega (arith, g .forest .amount, some-live (s .live) w) in
-      ap (λ z. connect N (leafCount N) z (startAll N)) (let z : leafCount N ≡ k + suc (leafCount N - suc k) = omega arith in z)
-      ∙ reached-connect N k s h (suc (leafCount N - suc k))
-      ∙ go (pairsIn N s) w
-    where
-      go : (cs : List Cand) → anyWide N cs ≡ true → turn N cs s (λ s′. connect N (leafCount N) (leafCount N - suc k) s′) ≡ refused tableTooWide
-      go [] e = clash e refl
-      go (c ∷ l) e = rw e
+  to-greedy : (r : Refusal) → greedyFrom N [] start ≡ refused r → greedy N ≡ refused r
+  unfolding greedy
+  to-greedy r e = ap arrayOf e
 
 pub greedy-refuses : Refuses
 greedy-refuses N =
+    let f = refuses-from N [] (start N) in
     record {
-      only = λ r e. connect-refuses N (leafCount N) 0 (startAll N) r begin (finish-refuses N (merging N) r (sym (greedy-is N) ∙ e)) .0;
-      because = λ r e. connect-refuses N (leafCount N) 0 (startAll N) r begin (finish-refuses N (merging N) r (sym (greedy-is N) ∙ e)) .1;
-      whenever = λ k s h w. greedy-is N ∙ ap (λ x. arrayOf (finish N x)) (wide-refused N k s h w);
+      only = λ r e. f .only r (from-greedy N r e);
+      because = λ r e. let (k, s, g, w) = f .because r (from-greedy N r e) in (k, s, of-from N k s g, ap (anyWide N) (sym (same-pairs N s)) ∙ w);
+      whenever = λ k s h w. to-greedy N _ (f .whenever k s (to-from N k s h) (ap (anyWide N) (same-pairs N s) ∙ w));
     }

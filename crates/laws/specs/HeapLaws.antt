@@ -150,7 +150,7 @@ off-in {heap} {e} {rest} c = rw (c .whole) (in-middle (c .before))
     in-middle [] = here refl
     in-middle (x ∷ a) = there (in-middle a)
 
-rest-all : (P : Entry → Type 0) {heap : List Entry} {e : Entry} {rest : List Entry} → ComesOff heap e rest → All P heap → All P rest
+pub rest-all : (P : Entry → Type 0) {heap : List Entry} {e : Entry} {rest : List Entry} → ComesOff heap e rest → All P heap → All P rest
 rest-all P {heap} {e} {rest} c h =
     let (a, b) = all-parts P (c .before) (e ∷ c .behind) (subst (All P) (c .whole) h) in
     subst (All P) (sym (c .others)) (all-append P (c .before) (c .behind) a (b .1))

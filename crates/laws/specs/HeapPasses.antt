@@ -71,7 +71,7 @@ module _ (G : Hypergraph) (part : List ℕ) (n : ℕ) (moves : List ℕ) where
   all-again (u ∷ l) h b H =
       rw (← same-queue u h) (all-again l (pushedAgain G part moves u h) (b .1) (again u h (b .0) H))
 
-pins-in : (n : ℕ) (p : Net → Bool) (l : List Net) → All (λ e. All (λ u. u < n) (e .pins)) l → All (λ u. u < n) (allPins (keep p l))
+pub pins-in : (n : ℕ) (p : Net → Bool) (l : List Net) → All (λ e. All (λ u. u < n) (e .pins)) l → All (λ u. u < n) (allPins (keep p l))
 pins-in n p [] h = tt
 pins-in n p (e ∷ l) h = by-cases (p e) (λ k. rw k (all-append _ (e .pins) (allPins (keep p l)) (h .0) (pins-in n p l (h .1)))) (λ k. rw k (pins-in n p l (h .1)))
 

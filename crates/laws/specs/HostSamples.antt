@@ -1,18 +1,22 @@
--- The C host's pricing by computation: the listing's bytes of small plans, their four numbers, and refusals. Assumes nothing.
+-- The C host's pricing and slicing by computation: the listing's bytes of small plans, their numbers, and refusals. Assumes nothing.
 use mathlib.Core.List.{List, [], _∷_, _++_, map}
 use mathlib.Core.Option.{none, some}
 use mathlib.Core.Path.{_≡_, refl}
 use Prim.Native.Nat.{ℕ, _^_}
+use lib.Ieee.{round, mul, sub, lt, ofInt}
 use Rattle.spec.specs.Memory.{filled, over}
 use Rattle.spec.specs.Refusal.{codeOf, Result, done}
 use Rattle.spec.specs.Tree.{valid, treeAt, pairsOf}
 use Rattle.spec.specs.Price.{kept, listing, flatSteps, Prices}
 use Rattle.spec.specs.Network.{Network, named}
 use Rattle.spec.specs.Layout.{firsts, networkOf}
-use Rattle.spec.specs.Calls.{priceCall}
+use Rattle.spec.specs.Undercut.{undercuts}
+use Rattle.spec.specs.Improve.{weigh, keeps, passed, splitWork, splitCount, frontier, locals, reconfNode, visit, pass, arrayFor, improve}
+use Rattle.spec.specs.Slicing.{Plan, slice}
+use Rattle.spec.specs.Calls.{priceCall, sliceCall}
 use Rattle.spec.specs.File.{plain, flagged, Contents, fileOf, readOf}
 use Rattle.spec.specs.FileClaims.{refusalIn}
-use Rattle.spec.specs.Host.{fullRoom, listingCall, hostCall, lentNetwork, memoryCall, answerAfter}
+use Rattle.spec.specs.Host.{fullRoom, listingCall, hostCall, lentNetwork, memoryCall, answerAfter, improvingNumber, memorySliceCall, sliceAfter}
 use Rattle.laws.specs.Samples.{network, sample, apart}
 
 abbrev contents : Contents
@@ -88,3 +92,18 @@ in-numbers : (numbers (apart 4) (0 ∷ 1 ∷ []) ∷ numbers (apart 5) (0 ∷ 1 
     ≡ (0 ∷ 2 ^ 52 ∷ 53 ∷ 0 ∷ []) ∷ (1 ∷ 0 ∷ 54 ∷ 0 ∷ []) ∷ (0 ∷ 0 ∷ 0 ∷ 0 ∷ []) ∷ []
 unfolding memoryCall over priceCall listing valid treeAt pairsOf kept named
 in-numbers = refl
+
+-- ---- slicing of a network in memory: the sample's tree to the target 2 ----
+
+abbrev slicedIn : ℕ → ℕ → Network → Result Plan
+slicedIn improving places N = memorySliceCall places N (improvingNumber improving) 2 6144 3 (2 ∷ 1 ∷ 3 ∷ 0 ∷ [])
+
+-- with improvement, by any number but 0, the pass after the one choice tries six splits; without, nothing is counted
+sliced-numbers : map (λ improving. sliceAfter (slicedIn improving 3 sample) (9 ∷ 9 ∷ 9 ∷ [])) (0 ∷ 1 ∷ 2 ∷ []) ≡ (0 ∷ 0 ∷ 9 ∷ []) ∷ (0 ∷ 6 ∷ 9 ∷ []) ∷ (0 ∷ 6 ∷ 9 ∷ []) ∷ []
+unfolding memorySliceCall sliceCall slice over listing valid treeAt pairsOf kept named improve weigh keeps passed splitWork splitCount frontier locals reconfNode visit pass arrayFor undercuts round mul sub lt ofInt
+sliced-numbers = refl
+
+-- one place is too short, after the network's conditions
+sliced-refused : map (λ r. codeOf (refusalIn r)) (slicedIn 0 1 sample ∷ slicedIn 0 1 (record { leaves = []; outputs = []; weights = 9 ∷ [] }) ∷ slicedIn 0 2 sample ∷ []) ≡ 7 ∷ 4 ∷ 0 ∷ []
+unfolding memorySliceCall sliceCall slice listing valid treeAt pairsOf kept named
+sliced-refused = refl

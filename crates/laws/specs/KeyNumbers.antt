@@ -86,7 +86,7 @@ noise-sure : (w : ℕ) → Sure (mul binary64 nano (unitOf w))
 unfolding unitOf ofInt
 noise-sure w = rw nano-is (above-sure 4835703278458516 (negsuc 81) (unitOf w) (scaled-sure (ofInt binary64 (pos (w / 2 ^ 11))) (round-sure binary64 false (w / 2 ^ 11) 1)))
 
-kept-less : (f : WholeNet → ℕ) (p : WholeNet → Bool) (l : List WholeNet) → sumOf f (keep p l) ≤ sumOf f l
+pub kept-less : (f : WholeNet → ℕ) (p : WholeNet → Bool) (l : List WholeNet) → sumOf f (keep p l) ≤ sumOf f l
 kept-less f p [] = omega arith
 kept-less f p (e ∷ l) = by-cases (p e) (λ q. rw q (omega (arith, kept-less f p l))) (λ q. rw q (omega (arith, kept-less f p l)))
 

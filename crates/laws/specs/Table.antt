@@ -1,11 +1,13 @@
 -- THE TABLE: document 01's cases marked † that the definitions decide, in its order, and one theorem on all of them. A row has what the
--- document says and what the definitions give, as numbers: 1 for valid or accepted, a refusal's number, an order, a total; and the sample
--- plan's output, as bytes. Assumes nothing.
-use mathlib.Core.Bool.{false}
+-- document says and what the definitions give, as numbers: 1 for valid or accepted, a refusal's number, an order, a total; and the program's
+-- sample, from the file's bytes to those of its output. Assumes nothing.
+use mathlib.Core.Bool.{false, cond}
 use mathlib.Core.List.{List, [], _∷_, map}
 use mathlib.Core.Option.{Option, none, some}
 use mathlib.Core.Path.{_≡_, refl}
-use Prim.Native.Nat.{ℕ, _^_}
+use Prim.Native.Nat.{ℕ, _+_, _-_, _*_, _^_}
+use Prim.Native.String.{String}
+use lib.Dec.{leb}
 use lib.Ieee.{binary64, round, mul, sub, lt, ofInt, toBits}
 use lib.ListN.{replicate}
 use Rattle.spec.specs.Lists.{range, keep}
@@ -20,11 +22,12 @@ use Rattle.spec.specs.Greedy.{greedyFrom, greedy}
 use Rattle.spec.specs.Undercut.{undercuts}
 use Rattle.spec.specs.Improve.{weigh, keeps, passed, splitWork, splitCount, frontier, locals, reconfNode, visit, pass, arrayFor, improve}
 use Rattle.spec.specs.ImproveClaims.{mostSplits}
-use Rattle.spec.specs.Slicing.{slice, asIs}
-use Rattle.spec.specs.Program.{planOf, program}
-use Rattle.spec.specs.Text.{ascii, lastDigits, decimal, spaced, linesOf, planText, outputOf}
-use Rattle.spec.specs.File.{target}
-use Rattle.laws.specs.Samples.{network, sample, apart}
+use Rattle.spec.specs.Slicing.{slice}
+use Rattle.spec.specs.Program.{planOf}
+use Rattle.spec.specs.Text.{ascii, lastDigits, decimal, spaced, linesOf, planText}
+use Rattle.spec.specs.File.{readOf}
+use Rattle.spec.specs.Output.{programOn, planBytes}
+use Rattle.laws.specs.Samples.{network, apart}
 
 pub record Row : Type 0 where
   pub says : List ℕ
@@ -62,6 +65,18 @@ totalOver N kids = ofTotal (total (listing N (λ j. false) (pairsOf kids)))
 abbrev leafOf : ℕ → Network
 leafOf n = network (range n ∷ []) [] (replicate n 1)
 
+-- the bytes of a text in hex, as the document writes it: two digits a byte, and whatever comes before the digit 0 in ASCII is left out
+abbrev hexDigit : ℕ → ℕ
+hexDigit c = cond (leb 97 c) (c - 87) (c - 48)
+
+abbrev digitPairs : List ℕ → List ℕ
+digitPairs [] = []
+digitPairs (h ∷ []) = []
+digitPairs (h ∷ l ∷ rest) = (hexDigit h * 16 + hexDigit l) ∷ digitPairs rest
+
+abbrev hex : String → List ℕ
+hex text = digitPairs (keep (λ c. leb 48 c) (ascii text))
+
 -- ---- the rows ----
 
 pub rows : List Row
@@ -88,13 +103,13 @@ rows =
     ∷ row (1 ∷ 0 ∷ []) (indexOf 7 3 ∷ toBits binary64 (unitOf 0) ∷ [])
     -- "One leaf {0,1}, weights 1, no output, target 1, no improving: index 0 is sliced."
     ∷ row (1 ∷ 0 ∷ []) (slicedFlags (leafOf 2) (sliceCall (leafOf 2) false 1 plainWords 2 []) (7 ∷ 7 ∷ []))
-    -- the sample plan, from the network of Samples with the target 2: its output byte for byte
+    -- "Program `plan` reads a network file from standard input .. Input, hex: .. Output (†):"
     ∷ row
     (ascii "plan 3 3\nstep 3 2 1 1 0 1\nstep 4 3 0 1 1 0\ntotal 4\nwidest 1\nslice 1\nbits 2\nimproved 1\nsplits 18\n")
-    (outputOf (program sample none (target 2)))
+    (planBytes (hex "01 0003 010201, 02 0002 0001, 02 0002 0102, 02 0001 02, 03 0001 00, 06 0001 02"))
     ∷ []
 
 -- EVERY ROW HOLDS
 pub table : map (λ r. r .gives) rows ≡ map (λ r. r .says) rows
-unfolding rows over decimal lastDigits spaced linesOf planText validCall greedyCall improveCall sliceCall flatOf valid treeAt pairsOf stepOrder listing kept named mostSplits unitOf slice greedy greedyFrom planOf improve weigh keeps passed splitWork splitCount frontier locals reconfNode visit pass arrayFor undercuts round mul sub lt ofInt toBits
+unfolding rows over planBytes programOn readOf decimal lastDigits spaced linesOf planText validCall greedyCall improveCall sliceCall flatOf valid treeAt pairsOf stepOrder listing kept named mostSplits unitOf slice greedy greedyFrom planOf improve weigh keeps passed splitWork splitCount frontier locals reconfNode visit pass arrayFor undercuts round mul sub lt ofInt toBits
 table = refl

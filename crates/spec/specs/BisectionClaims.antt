@@ -1,10 +1,10 @@
 -- What is claimed of bisection. Definitions only; proofs in BisectionLaws, BisectionHalves, BisectionRefusals and BisectionTaken of laws.
 -- Assumes nothing.
 use mathlib.Core.Bool.{true, false}
-use mathlib.Core.List.{List, _++_}
+use mathlib.Core.List.{List, [], _∷_, _++_}
 use mathlib.Core.Logic.{_⊎_}
 use mathlib.Core.Path.{_≡_}
-use Prim.Native.Nat.{ℕ, _+_, _<_, _≤_}
+use Prim.Native.Nat.{ℕ, zero, suc, _+_, _<_, _≤_}
 use lib.Dec.{eqb}
 use lib.Ieee.{Float}
 use lib.ListN.{length, take}
@@ -43,7 +43,8 @@ abbrev pub TakenDecide : Type 0
 TakenDecide = (N : Network) (i cutoff : ℕ) (words : List ℕ) (b : Bisected) → bisection N i cutoff words ≡ done b
     → (b .taken ≤ length words) × ((more : List ℕ) → bisection N i cutoff (take (b .taken) words ++ more) ≡ done b)
 
--- LAW B6. "13 exactly if a draw is due past the list's end": so with fewer words than are taken, and no other way.
+-- LAW B6. 13 comes with fewer words than are taken: with any fewer, and if more words bring an answer then with these alone. (Where in the run: LAW B9,
+-- `SpentByDraws` of EndClaims.)
 abbrev pub SpentShort : Type 0
 SpentShort = (N : Network) (i cutoff : ℕ) (words : List ℕ) (b : Bisected) (k : ℕ) → bisection N i cutoff words ≡ done b → k < b .taken
     → bisection N i cutoff (take k words) ≡ refused drawsExhausted
@@ -52,7 +53,15 @@ abbrev pub SpentJust : Type 0
 SpentJust = (N : Network) (i cutoff : ℕ) (words more : List ℕ) (b : Bisected) → bisection N i cutoff words ≡ refused drawsExhausted
     → bisection N i cutoff (words ++ more) ≡ done b → length words < b .taken
 
--- "12 as greedy meets it": no words after those taken by then change it.
+-- And words suffice: of any row without end, some first ones are not refused 13.
+abbrev pub firstOf : (ℕ → ℕ) → ℕ → List ℕ
+firstOf s zero = []
+firstOf s (suc k) = s 0 ∷ firstOf (λ j. s (suc j)) k
+
+abbrev pub WordsSuffice : Type 0
+WordsSuffice = (N : Network) (i cutoff : ℕ) (s : ℕ → ℕ) → (k : ℕ) × (bisection N i cutoff (firstOf s k) ≡ refused drawsExhausted → ⊥)
+
+-- 12 stands: no words after those taken by then change it. (That it is a small end's, as greedy meets it: LAW B8, `WideByGreedy` of EndClaims.)
 abbrev pub WideStands : Type 0
 WideStands = (N : Network) (i cutoff : ℕ) (words more : List ℕ) → bisection N i cutoff words ≡ refused tableTooWide
     → bisection N i cutoff (words ++ more) ≡ refused tableTooWide

@@ -1,5 +1,5 @@
--- What is claimed of the network file. Definitions only; proofs in FileReads, FileBytes, FileWrites, FileLists, FileDecisions and FileSamples
--- of laws. Assumes nothing.
+-- What is claimed of the network file. Definitions only; proofs in FileReads, FileBytes, FileWrites, FileLists, FileDecisions, FileFront,
+-- FileLongest and FileSamples of laws. Assumes nothing.
 use mathlib.Core.Bool.{true, false, not, cond}
 use mathlib.Core.List.{List, [], _∷_, _++_, map}
 use mathlib.Core.Logic.{_↔_}
@@ -228,6 +228,20 @@ abbrev pub StaysRefused : Type 0
 StaysRefused =
     (places flagPlaces : ℕ) (file more : List ℕ) (r : Refusal) → memb (numberOf r) (2 ∷ 3 ∷ 4 ∷ 5 ∷ 6 ∷ 8 ∷ 9 ∷ []) ≡ true
     → readOf places flagPlaces file ≡ refused r → readOf places flagPlaces (file ++ more) ≡ refused r
+
+-- A file's first 70,569 bytes decide what is read, whatever follows: fields that are read well take at most 259 (weights), 128 times 35
+-- (leaves), 35 (outputs) and 257 (tree), and the field that decides has a header of 3 and a payload of at most 65,535.
+abbrev pub decidingBytes : ℕ
+decidingBytes = 259 + 128 * 35 + 35 + 257 + 3 + 65535
+
+abbrev pub FrontDecides : Type 0
+FrontDecides =
+    (places flagPlaces n : ℕ) (file : List ℕ) → Bytes file → decidingBytes ≤ n
+    → readOf places flagPlaces (take n file) ≡ readOf places flagPlaces file
+
+-- and one byte fewer does not
+abbrev pub NoFewerDecide : Type 0
+NoFewerDecide = (file : List ℕ) × Bytes file × (readOf 254 256 (take (decidingBytes - 1) file) ≡ readOf 254 256 file → ⊥)
 
 -- the reader refuses by no other numbers than 1 to 9, and by each of them
 abbrev pub RefusesUpTo9 : Type 0

@@ -1,19 +1,22 @@
--- Pricing and improvement for a C host: from a file's bytes to the listing's bytes, and from a network in memory to prices or to counts, or a refusal.
+-- Pricing, improvement, slicing and bisection for a C host: from a file's bytes to the listing's bytes, and from a network in memory to prices or to counts, or
+-- a refusal.
 -- Definitions only. Assumes nothing.
-use mathlib.Core.Bool.{Bool, false, cond}
+use mathlib.Core.Bool.{Bool, false, not, cond}
 use mathlib.Core.List.{List, [], _∷_, _++_}
 use mathlib.Core.Option.{Option, none, some}
 use mathlib.Core.Path.{_≡_}
 use Prim.Native.Nat.{ℕ, zero, suc, _+_, _*_, _/_, _%_}
-use lib.Dec.{ltb}
+use lib.Dec.{eqb, ltb}
 use lib.ListN.{length}
 use Rattle.spec.specs.Network.{Network, networkChecks}
 use Rattle.spec.specs.Layout.{networkOf}
 use Rattle.spec.specs.Tree.{Pair, pairsOf}
 use Rattle.spec.specs.Price.{listing, flatSteps, Total, exact, beyond, Prices, priceOf}
 use Rattle.spec.specs.Refusal.{codeOf, Result, done, andThen, checked}
-use Rattle.spec.specs.Calls.{lent, lengthCheck, plainWords, stepPlaces, PriceRoom, priceCall, improveCall, flagAt, listAfter}
+use Rattle.spec.specs.Calls.{lent, lengthCheck, plainWords, stepPlaces, PriceRoom, priceCall, bisectionCall, improveCall, sliceCall, flagAt, listAfter}
+use Rattle.spec.specs.Bisection.{Bisected}
 use Rattle.spec.specs.Improve.{Improved}
+use Rattle.spec.specs.Slicing.{Plan}
 use Rattle.spec.specs.File.{flagBytes, treeBytes, readOf}
 use Rattle.spec.specs.FileClaims.{refusalIn}
 
@@ -121,3 +124,37 @@ memoryImproveCall places N k passes limit words flags kids =
 -- the list of the answer afterwards
 abbrev pub improveAfter : Result Improved → List ℕ → List ℕ
 improveAfter r l = listAfter r improveNumbers l
+
+-- ---- slicing of a network in memory ----
+
+-- a number that stands for improvement on, and 0 for off
+abbrev pub improvingNumber : ℕ → Bool
+improvingNumber x = not (eqb x 0)
+
+-- what slicing answers, as two numbers: rebuilds, splits tried
+abbrev pub sliceNumbers : Plan → List ℕ
+sliceNumbers p = p .rebuilt ∷ p .tried ∷ []
+
+-- by number: the network's conditions, then 7 for the list of the answer, then slicing's own
+unfoldable pub memorySliceCall : ℕ → Network → Bool → ℕ → ℕ → ℕ → List ℕ → Result Plan
+memorySliceCall places N improving target words flagPlaces kids =
+    checked (networkChecks false N ++ (lengthCheck (lent places 2 ∷ []) ∷ [])) (sliceCall N improving target words flagPlaces kids)
+
+-- the list of the answer afterwards
+abbrev pub sliceAfter : Result Plan → List ℕ → List ℕ
+sliceAfter r l = listAfter r sliceNumbers l
+
+-- ---- bisection of a network in memory ----
+
+-- what bisection answers, as one number: the words taken
+abbrev pub takenNumbers : Bisected → List ℕ
+takenNumbers b = b .taken ∷ []
+
+-- by number: 3 for the imbalance and the network's conditions, then 7 for the list of the answer, then bisection's own
+unfoldable pub memoryBisectionCall : ℕ → Network → ℕ → ℕ → List ℕ → ℕ → ℕ → Result Bisected
+memoryBisectionCall answerPlaces N i cutoff draws words places =
+    checked (networkChecks (ltb 1000 i) N ++ (lengthCheck (lent answerPlaces 1 ∷ []) ∷ [])) (bisectionCall N i cutoff draws words places)
+
+-- the list of the answer afterwards
+abbrev pub takenAfter : Result Bisected → List ℕ → List ℕ
+takenAfter r l = listAfter r takenNumbers l

@@ -1,9 +1,10 @@
--- What is claimed of the program `plan`. Definitions only; proofs in ProgramLaws of laws. Assumes nothing.
+-- What is claimed of the program `plan`. Definitions only; proofs in ProgramLaws and FileFront of laws. Assumes nothing.
 use mathlib.Core.Bool.{true, false}
 use mathlib.Core.List.{List}
 use mathlib.Core.Option.{Option}
 use mathlib.Core.Path.{_≡_}
 use Prim.Native.Nat.{ℕ, _≤_}
+use lib.ListN.{take}
 use Rattle.spec.specs.Semiring.{Semiring}
 use Rattle.spec.specs.Network.{Network, leafCount, Sliceable}
 use Rattle.spec.specs.Tree.{valid, pairsOf}
@@ -16,6 +17,8 @@ use Rattle.spec.specs.Slicing.{Plan}
 use Rattle.spec.specs.SlicingClaims.{finished}
 use Rattle.spec.specs.Program.{flagsOf, treeFor, improveFor, planOf}
 use Rattle.spec.specs.File.{Ask, flagged, target}
+use Rattle.spec.specs.FileClaims.{Bytes}
+use Rattle.spec.specs.Output.{planBytes}
 
 -- Whatever `plan` answers, its tree is valid. If the given flags, if any, are of indices that leaves name and that are no outputs, then so
 -- are the answer's, and over two leaves or more the run of its listing gives the direct sum. (A file's flags may flag outputs, or indices
@@ -58,3 +61,7 @@ FlagsStand =
 abbrev pub TargetOrNoCandidate : Type 0
 TargetOrNoCandidate =
     (N : Network) (given : Option (List ℕ)) (w : ℕ) (p : Plan) → planOf N given (target w) ≡ done p → finished N w p ≡ true
+
+-- 131,072 bytes of input decide what is printed: the program reads no more
+abbrev pub InputDecides : Type 0
+InputDecides = (file : List ℕ) → Bytes file → planBytes (take 131072 file) ≡ planBytes file
