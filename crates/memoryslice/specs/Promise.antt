@@ -1,11 +1,10 @@
 -- What slicing of a network in memory promises: the number, the tree, the flags, the workspace, the answer. Assumes nothing.
 use mathlib.Core.Path.{_≡_, refl, sym, ap, _∙_}
-use mathlib.Core.Bool.{Bool, false, not, cond}
-use mathlib.Core.List.{List, [], _∷_, _++_}
+use mathlib.Core.Bool.{Bool, false, cond}
+use mathlib.Core.List.{List, [], _∷_}
 use mathlib.Core.Option.{Option, none, some}
 use Prim.Native.Nat.{ℕ, _≤_, _<_}
 use native.Mathlib.Omega.{arith}
-use lib.Dec.{eqb}
 use lib.ListN.{length}
 use borrow.Author.Tests.{lt-ltb, le-ltb}
 use Rattle.spec.specs.Memory.{cleared, over}
@@ -14,31 +13,13 @@ use Rattle.spec.specs.FileClaims.{refusalIn}
 use Rattle.spec.specs.Network.{Network, indexCount, networkChecks, refusalOf}
 use Rattle.spec.specs.Tree.{pairsOf}
 use Rattle.spec.specs.Slicing.{Plan, slice}
-use Rattle.spec.specs.Calls.{lent, lengthCheck, treeCheck, beyondCheck, danglingIf, followUp, touches, sliceWords, sliceCall, workspaceAfter, listAfter, slicedTree, slicedFlags}
+use Rattle.spec.specs.Calls.{lent, lengthCheck, treeCheck, beyondCheck, danglingIf, followUp, touches, sliceWords, sliceCall, workspaceAfter, slicedTree, slicedFlags}
+use Rattle.spec.specs.Host.{memorySliceCall, sliceAfter}
 use Rattle.memory.specs.Call.{checked-append, decide-twice, untouched}
 use Rattle.memory.specs.Numbers.{orShort}
 use Rattle.slicetree.specs.declared.Sliced.{Sliced}
 use Rattle.slicetree.specs.declared.Sliced.the-variants.{Refused, Done}
 use Rattle.slicetree.specs.Answers.{slicedOf}
-
--- ---- the definitions ----
-
--- a number that stands for improvement on, and 0 for off
-abbrev pub improvingNumber : ℕ → Bool
-improvingNumber x = not (eqb x 0)
-
--- what slicing answers, as two numbers: rebuilds, splits tried
-abbrev pub sliceNumbers : Plan → List ℕ
-sliceNumbers p = p .rebuilt ∷ p .tried ∷ []
-
--- by number: the network's conditions, then 7 for the list of the answer, then slicing's own. `places` is that list's length.
-unfoldable pub memorySliceCall : ℕ → Network → Bool → ℕ → ℕ → ℕ → List ℕ → Result Plan
-memorySliceCall places N improving target words flagPlaces kids =
-    checked (networkChecks false N ++ (lengthCheck (lent places 2 ∷ []) ∷ [])) (sliceCall N improving target words flagPlaces kids)
-
--- the list of the answer afterwards
-abbrev pub sliceAfter : Result Plan → List ℕ → List ℕ
-sliceAfter c l = listAfter c sliceNumbers l
 
 -- every list follows the call c
 pub record Follows (N : Network) (c : Result Plan) (stated : ℕ) (kids₀ flags₀ ws₀ answer₀ kids flags ws answer : List ℕ) (r : ℕ) : Type 0 where

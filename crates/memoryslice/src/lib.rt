@@ -1,8 +1,6 @@
 // Slicing of a network in memory, whose lists are lent whole.
-ghost use mathlib.Core.Path.{_≡_};
-ghost use lib.ListN.{length};
-ghost use Rattle.spec.specs.Host.{lentNetwork};
-ghost use Rattle.memoryslice.specs.Promise.{improvingNumber, MemorySlices};
+ghost use Rattle.spec.specs.Host.{lentNetwork, improvingNumber};
+ghost use Rattle.memoryslice.specs.Promise.{MemorySlices};
 use network::refusal;
 use reconf::Visited;
 use slicetree::Sliced;

@@ -10,7 +10,6 @@ use Rattle.netfile.specs.declared.Tree.{Tree}
 use Rattle.netfile.specs.declared.Tree.the-variants.{Absent, Present}
 use Rattle.netfile.specs.declared.Ask.{Ask as Asked}
 use Rattle.netfile.specs.declared.Ask.the-variants.{Plain, Flagged, Target}
-use Rattle.netfile.specs.declared.Found.{Found}
 use Rattle.netfile.specs.declared.Answer.{Answer}
 use Rattle.netfile.specs.declared.Answer.the-variants.{Refused, Done}
 
@@ -22,6 +21,16 @@ abbrev pub askAnswer : Ask → Asked
 askAnswer plain = Plain
 askAnswer (flagged l) = Flagged (length l)
 askAnswer (target w) = Target w
+
+-- how many places of the tree's list, and of the flags', the file fills with its own
+abbrev pub placesOf : Tree → ℕ
+placesOf Absent = 0
+placesOf (Present n) = n
+
+abbrev pub flagCount : Asked → ℕ
+flagCount Plain = 0
+flagCount (Flagged n) = n
+flagCount (Target w) = 0
 
 -- "A refusal returns only its number."
 abbrev pub answerOf : Result Contents → Answer

@@ -6,7 +6,7 @@ ghost use lib.ListN.{length};
 ghost use Rattle.spec.specs.File.{treeLent, flagsLent, readOf};
 ghost use Rattle.network.specs.Record.{netOf};
 ghost use Rattle.fields.specs.Scans.{Lists, netIn};
-ghost use Rattle.netfile.specs.Answers.{treeAnswer, askAnswer, answerOf, emptyNetwork, networkIn, treeAfter, flagsAfter};
+ghost use Rattle.netfile.specs.Answers.{placesOf, flagCount, treeAnswer, askAnswer, answerOf, emptyNetwork, networkIn, treeAfter, flagsAfter};
 ghost use Rattle.netfile.specs.Writes.{lacking, kidsOver, flagsOver, treeOf, askOf};
 ghost use Rattle.spec.specs.File.{writeOf, bufferAfter};
 ghost use Rattle.netfile.specs.Writer.{handed, writtenOf};
@@ -46,6 +46,27 @@ pub enum Answer {
 pub struct Reading {
     pub answer: Answer,
     pub network: Network,
+}
+
+// How many places of the list the tree fills.
+pub fn tree_places(tree: Tree) -> usize
+    ensures { λ r. ⌜ r ≡ placesOf tree ⌝ }
+{
+    match tree {
+        Tree::Absent => 0,
+        Tree::Present(places) => places,
+    }
+}
+
+// How many flags there are.
+pub fn flag_count(ask: Ask) -> usize
+    ensures { λ r. ⌜ r ≡ flagCount ask ⌝ }
+{
+    match ask {
+        Ask::Plain => 0,
+        Ask::Flagged(count) => count,
+        Ask::Target(_) => 0,
+    }
 }
 
 fn refused(code: u8) -> Reading

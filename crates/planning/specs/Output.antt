@@ -1,23 +1,16 @@
--- What the program `plan` prints for a file: from bytes to bytes. Definitions only. Assumes nothing.
+-- What is promised of the bytes that the program `plan` prints for a file. Definitions only. Assumes nothing.
 use mathlib.Core.Path.{_≡_}
 use mathlib.Core.List.{List}
 use Prim.Native.Nat.{ℕ, _≤_}
-use Rattle.spec.specs.Refusal.{Refusal, numberOf, Result, done, andThen}
+use Rattle.spec.specs.Refusal.{Refusal, numberOf, refused, done}
 use Rattle.spec.specs.Network.{Network, leafCount, Sliceable}
 use Rattle.spec.specs.RunClaims.{RunsToDirectSum}
 use Rattle.spec.specs.Slicing.{Plan}
 use Rattle.spec.specs.File.{Contents, readOf}
-use Rattle.spec.specs.Program.{planOf, Printed, printed, program}
-use Rattle.spec.specs.Text.{planText, refusedLine, outputOf}
+use Rattle.spec.specs.Program.{planOf, printed}
+use Rattle.spec.specs.Text.{planText, refusedLine}
+use Rattle.spec.specs.Output.{programOn}
 use Rattle.laws.specs.Integers.{ℤ-semiring}
-
--- "Program `plan` reads a network file from standard input, takes the given tree or greedy's, improves it (k = 8, four passes, the given flags,
--- no limit), slices to a target with improvement, and prints." 254 places for a tree and 256 for flags are room for every file.
-unfoldable pub programOn : List ℕ → Result Printed
-programOn file = andThen (readOf 254 256 file) λ c. program (c .network) (c .tree) (c .ask)
-
-unfoldable pub planBytes : List ℕ → List ℕ
-planBytes file = outputOf (programOn file)
 
 -- For flagged indices that leaves name and that are no outputs, and two leaves or more: the run of the printed steps gives the direct sum,
 -- whatever whole numbers the tables hold.
@@ -26,8 +19,8 @@ StepsSound N p =
     Sliceable N (p .flag) → 2 ≤ leafCount N → (tables : ℕ → List ℕ → ℤ-semiring .Car)
     → RunsToDirectSum ℤ-semiring N tables (p .flag) (p .tree) (printed N p .steps)
 
--- the bytes are the line of a refusal, or the text of a plan of what the file has, and its steps are sound
+-- the bytes are the line of the file's refusal, or the text of a plan of what the file has, and its steps are sound
 pub data Prints (file bytes : List ℕ) : Type 0 where
-  refuses : (r : Refusal) → bytes ≡ refusedLine (numberOf r) → Prints file bytes
+  refuses : (r : Refusal) → programOn file ≡ refused r → bytes ≡ refusedLine (numberOf r) → Prints file bytes
   plans : (c : Contents) (p : Plan) → readOf 254 256 file ≡ done c → planOf (c .network) (c .tree) (c .ask) ≡ done p
       → bytes ≡ planText (printed (c .network) p) → StepsSound (c .network) p → Prints file bytes

@@ -1,6 +1,6 @@
 -- A plan in lent lists, priced and printed. Assumes nothing.
-use mathlib.Core.Path.{_≡_, refl, sym, ap, _∙_, subst}
-use mathlib.Core.Bool.{Bool, true, false, not, cond}
+use mathlib.Core.Path.{_≡_, sym, ap, _∙_, subst}
+use mathlib.Core.Bool.{true, false, not}
 use mathlib.Core.List.{List, [], _∷_}
 use mathlib.Core.Option.{some}
 use Prim.Native.Nat.{ℕ, suc, _-_, _*_, _≤_, _<_}
@@ -26,6 +26,7 @@ use Rattle.laws.specs.Results.{checked-none}
 use Rattle.laws.specs.Accepted.{accepted-means}
 use Rattle.laws.specs.FileFields.{passes-fails, tree-fails, flags-fails}
 use Rattle.laws.specs.FlatLaws.{pairs-flat}
+use Rattle.laws.specs.SliceCallLaws.{flag-back}
 use Rattle.network.specs.Record.{netOf}
 use Rattle.network.specs.Layouts.{layout-leaf-count, layout-index-count}
 use Rattle.network.specs.declared.Network.{Network as Record}
@@ -45,10 +46,6 @@ use Rattle.planning.specs.Stages.{PlanHeld}
 all-low : (l : List ℕ) → ((k : ℕ) → k < length l → getD l k 0 ≤ 1) → All (λ b. b ≤ 1) l
 all-low [] h = tt
 all-low (x ∷ l) h = (h 0 (omega arith), all-low l (λ k b. h (suc k) (omega arith)))
-
-flag-back : (b : Bool) → not (eqb (cond b 1 0) 0) ≡ b
-flag-back true = refl
-flag-back false = refl
 
 -- the text was put at the front of a buffer, as far as that goes, and n is its length
 pub record Written (out after : List ℕ) (n : ℕ) (text : List ℕ) : Type 0 where

@@ -1,11 +1,10 @@
 -- From what the reader answers to the plan. Assumes nothing.
 use mathlib.Core.Path.{_≡_, refl, sym, ap, ap₂, _∙_, subst}
-use mathlib.Core.Bool.{true, not, cond}
+use mathlib.Core.Bool.{true}
 use mathlib.Core.List.{List, [], _∷_}
 use mathlib.Core.Option.{Option, none, some}
 use Prim.Native.Nat.{ℕ, zero, suc, _-_, _≤_, _<_}
 use native.Mathlib.Omega.{arith}
-use lib.Dec.{eqb}
 use lib.ListN.{length, getD, take, drop, replicate}
 use lib.Seq.{take-at, getD-take, length-take-le, ext-getD}
 use Rattle.spec.specs.Members.{All}
@@ -16,18 +15,19 @@ use Rattle.spec.specs.File.{Ask, plain, flagged, target, Contents, readOf}
 use Rattle.spec.specs.FileClaims.{Bytes, LawfulTree, LawfulAsk, TreeLeft, FlagsLeft}
 use Rattle.spec.specs.Program.{flagsOf, program}
 use Rattle.spec.specs.Text.{refusedLine, outputOf}
+use Rattle.spec.specs.Output.{programOn, planBytes}
 use Rattle.laws.specs.Accepted.{accepted-means}
 use Rattle.laws.specs.FileReads.{reads-just}
 use Rattle.laws.specs.FileLists.{fills-lists, valid-length}
+use Rattle.laws.specs.SliceCallLaws.{byte-back}
 use Rattle.putfields.specs.Put.{all-bytes}
 use Rattle.network.specs.Record.{netOf}
 use Rattle.network.specs.declared.Network.{Network as Record}
-use Rattle.netfile.specs.Answers.{treeAnswer, askAnswer, answerOf, networkIn, treeAfter, flagsAfter}
+use Rattle.netfile.specs.Answers.{flagCount, treeAnswer, askAnswer, answerOf, networkIn, treeAfter, flagsAfter}
 use Rattle.netfile.specs.Writer.{askHanded}
 use Rattle.netfile.specs.declared.Found.{Found}
 use Rattle.netfile.specs.declared.Answer.the-variants.{Refused, Done}
-use Rattle.planning.specs.Output.{programOn, planBytes}
-use Rattle.planning.specs.Stages.{FlagsHeld, givenTree, flagCount, FoundIn}
+use Rattle.planning.specs.Stages.{FlagsHeld, givenTree, FoundIn}
 
 -- ---- the tree ----
 
@@ -38,11 +38,6 @@ tree-given N (some k) l kids (e, v) q =
     ap some (ap (take (treePlaces N)) q ∙ take-at k (drop (length k) l) (treePlaces N) n)
 
 -- ---- the flags ----
-
-bit : (x : ℕ) → x ≤ 1 → x ≡ cond (not (eqb x 0)) 1 0
-bit zero h = refl
-bit (suc zero) h = refl
-bit (suc (suc x)) h = absurd (omega arith)
 
 low-at : (l : List ℕ) → All (λ b. b ≤ 1) l → (j : ℕ) → getD l j 0 ≤ 1
 low-at [] h j = omega arith
@@ -62,7 +57,7 @@ module _ (N : Network) (l flags : List ℕ) (clear : (j : ℕ) → getD l j 0 �
   ask-given (target w) h e = (refl, (λ j b. ap (λ (x : List ℕ). getD x j 0) e ∙ clear j), omega arith)
   ask-given (flagged f) (h, low) s = (
     ap flagged (front f h (s .length) (s .byte)),
-    (λ j b. s .byte j b ∙ bit (getD f j 0) (low-at f low j)),
+    (λ j b. s .byte j b ∙ byte-back (getD f j 0) (low-at f low j)),
     h,
   )
 

@@ -8,9 +8,10 @@ use Rattle.spec.specs.Network.{Network, Sliceable}
 use Rattle.spec.specs.Slicing.{Plan}
 use Rattle.spec.specs.File.{Ask, plain, flagged, target, Contents, readOf}
 use Rattle.spec.specs.Program.{flagsOf, planOf}
+use Rattle.spec.specs.Output.{programOn, planBytes}
 use Rattle.laws.specs.Integers.{ℤ-semiring}
 use Rattle.laws.specs.ProgramLaws.{plan-right, clear-fine, target-fine, flags-stand}
-use Rattle.planning.specs.Output.{programOn, planBytes, StepsSound, Prints}
+use Rattle.planning.specs.Output.{StepsSound, Prints}
 
 -- given flags stand, and without them there is nothing to ask
 given-fine : (N : Network) (given : Option (List ℕ)) (ask : Ask) (p : Plan) → planOf N given ask ≡ done p → Sliceable N (p .flag) → Sliceable N (flagsOf ask)
@@ -23,12 +24,12 @@ steps-sound N given ask p e fine two tables = plan-right N given ask p e .runs (
 
 by-plan : (file : List ℕ) (c : Contents) → readOf 254 256 file ≡ done c → (x : Result Plan) → planOf (c .network) (c .tree) (c .ask) ≡ x → Prints file (planBytes file)
 unfolding planBytes programOn
-by-plan file c e (refused r) q = Prints.refuses r (rw (e, q))
+by-plan file c e (refused r) q = Prints.refuses r (rw (e, q)) (rw (e, q))
 by-plan file c e (done p) q = Prints.plans c p e q (rw (e, q)) (steps-sound (c .network) (c .tree) (c .ask) p q)
 
 by-reading : (file : List ℕ) (x : Result Contents) → readOf 254 256 file ≡ x → Prints file (planBytes file)
 unfolding planBytes programOn
-by-reading file (refused r) e = Prints.refuses r (rw e)
+by-reading file (refused r) e = Prints.refuses r (rw e) (rw e)
 by-reading file (done c) e = by-plan file c e (planOf (c .network) (c .tree) (c .ask)) refl
 
 -- WHAT IS PRINTED IS SOUND

@@ -35,6 +35,7 @@ use Rattle.netfile.specs.declared.Tree.the-variants.{Absent, Present}
 use Rattle.netfile.specs.declared.Ask.{Ask as Asked}
 use Rattle.netfile.specs.declared.Ask.the-variants.{Plain, Flagged, Target}
 use Rattle.netfile.specs.declared.Found.{Found}
+use Rattle.netfile.specs.Answers.{flagCount}
 use Rattle.netfile.specs.Writer.{askHanded}
 use Rattle.reconf.specs.declared.Visited.{Visited}
 use Rattle.reconfigure.specs.declared.Improved.{Improved}
@@ -80,12 +81,6 @@ ready-again e r = record { ok = r .ok; stated = e ∙ r .stated; room = r .room 
 abbrev pub givenTree : Tree → List ℕ → Option (List ℕ)
 givenTree Absent kids = none
 givenTree (Present n) kids = some kids
-
--- how many places of a list are given flags
-abbrev pub flagCount : Asked → ℕ
-flagCount Plain = 0
-flagCount (Flagged n) = n
-flagCount (Target w) = 0
 
 given-flags : (a : Asked) (l : List ℕ) → take (flagCount a) l ≡ flagBytes (askHanded a l)
 given-flags Plain l = refl

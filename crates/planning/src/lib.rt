@@ -8,11 +8,13 @@ ghost use Rattle.spec.specs.File.{target};
 ghost use Rattle.spec.specs.Program.{flagsOf, sliceFor, planOf, printed, program};
 ghost use Rattle.spec.specs.Slicing.{Plan};
 ghost use Rattle.spec.specs.Text.{planText, outputOf};
+ghost use Rattle.spec.specs.Output.{planBytes};
 ghost use Rattle.network.specs.Record.{netOf};
+ghost use Rattle.netfile.specs.Answers.{flagCount};
 ghost use Rattle.netfile.specs.Writer.{askHanded};
-ghost use Rattle.planning.specs.Output.{planBytes, Prints};
+ghost use Rattle.planning.specs.Output.{Prints};
 ghost use Rattle.planning.specs.Printing.{Written, FullLists, Printable};
-ghost use Rattle.planning.specs.Stages.{FlagsHeld, PlanHeld, Answers, Ready, givenTree, flagCount, FoundIn, improvedIn, ImprovedHeld, fromTree};
+ghost use Rattle.planning.specs.Stages.{FlagsHeld, PlanHeld, Answers, Ready, givenTree, FoundIn, improvedIn, ImprovedHeld, fromTree};
 use cost::Priced;
 use greedy::Planned;
 use netfile::Answer;
@@ -24,17 +26,6 @@ use reconf::Visited;
 use reconfigure::Improved;
 use reconfigure::Limit;
 use slicetree::Sliced;
-
-// How many flags are given.
-fn flag_count(ask: Ask) -> usize
-    ensures { λ r. ⌜ r ≡ flagCount ask ⌝ }
-{
-    match ask {
-        Ask::Plain => 0,
-        Ask::Flagged(count) => count,
-        Ask::Target(_) => 0,
-    }
-}
 
 // Slices the improved tree to a target, with improvement; the counts are added to those so far.
 fn slice_to(
@@ -88,7 +79,7 @@ fn improved(
     requires { ⌜ Ready (netOf network) (length (now ws)) (length (now flags)) × FlagsHeld (netOf network) (flagsOf (askHanded ask (now flags))) (now flags) × (flagCount ask ≤ length (now flags)) ⌝ }
     ensures { λ r. ⌜ Answers (netOf network) (fromTree (netOf network) (askHanded ask (now (flags .entry))) (now (tree .entry))) (now (tree .exit)) (now (flags .exit)) r ⌝ }
 {
-    let count = flag_count(ask);
+    let count = netfile::flag_count(ask);
     let r = reconfigure::reconfigure(network, 8, 4, Limit::Unlimited, &flags[..count], tree, ws);
     match r {
         Improved::Refused(number) => Improved::Refused(number),
@@ -237,7 +228,7 @@ fn put_found(
 }
 
 // The program `plan`: reads a network file, plans, and puts what is printed at the front of `out`. The answer is the text's length; a buffer
-// that is shorter gets the text's front. No text is longer than `text::BYTES`.
+// that is shorter gets the text's front. No text is longer than 131,072 bytes.
 pub fn plan(file: &[u8], out: &mut [u8]) -> usize
     ensures bytes { λ r. ⌜ now (out .exit) ≡ over (now (out .entry)) (planBytes (now (file .entry))) ⌝ }
     ensures count { λ r. ⌜ (r ≡ length (planBytes (now (file .entry)))) × (r ≤ 131072) ⌝ }

@@ -1,14 +1,12 @@
 -- Slicing from clear flags, and the tree and the flags that go out. Assumes nothing.
-use mathlib.Core.Bool.{Bool, true, false, not, cond}
+use mathlib.Core.Bool.{Bool, true, false, cond}
 use mathlib.Core.Path.{_≡_, sym, _∙_, ap, fun-ext}
 use mathlib.Core.List.{List, map}
 use Prim.Native.Nat.{ℕ, _-_, _≤_, _<_}
 use native.Mathlib.Omega.{arith}
-use native.Mathlib.Decide.{ℕ-discrete}
-use lib.Dec.{eqb}
 use lib.ListN.{length, getD, take}
 use lib.Seq.{ext-getD, length-take-le, getD-take}
-use borrow.Author.Tests.{eq-eqb, ne-eqb}
+use borrow.Author.Tests.{eq-eqb}
 use Rattle.spec.specs.Lists.{range}
 use Rattle.spec.specs.Memory.{filled, over, copied}
 use Rattle.spec.specs.Layout.{networkOf}
@@ -17,6 +15,7 @@ use Rattle.spec.specs.Tree.{pairsOf, flatOf}
 use Rattle.spec.specs.Price.{upTo, listing, work}
 use Rattle.spec.specs.Calls.{plainWords, sliceWords, flagAt, wrongTree, isBeyond, totalIsBeyond, dangling, followUp}
 use Rattle.spec.specs.Slicing.{Plan, sliceLoop, slice}
+use Rattle.laws.specs.SliceCallLaws.{byte-back}
 use Rattle.cells.specs.Cells.{filled-length}
 use Rattle.network.specs.Checks.{Lent}
 use Rattle.network.specs.Codes.{Facts}
@@ -74,20 +73,13 @@ clear-beyond {N} {kids} zeros z n q right h r e =
 
 -- ---- the flags go out ----
 
-byte-is : (x : ℕ) → x ≤ 1 → x ≡ cond (not (eqb x 0)) 1 0
-byte-is x h =
-    elim (ℕ-discrete x 0) [
-      | yes q ↦ q ∙ sym (rw (eq-eqb x 0 q))
-      | no q ↦ rw (ne-eqb x 0 q) (omega (arith, q))
-    ]
-
 bytes-are : (N : Network) (flags : List ℕ) (m : ℕ) → indexCount N ≡ m → m ≤ length flags → ((j : ℕ) → getD flags j 0 ≤ 1)
     → take m flags ≡ map (λ j. cond (flagAt flags j) 1 0) (range (indexCount N))
 bytes-are N flags m e h b =
     ext-getD 0 (take m flags) (map (λ j. cond (flagAt flags j) 1 0) (range (indexCount N)))
     (length-take-le m flags h ∙ sym e ∙ sym (map-range-length (λ j. cond (flagAt flags j) 1 0) (indexCount N)))
     (λ i q. let l : i < m = omega (arith, length-take-le m flags h) in
-    getD-take m flags i 0 l ∙ byte-is (getD flags i 0) (b i)
+    getD-take m flags i 0 l ∙ byte-back (getD flags i 0) (b i)
     ∙ sym (map-range-at (λ j. cond (flagAt flags j) 1 0) 0 (indexCount N) i (omega arith)))
 
 -- slicing from clear flags has ended: its tree and its flags make the plan, and the flags are copied out

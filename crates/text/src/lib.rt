@@ -9,9 +9,6 @@ pub mod figures; // figures.rt: the lines of total, widest, sliced indices and c
 
 use pricing::Prices;
 
-// No text is longer.
-pub const BYTES: usize = 131072;
-
 fn put_head(out: &mut [u8], leaves: usize, indices: usize) -> usize
     ensures { λ r. ⌜ Put (now (out .entry)) (now (out .exit)) 0 r (planLine leaves indices) × (r ≤ 47) ⌝ }
 {

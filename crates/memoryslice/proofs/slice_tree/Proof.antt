@@ -1,8 +1,8 @@
 -- Assumes nothing.
 use borrow.Author.Needs.{needs}
-use Rattle.memoryslice.specs.Promise.{improvingNumber, large-network, short-answer, slice-refused, slice-done}
+use Rattle.memoryslice.specs.Promise.{large-network, short-answer, slice-refused, slice-done}
 use Rattle.memory.specs.Promise.{lent-large}
-use Rattle.spec.specs.Host.{lentNetwork}
+use Rattle.spec.specs.Host.{lentNetwork, improvingNumber}
 use mathlib.Core.Path.{sym, _∙_}
 use Rattle.memoryslice.proofs.slice_tree.Statement.{statement}
 use Rattle.memoryslice.proofs.slice_tree.Tie as tie
