@@ -1,13 +1,13 @@
 -- Greedy over all leaves of a network, from greedy over a list of leaves. Assumes nothing.
-use mathlib.Core.Path.{_≡_, refl, sym, _∙_, ap, ap₂, subst}
-use mathlib.Core.List.{List, [], _∷_}
+use mathlib.Core.Path.{_≡_, refl, sym, _∙_, ap, subst}
+use mathlib.Core.List.{List, [], _∷_, _++_, append-nil}
 use Prim.Native.Nat.{ℕ, _-_, _≤_, _<_}
 use native.Mathlib.Omega.{arith}
 use native.Mathlib.Decide.{decLe}
-use lib.ListN.{length, getD, take, drop, List·getD-eq-default}
-use lib.Seq.{ext-getD, getD-take, length-take-le, take-append-seam}
+use lib.ListN.{length, getD, take, drop, drop-of-length-le, List·getD-eq-default}
+use lib.Seq.{ext-getD, getD-take, length-take-le}
 use Rattle.spec.specs.Lists.{memb, count, range}
-use Rattle.spec.specs.Memory.{over, copied}
+use Rattle.spec.specs.Memory.{over}
 use Rattle.spec.specs.Layout.{networkOf}
 use Rattle.spec.specs.Network.{Network, leafCount}
 use Rattle.spec.specs.Tree.{Pair, flatOf}
@@ -20,15 +20,23 @@ use Rattle.network.specs.Layouts.{layout-leaf-count}
 use Rattle.network.specs.Checks.{Lent}
 use Rattle.network.specs.Codes.{Facts}
 use Rattle.slots.specs.Weigh.{Light}
+use Rattle.parts.specs.Parts.{part, back, low, low-length, part-length, back-there}
+use Rattle.parts.specs.Lists.{nodesIn}
 use Rattle.start.specs.Leaves.{putAll, put-length, put-at}
 use Rattle.greedynodes.specs.Lends.{lends-layout}
 use Rattle.greedynodes.specs.Begin.{range-at, Fits, Asks}
 use Rattle.greedynodes.specs.Ends.{Greedied, isRefused, isBuilt}
+use Rattle.greedynodes.specs.Within.{leavesIn}
 
 -- what greedy over all leaves answers: 65536 if it is refused; else the children of the array stand at the front of `kids`
 pub data Whole (N : Network) (kids₀ kids : List ℕ) (r : ℕ) : Type 0 where
   isTooWide : r ≡ 65536 → greedy N ≡ refused tableTooWide → Whole N kids₀ kids r
   isPlan : r < 65536 → (a : List Pair) → greedy N ≡ done a → kids ≡ over kids₀ (flatOf a) → length a ≡ leafCount N - 1 → Whole N kids₀ kids r
+
+-- the same, with what stands in the list where it is refused
+pub data Grown (N : Network) (tree₀ tree : List ℕ) (r : ℕ) : Type 0 where
+  isLeft : r ≡ 65536 → greedy N ≡ refused tableTooWide → tree ≡ tree₀ → Grown N tree₀ tree r
+  isGrown : r < 65536 → (a : List Pair) → greedy N ≡ done a → tree ≡ over tree₀ (flatOf a) → length a ≡ leafCount N - 1 → Grown N tree₀ tree r
 
 -- the numbers that are counted up are the range
 counted-range : (l : List ℕ) (n : ℕ) → n ≤ length l → take n (putAll (λ i. i) l n) ≡ range n
@@ -37,6 +45,14 @@ counted-range l n h =
     ext-getD 0 (take n (putAll (λ i. i) l n)) (range n) (e ∙ sym (range-length 0 n)) (λ i b.
     getD-take n (putAll (λ i. i) l n) i 0 (omega (arith, e)) ∙ put-at (λ i. i) l n i (omega (arith, e)) (omega (arith, e))
     ∙ sym (range-at 0 n i (omega (arith, e)) ∙ omega arith))
+
+-- they stand where greedy wants its leaves
+pub leaves-counted : (ws y : List ℕ) (n : ℕ) → 2064 ≤ length ws → n ≤ 128 → length y ≡ length (part 1040 256 ws)
+    → low y ≡ putAll (λ i. i) (nodesIn ws) n → leavesIn n (back 1040 256 ws y) ≡ range n
+leaves-counted ws y n h b e p =
+    let l : length (part 1040 256 ws) ≡ 256 = part-length 1040 256 ws (omega arith) in
+    ap (λ (x : List ℕ). take n (low x)) (back-there 1040 256 ws y (omega arith) (e ∙ l)) ∙ ap (take n) p
+    ∙ counted-range (nodesIn ws) n (omega (arith, b, l, low-length (part 1040 256 ws)))
 
 nothing-over : (l : List ℕ) → l ≡ over l []
 unfolding over
@@ -52,19 +68,16 @@ light-front m weights h f j =
     ]
 
 module _ (m n o : ℕ) (weights counts cells outputs : List ℕ) (lent : Lent weights counts cells outputs) (facts : Facts m n o weights counts cells outputs)
-    (numbers : List ℕ) (room : 128 ≤ length numbers) (leaves : List ℕ) (el : leaves ≡ take n (putAll (λ i. i) numbers n))
+    (leaves : List ℕ) (all-leaves : leaves ≡ range n)
   where
     abbrev N : Network
     N = networkOf m n o weights counts cells outputs
-
-    all-leaves : leaves ≡ range n
-    all-leaves = el ∙ counted-range numbers n (omega (arith, facts .fewLeaves))
 
     leaves-many : length leaves ≡ n
     leaves-many = ap length all-leaves ∙ range-length 0 n
 
     -- the lengths fit, for sets of four words
-    pub whole-fits : (ws : List ℕ) → 4096 ≤ length ws → Fits 4 n 0 (take m weights) (take o outputs) leaves ws
+    pub whole-fits : (ws : List ℕ) → 2064 ≤ length ws → Fits 4 n 0 (take m weights) (take o outputs) leaves ws
     whole-fits ws h =
         record {
           width = omega arith;
@@ -108,11 +121,37 @@ module _ (m n o : ℕ) (weights counts cells outputs : List ℕ) (lent : Lent we
             isPlan h (b .pairs) (greedy-is ∙ ap arrayOf q) w
             (omega (arith, k, leaves-many, layout-leaf-count m n o weights counts cells outputs))
 
--- the children are copied out
-pub copied-out : (tree kids₀ kids : List ℕ) (a : List Pair) (places : ℕ) → kids ≡ over kids₀ (flatOf a) → places ≡ length (flatOf a) → places ≤ length kids₀
-    → copied tree kids places ≡ over tree (flatOf a)
-unfolding copied
-copied-out tree kids₀ kids a places e h b =
-    ap (over tree)
-    (ap₂ (λ (k : ℕ) (l : List ℕ). take k l) h (e ∙ over-fits kids₀ (flatOf a) (omega (arith, h)))
-    ∙ take-append-seam (flatOf a) (drop (length (flatOf a)) kids₀))
+-- ---- the tree, kept meanwhile ----
+
+-- a list that was kept in words is back: w are the words before, y those that hold it
+pub put-back : (tree tree₁ tree₂ w y y′ : List ℕ) → length tree ≤ length w → low y ≡ putAll (λ i. getD tree i 0) (low w) (length tree) → y′ ≡ y
+    → length tree₁ ≡ length tree → tree₂ ≡ putAll (λ i. getD (low y′) i 0) tree₁ (length tree₁) → tree₂ ≡ tree
+put-back tree tree₁ tree₂ w y y′ b ek ey e q =
+    let l : length tree₂ ≡ length tree = ap length q ∙ put-length (λ i. getD (low y′) i 0) tree₁ (length tree₁) ∙ e in
+    ext-getD 0 tree₂ tree l (λ i h.
+    ap (λ (x : List ℕ). getD x i 0) q ∙ put-at (λ i. getD (low y′) i 0) tree₁ (length tree₁) i (omega (arith, l, e)) (omega (arith, l, e))
+    ∙ ap (λ (x : List ℕ). getD (low x) i 0) ey ∙ ap (λ (x : List ℕ). getD x i 0) ek
+    ∙ put-at (λ i. getD tree i 0) (low w) (length tree) i (omega (arith, l)) (omega (arith, l, b, low-length w)))
+
+module _ (N : Network) (tree tree₁ : List ℕ) (r : ℕ) (whole : Whole N tree tree₁ r) where
+  pub grown-left : r ≡ 65536 → (tree₂ : List ℕ) → tree₂ ≡ tree → Grown N tree tree₂ 65536
+  grown-left e tree₂ q = go whole
+    where
+      go : Whole N tree tree₁ r → Grown N tree tree₂ 65536
+      go (isTooWide z g) = isLeft refl g q
+      go (isPlan z a g w l) = absurd (omega arith)
+
+  pub grown-whole : (r ≡ 65536 → ⊥) → Grown N tree tree₁ r
+  grown-whole n = go whole
+    where
+      go : Whole N tree tree₁ r → Grown N tree tree₁ r
+      go (isTooWide z g) = absurd (n z)
+      go (isPlan z a g w l) = isGrown z a g w l
+
+-- the front of a list was written over
+pub over-front : (tree y s : List ℕ) (places : ℕ) → y ≡ over (take places tree) s → places ≡ length s → places ≤ length tree → y ++ drop places tree ≡ over tree s
+over-front tree y s places e h b =
+    let p : length (take places tree) ≡ places = length-take-le places tree b in
+    ap (λ (l : List ℕ). l ++ drop places tree)
+    (e ∙ over-fits (take places tree) s (omega (arith, h, p)) ∙ ap (λ (l : List ℕ). s ++ l) (drop-of-length-le (take places tree) {i = length s} (omega (arith, h, p))) ∙ append-nil s)
+    ∙ ap (λ (k : ℕ). s ++ drop k tree) h ∙ sym (over-fits tree s (omega (arith, h, b)))

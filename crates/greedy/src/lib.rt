@@ -1,13 +1,15 @@
 // The greedy plan.
 ghost use mathlib.Core.Path.{_≡_};
 ghost use Prim.Native.Nat.{_≤_};
-ghost use lib.ListN.{length};
+ghost use lib.ListN.{length, getD};
 ghost use Rattle.spec.specs.Layout.{networkOf};
 ghost use Rattle.spec.specs.Calls.{plainWords, greedyCall, greedyTree, workspaceAfter};
 ghost use Rattle.network.specs.Record.{netOf};
 ghost use Rattle.network.specs.Checks.{Lent};
 ghost use Rattle.network.specs.Codes.{Facts};
-ghost use Rattle.greedy.specs.Whole.{Whole};
+ghost use Rattle.parts.specs.Parts.{low};
+ghost use Rattle.start.specs.Leaves.{putAll};
+ghost use Rattle.greedy.specs.Whole.{Whole, Grown};
 ghost use Rattle.greedy.specs.Answers.{plannedOf, Answers};
 use merging::REFUSED;
 use network::Network;
@@ -32,12 +34,11 @@ fn greedy_all<'a>(
     outputs: &'a [u16],
     kids: &mut [u16],
 ) -> usize
-    requires { ⌜ Lent (now weights) (now counts) (now legs) (now outputs) × Facts m n o (now weights) (now counts) (now legs) (now outputs) × (4096 ≤ length (now ws)) ⌝ }
+    requires { ⌜ Lent (now weights) (now counts) (now legs) (now outputs) × Facts m n o (now weights) (now counts) (now legs) (now outputs) × (2064 ≤ length (now ws)) ⌝ }
     ensures { λ r. ⌜ Whole (networkOf m n o (now (weights .entry)) (now (counts .entry)) (now (legs .entry)) (now (outputs .entry))) (now (kids .entry)) (now (kids .exit)) r ⌝ }
 {
-    let mut numbers = [0u16; 128];
-    start::count_up(&mut numbers, n);
-    greedynodes::greedy_nodes(
+    start::count_words(&mut ws[1040..1296], n);
+    greedynodes::greedy_words(
         ws,
         4,
         &weights[..m],
@@ -45,10 +46,53 @@ fn greedy_all<'a>(
         counts,
         legs,
         &outputs[..o],
-        &numbers[..n],
+        n,
         kids,
         0,
     )
+}
+
+// Puts the numbers that were kept in words back into a list.
+fn put_back(list: &mut [u16], words: &[u64])
+    ensures { λ _. ⌜ now (list .exit) ≡ putAll (λ i. getD (low (now (words .entry))) i 0) (now (list .entry)) (length (now (list .entry))) ⌝ }
+{
+    for i in 0..list.len() {
+        cells::put16(list, i, parts::get_low(words, i));
+    }
+}
+
+// The same, with `tree` as it was where a scored pair is too wide: what it holds is kept in the words past greedy's own.
+fn greedy_tree<'a>(
+    ws: &mut [u64],
+    m: usize,
+    n: usize,
+    o: usize,
+    weights: &'a [u8],
+    counts: &'a [u8],
+    legs: &'a [u16],
+    outputs: &'a [u16],
+    tree: &mut [u16],
+) -> usize
+    requires { ⌜ Lent (now weights) (now counts) (now legs) (now outputs) × Facts m n o (now weights) (now counts) (now legs) (now outputs) × (2320 ≤ length (now ws)) × (length (now tree) ≤ 256) ⌝ }
+    ensures { λ r. ⌜ Grown (networkOf m n o (now (weights .entry)) (now (counts .entry)) (now (legs .entry)) (now (outputs .entry))) (now (tree .entry)) (now (tree .exit)) r ⌝ }
+{
+    start::put_numbers(&mut ws[2064..2320], tree);
+    let r = greedy_all(
+        &mut ws[0..2064],
+        m,
+        n,
+        o,
+        weights,
+        counts,
+        legs,
+        outputs,
+        tree,
+    );
+    if r == REFUSED {
+        put_back(tree, &ws[2064..2320]);
+        return REFUSED;
+    }
+    r
 }
 
 // The stated workspace, in words.
@@ -81,8 +125,7 @@ fn greedy_in<'a>(
     if tree.len() < places {
         return Planned::Refused(refusal::SHORT_BUFFER);
     }
-    let mut kids = [0u16; 256];
-    let r = greedy_all(
+    let r = greedy_tree(
         &mut ws[..words],
         m,
         n,
@@ -91,13 +134,12 @@ fn greedy_in<'a>(
         counts,
         legs,
         outputs,
-        &mut kids,
+        &mut tree[..places],
     );
     cells::clear(ws, words);
     if r == REFUSED {
         return Planned::Refused(refusal::TABLE_TOO_WIDE);
     }
-    cells::copy16(tree, &kids, places);
     Planned::Done
 }
 

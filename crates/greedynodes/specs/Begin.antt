@@ -9,7 +9,7 @@ use lib.ListN.{length, getD, length-map}
 use borrow.Author.Tests.{le-ltb, ltb-false}
 use Rattle.spec.specs.Lists.{memb, count, from, range, sumOf}
 use Rattle.spec.specs.Members.{All}
-use Rattle.spec.specs.Memory.{filled, over, copied}
+use Rattle.spec.specs.Memory.{filled, over}
 use Rattle.spec.specs.Network.{Network, leafCount, indexCount, legs}
 use Rattle.spec.specs.NetworkClaims.{Accepted}
 use Rattle.spec.specs.Tree.{Tree, leaf, numbers, Pair, flatOf, Describes}
@@ -20,7 +20,7 @@ use Rattle.laws.specs.ListLaws.{memb-head, memb-one, memb-range, from-memb, cou
 use Rattle.laws.specs.Walks.{inners}
 use Rattle.laws.specs.GreedyForest.{Forest, Topped, fresh}
 use Rattle.laws.specs.GreedyMerging.{Sound, trees-slots, start-sound}
-use Rattle.cells.specs.Cells.{copied-length, copied-at, filled-length, filled-at}
+use Rattle.cells.specs.Cells.{filled-length, filled-at}
 use Rattle.slots.specs.Slots.{held, withSet-length, held-with, next-slot}
 use Rattle.slots.specs.Writes.{among}
 use Rattle.slots.specs.Weigh.{weighed, either}
@@ -29,7 +29,8 @@ use Rattle.rows.specs.Known.{at-member}
 use Rattle.rows.specs.Renewed.{Kept, stale}
 use Rattle.merging.specs.Listed.{listed, stateAt}
 use Rattle.merging.specs.Ruled.{outer}
-use Rattle.merging.specs.Holds.{Given, Ghost, listsOf}
+use Rattle.parts.specs.Lists.{listsOf}
+use Rattle.merging.specs.Holds.{Given, Ghost}
 use Rattle.merging.specs.Connect.{Start}
 use Rattle.start.specs.Leaves.{startWords, withLeaves, leaves-length, leaves-held, leaves-other, withInside, outsideSet, withOutside, withSizes, putAll, put-length, put-at}
 use Rattle.greedynodes.specs.Lends.{Lends, among-memb, leaf-size, others-named}
@@ -88,12 +89,12 @@ leaves-forest n a l low =
 
 -- what the code asks of the lengths
 pub record Fits (w n made : ℕ) (weights outputs leaves ws : List ℕ) : Type 0 where
-  pub width : w ≤ 16
+  pub width : w ≤ 4
   pub indices : length weights ≤ w * 64
   pub leafSets : n ≤ w * 64
   pub few : length leaves ≤ 128
   pub outputsFit : length outputs ≤ 4294967296
-  pub words : 258 * w + w ≤ length ws
+  pub words : 2064 ≤ length ws
   pub array : made < 8192
 
 -- what greedy over a list of leaves is given: the leaves are some of the network's, each once; the array so far has `made` nodes
@@ -179,8 +180,8 @@ module _ (N : Network) (a : List Pair) (W n made : ℕ) (weights counts cells ou
             ∙ among-memb leaves 0 (length leaves) i ∙ ap (memb i) (firsts-all leaves)
 
     -- the other lists
-    module _ (nodes₀ sizes₀ live₀ rows₀ : List ℕ) (bn : 256 ≤ length nodes₀) (bs : 256 ≤ length sizes₀) (bl : 256 ≤ length live₀) (br : 256 ≤ length rows₀)
-        (nodes sizes live rows : List ℕ) (en : nodes ≡ copied nodes₀ leaves tables) (es : sizes ≡ withSizes words₂ W weights sizes₀ tables)
+    module _ (sizes₀ live₀ rows₀ : List ℕ) (bs : 256 ≤ length sizes₀) (bl : 256 ≤ length live₀) (br : 256 ≤ length rows₀)
+        (nodes sizes live rows : List ℕ) (bn : 256 ≤ length nodes) (en : (u : ℕ) → u < tables → getD nodes u 0 ≡ getD leaves u 0) (es : sizes ≡ withSizes words₂ W weights sizes₀ tables)
         (el : live ≡ putAll (λ i. i) live₀ tables) (er : rows ≡ filled (length rows₀) 258)
       where
         size : (u : ℕ) → u < tables → getD sizes u 0 ≡ sizeOf N (tree u)
@@ -216,7 +217,7 @@ module _ (N : Network) (a : List Pair) (W n made : ℕ) (weights counts cells ou
                         (leaves-forest (leafCount N) a leaves (λ v m. omega (arith, asks .leaf v m, asks .lends .leaves))));
                     sets = sets;
                     size = size;
-                    numbers = λ u h. ap (λ (l : List ℕ). getD l u 0) en ∙ copied-at nodes₀ leaves tables u 0 h (omega (arith, bn, few)) h;
+                    numbers = en;
                     outside = outside;
                     kept = kept;
                     lived = λ i h.
@@ -225,7 +226,7 @@ module _ (N : Network) (a : List Pair) (W n made : ℕ) (weights counts cells ou
                     few = omega (arith, range-length 0 tables, few);
                     enough = omega (arith, room, long₁, leaves-length W counts cells leaves words₁ tables);
                     places = (
-                      omega (arith, bn, ap length en, copied-length nodes₀ leaves tables),
+                      bn,
                       sizes-long,
                       omega (arith, bl, ap length el, put-length (λ i. i) live₀ tables),
                       omega (arith, br, ap length er, filled-length {A = ℕ} (length rows₀) 258),
@@ -242,11 +243,12 @@ module _ (N : Network) (a : List Pair) (W n made : ℕ) (weights counts cells ou
             }
 
     -- the lists that the code prepares
-    pub prepared : (nodes₀ sizes₀ live₀ rows₀ : List ℕ) → 256 ≤ length nodes₀ → 256 ≤ length sizes₀ → 256 ≤ length live₀ → 256 ≤ length rows₀
-        → (words nodes sizes live rows : List ℕ) → words ≡ startWords W n counts cells outputs leaves ws₀ → nodes ≡ copied nodes₀ leaves tables
+    pub prepared : (sizes₀ live₀ rows₀ : List ℕ) → 256 ≤ length sizes₀ → 256 ≤ length live₀ → 256 ≤ length rows₀
+        → (words nodes sizes live rows : List ℕ) → words ≡ startWords W n counts cells outputs leaves ws₀ → 256 ≤ length nodes
+        → ((u : ℕ) → u < tables → getD nodes u 0 ≡ getD leaves u 0)
         → sizes ≡ withSizes words W weights sizes₀ tables → live ≡ putAll (λ i. i) live₀ tables → rows ≡ filled (length rows₀) 258
         → Start given ghost (listsOf words nodes sizes live rows) W n tables made weights kids
     unfolding startWords
-    prepared nodes₀ sizes₀ live₀ rows₀ bn bs bl br words nodes sizes live rows ew en es el er =
+    prepared sizes₀ live₀ rows₀ bs bl br words nodes sizes live rows ew bn en es el er =
         subst (λ (l : List ℕ). Start given ghost (listsOf l nodes sizes live rows) W n tables made weights kids) (sym ew)
-        (begins nodes₀ sizes₀ live₀ rows₀ bn bs bl br nodes sizes live rows en (es ∙ ap (λ (l : List ℕ). withSizes l W weights sizes₀ tables) ew) el er)
+        (begins sizes₀ live₀ rows₀ bs bl br nodes sizes live rows bn en (es ∙ ap (λ (l : List ℕ). withSizes l W weights sizes₀ tables) ew) el er)

@@ -2,3 +2,4 @@
 pub mod Lends
 pub mod Begin
 pub mod Ends
+pub mod Within

@@ -1,3 +1,4 @@
 pub mod Common
 pub mod Holders
 pub mod Merged
+pub mod Within

@@ -1,7 +1,10 @@
 // Live tables, in slots of lent words: which share an index, and what a merge of two makes.
 // Slot 256 holds the outputs and what is named outside, slot 257 what two live tables or more hold, slot 258 what three or more hold.
 ghost use mathlib.Core.Path.{_≡_};
-ghost use Prim.Native.Nat.{_<_, _≤_};
+ghost use Prim.Native.Nat.{_+_, _*_, _<_, _≤_};
+ghost use lib.ListN.{length, set};
+ghost use Rattle.parts.specs.Parts.{low};
+ghost use Rattle.parts.specs.Lists.{setsIn, liveIn, listsIn, withSets};
 ghost use Rattle.slots.specs.Slots.{withSet};
 ghost use Rattle.slots.specs.Weigh.{Light};
 ghost use Rattle.live.specs.Common.{shares};
@@ -31,15 +34,15 @@ struct Holders {
 }
 
 // Of word `k` the indices that two or more of the first `m` slots of `live` hold, and those that three or more hold.
-fn count_holders(ws: &[u64], w: usize, live: &[u16], m: usize, k: usize) -> Holders
+fn count_holders(ws: &[u64], w: usize, live: &[u64], m: usize, k: usize) -> Holders
     requires { ⌜ (w ≤ 16) × (k < 1048576) ⌝ }
-    ensures { λ r. ⌜ (r .two ≡ countWord (now (ws .entry)) w (now (live .entry)) k 2 m) × (r .three ≡ countWord (now (ws .entry)) w (now (live .entry)) k 3 m) ⌝ }
+    ensures { λ r. ⌜ (r .two ≡ countWord (now (ws .entry)) w (low (now (live .entry))) k 2 m) × (r .three ≡ countWord (now (ws .entry)) w (low (now (live .entry))) k 3 m) ⌝ }
 {
     let mut one: u64 = 0;
     let mut two: u64 = 0;
     let mut three: u64 = 0;
     for i in 0..m {
-        let x = cells::get64(ws, cells::at16(live, i) * w + k);
+        let x = cells::get64(ws, parts::low_at(live, i) * w + k);
         three = three | two & x;
         two = two | one & x;
         one = one | x;
@@ -47,16 +50,24 @@ fn count_holders(ws: &[u64], w: usize, live: &[u16], m: usize, k: usize) -> Hold
     Holders { two, three }
 }
 
-// Makes slot 257 what two or more of the first `m` slots of `live` hold, and slot 258 what three or more hold, each with slot 256.
-pub fn put_holders(ws: &mut [u64], w: usize, live: &[u16], m: usize)
-    requires { ⌜ w ≤ 16 ⌝ }
-    ensures { λ _. ⌜ now (ws .exit) ≡ withHolders (now (ws .entry)) w (now (live .entry)) m ⌝ }
+// Makes word `k` of slot 257 `two`, and that of slot 258 `three`.
+fn put_words(sets: &mut [u64], w: usize, k: usize, two: u64, three: u64)
+    requires { ⌜ (w ≤ 16) × (k < 1048576) ⌝ }
+    ensures { λ _. ⌜ now (sets .exit) ≡ set (set (now (sets .entry)) (257 * w + k) two) (258 * w + k) three ⌝ }
+{
+    cells::put64(sets, 257 * w + k, two);
+    cells::put64(sets, 258 * w + k, three);
+}
+
+// Makes slot 257 what two or more of the first `m` live slots hold, and slot 258 what three or more hold, each with slot 256.
+pub fn put_holders(ws: &mut [u64], w: usize, m: usize)
+    requires { ⌜ (w ≤ 16) × (2064 ≤ length (now ws)) ⌝ }
+    ensures { λ _. ⌜ listsIn (now (ws .exit)) ≡ withSets (listsIn (now (ws .entry))) (withHolders (setsIn (now (ws .entry))) w (liveIn (now (ws .entry))) m) ⌝ }
 {
     for k in 0..w {
-        let h = count_holders(ws, w, live, m, k);
-        let e = cells::get64(ws, 256 * w + k);
-        cells::put64(ws, 257 * w + k, h.two | e);
-        cells::put64(ws, 258 * w + k, h.three | e);
+        let h = count_holders(&ws[0..1040], w, &ws[1552..1808], m, k);
+        let e = cells::get64(&ws[0..1040], 256 * w + k);
+        put_words(&mut ws[0..1040], w, k, h.two | e, h.three | e);
     }
 }
 

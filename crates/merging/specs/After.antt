@@ -32,7 +32,8 @@ use Rattle.rows.specs.Renewed.{Entry, stale, known, Kept, rows-gone}
 use Rattle.merging.specs.Listed.{listed, other, remaining, remaining-memb, merge-listed}
 use Rattle.merging.specs.Tables.{HoldsList}
 use Rattle.merging.specs.Ruled.{outer, held-same, merged-is, outside-is}
-use Rattle.merging.specs.Holds.{Given, Ghost, stateOf, Lists, Holds, count-trees, tree-new, tree-old, row-known}
+use Rattle.parts.specs.Lists.{Lists}
+use Rattle.merging.specs.Holds.{Given, Ghost, stateOf, Holds, count-trees, tree-new, tree-old, row-known}
 use Rattle.merging.specs.Turn.{words₁, rows₁, rises, used, small, hold, said, entries, Chosen, chosen-merges}
 
 -- ---- what an entry says does not depend on higher slots ----

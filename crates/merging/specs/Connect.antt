@@ -25,7 +25,8 @@ use Rattle.merging.specs.Listed.{remaining}
 use Rattle.merging.specs.Agree.{front-is, words-same, rows-same, least-same}
 use Rattle.merging.specs.Removed.{put-node}
 use Rattle.merging.specs.Merge.{firstAt, secondAt, marked, withNode}
-use Rattle.merging.specs.Holds.{Given, Ghost, stateOf, Lists, Holds}
+use Rattle.parts.specs.Lists.{Lists}
+use Rattle.merging.specs.Holds.{Given, Ghost, stateOf, Holds}
 use Rattle.merging.specs.Turn.{words₁, rows₁, small, used, Chosen, Scanned, ends, refuses, chooses, scanned}
 use Rattle.merging.specs.After.{nextGhost, nextLists, inF, inG, count′, turn-on, holds′}
 

@@ -15,6 +15,7 @@ use Rattle.laws.specs.MemberLaws.{all-in}
 use Rattle.laws.specs.GreedyMerging.{Sound}
 use Rattle.laws.specs.GreedySlots.{entry, treeAfter}
 use Rattle.slots.specs.Slots.{held}
+use Rattle.parts.specs.Lists.{Lists}
 use Rattle.rows.specs.Known.{Rises, at-member, places-of, same-place, Share, TooWide, NotBefore, Known, alone, least, RowTo, none, over, pair}
 use Rattle.rows.specs.Renewed.{Kept}
 use Rattle.merging.specs.Listed.{listed, stateAt, listed-has}
@@ -42,17 +43,6 @@ pub record Ghost : Type 0 where
 
 abbrev pub stateOf : Ghost → State
 stateOf S = stateAt (S .array) (S .tree) (S .slots) (S .next)
-
--- the lent lists: sets by slot, node numbers and size bits by slot, the live slots, and the least pairs by slot
-pub record Lists : Type 0 where
-  pub words : List ℕ
-  pub nodes : List ℕ
-  pub sizes : List ℕ
-  pub live : List ℕ
-  pub rows : List ℕ
-
-abbrev pub listsOf : List ℕ → List ℕ → List ℕ → List ℕ → List ℕ → Lists
-listsOf words nodes sizes live rows = record { words = words; nodes = nodes; sizes = sizes; live = live; rows = rows }
 
 pub record Holds (G : Given) (S : Ghost) (M : Lists) : Type 0 where
   pub sound : Sound (G .net) (G .base) (G .lo) (G .all) (stateOf S)

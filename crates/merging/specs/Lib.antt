@@ -8,3 +8,4 @@ pub mod Agree
 pub mod Removed
 pub mod Merge
 pub mod Connect
+pub mod Scans

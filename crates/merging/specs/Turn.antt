@@ -20,7 +20,8 @@ use Rattle.rows.specs.LeastRow.{LeastTo, nothing, tooBroad, at, least-is}
 use Rattle.merging.specs.Listed.{rising-rises, listed-ends, listed-refuses, listed-merges}
 use Rattle.merging.specs.Tables.{HoldsList}
 use Rattle.merging.specs.Ruled.{says}
-use Rattle.merging.specs.Holds.{Given, Ghost, stateOf, Lists, Holds, used-slots}
+use Rattle.parts.specs.Lists.{Lists}
+use Rattle.merging.specs.Holds.{Given, Ghost, stateOf, Holds, used-slots}
 
 module _ (G : Given) (S : Ghost) (M : Lists) (H : Holds G S M) where
   abbrev N : Network

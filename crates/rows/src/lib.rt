@@ -1,8 +1,12 @@
 // The least pair of each live table, kept from turn to turn in a list by slot, and the least of all.
 ghost use mathlib.Core.Path.{_≡_};
 ghost use Prim.Native.Nat.{_<_, _≤_};
+ghost use lib.ListN.{length};
+ghost use Rattle.parts.specs.Parts.{low};
+ghost use Rattle.parts.specs.Lists.{listsIn};
 ghost use Rattle.slots.specs.Weigh.{Light};
-ghost use Rattle.rows.specs.Rows.{stands, renewed, renewedAll, bettered, leastOf};
+ghost use Rattle.rows.specs.Rows.{stands, bettered, leastOf};
+ghost use Rattle.rows.specs.Within.{renewedIn, allRenewed};
 use scores::NONE;
 use scores::TOO_WIDE;
 
@@ -22,44 +26,35 @@ fn still(rows: &[u64], r: usize) -> bool
 }
 
 // Finds the entry of the `k`-th live table anew, where it does not stand.
-fn renew(
-    ws: &[u64],
-    w: usize,
-    weights: &[u8],
-    sizes: &[u64],
-    n0: usize,
-    live: &[u16],
-    k: usize,
-    rows: &mut [u64],
-)
-    requires { ⌜ (w ≤ 16) × Light (now weights) ⌝ }
-    ensures { λ _. ⌜ now (rows .exit) ≡ renewed (now (ws .entry)) w (now (weights .entry)) (now (sizes .entry)) n0 (now (live .entry)) k (now (rows .entry)) ⌝ }
+fn renew(ws: &mut [u64], w: usize, weights: &[u8], n0: usize, k: usize)
+    requires { ⌜ (w ≤ 16) × Light (now weights) × (2064 ≤ length (now ws)) ⌝ }
+    ensures { λ _. ⌜ listsIn (now (ws .exit)) ≡ renewedIn w (now (weights .entry)) n0 k (listsIn (now (ws .entry))) ⌝ }
 {
-    let y = cells::at16(live, k);
-    let r = scores::at(rows, y);
-    if still(rows, r) {
+    let y = parts::low_at(&ws[1552..1808], k);
+    let r = scores::at(&ws[1808..2064], y);
+    if still(&ws[1808..2064], r) {
         return;
     }
-    let b = scores::row(ws, w, weights, sizes, n0, live, k, y);
-    cells::put64(rows, y, b as u64);
+    let b = scores::row(
+        &ws[0..1040],
+        w,
+        weights,
+        &ws[1296..1552],
+        n0,
+        &ws[1552..1808],
+        k,
+        y,
+    );
+    cells::put64(&mut ws[1808..2064], y, b as u64);
 }
 
 // The same for the first `m` live tables.
-pub fn renew_all(
-    ws: &[u64],
-    w: usize,
-    weights: &[u8],
-    sizes: &[u64],
-    n0: usize,
-    live: &[u16],
-    m: usize,
-    rows: &mut [u64],
-)
-    requires { ⌜ (w ≤ 16) × Light (now weights) ⌝ }
-    ensures { λ _. ⌜ now (rows .exit) ≡ renewedAll (now (ws .entry)) w (now (weights .entry)) (now (sizes .entry)) n0 (now (live .entry)) (now (rows .entry)) m ⌝ }
+pub fn renew_all(ws: &mut [u64], w: usize, weights: &[u8], n0: usize, m: usize)
+    requires { ⌜ (w ≤ 16) × Light (now weights) × (2064 ≤ length (now ws)) ⌝ }
+    ensures { λ _. ⌜ listsIn (now (ws .exit)) ≡ allRenewed w (now (weights .entry)) n0 (listsIn (now (ws .entry))) m ⌝ }
 {
     for k in 0..m {
-        renew(ws, w, weights, sizes, n0, live, k, rows);
+        renew(ws, w, weights, n0, k);
     }
 }
 
@@ -88,12 +83,12 @@ fn better(sizes: &[u64], n0: usize, rows: &[u64], best: usize, y: usize) -> usiz
 }
 
 // Of the first `m` live tables, the one with the least pair; NONE; or TOO_WIDE where a pair is too wide.
-pub fn least(sizes: &[u64], n0: usize, rows: &[u64], live: &[u16], m: usize) -> usize
-    ensures { λ r. ⌜ (r ≡ leastOf (now (sizes .entry)) n0 (now (rows .entry)) (now (live .entry)) m) × (r < 65536) ⌝ }
+pub fn least(sizes: &[u64], n0: usize, rows: &[u64], live: &[u64], m: usize) -> usize
+    ensures { λ r. ⌜ (r ≡ leastOf (now (sizes .entry)) n0 (now (rows .entry)) (low (now (live .entry))) m) × (r < 65536) ⌝ }
 {
     let mut best = NONE;
     for k in 0..m {
-        best = better(sizes, n0, rows, best, cells::at16(live, k));
+        best = better(sizes, n0, rows, best, parts::low_at(live, k));
     }
     best
 }

@@ -4,6 +4,7 @@ ghost use mathlib.Core.Path.{_≡_};
 ghost use Prim.Native.Nat.{_+_, _^_, _<_, _≤_};
 ghost use lib.Dec.{eqb, ltb};
 ghost use lib.ListN.{getD};
+ghost use Rattle.parts.specs.Parts.{low};
 ghost use Rattle.spec.specs.Greedy.{keyBefore};
 ghost use Rattle.slots.specs.Weigh.{Light};
 ghost use Rattle.scores.specs.Scores.{power, firstOf, secondOf, keyAt, overForty, considered, rowOf};
@@ -138,16 +139,16 @@ pub fn row(
     weights: &[u8],
     sizes: &[u64],
     n0: usize,
-    live: &[u16],
+    live: &[u64],
     k: usize,
     y: usize,
 ) -> usize
     requires { ⌜ (w ≤ 16) × (y < 1048576) × Light (now weights) ⌝ }
-    ensures { λ r. ⌜ r ≡ rowOf (now (ws .entry)) w (now (weights .entry)) (now (sizes .entry)) n0 (now (live .entry)) k y ⌝ }
+    ensures { λ r. ⌜ r ≡ rowOf (now (ws .entry)) w (now (weights .entry)) (now (sizes .entry)) n0 (low (now (live .entry))) k y ⌝ }
 {
     let mut best = NONE;
     for i in 0..k {
-        best = consider(ws, w, weights, sizes, n0, y, best, cells::at16(live, i));
+        best = consider(ws, w, weights, sizes, n0, y, best, parts::low_at(live, i));
     }
     best
 }

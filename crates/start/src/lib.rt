@@ -1,12 +1,14 @@
 // Greedy's start: the leaves' tables in slots of lent words, their sizes, and the indices that stay whatever is merged.
 ghost use mathlib.Core.Path.{_≡_};
 ghost use Prim.Native.Nat.{_*_, _<_, _≤_};
-ghost use lib.ListN.{length};
+ghost use lib.ListN.{length, getD, take};
 ghost use Rattle.slots.specs.Slots.{withSet};
 ghost use Rattle.slots.specs.Writes.{among};
 ghost use Rattle.slots.specs.Weigh.{Light};
-ghost use Rattle.start.specs.Leaves.{leafSet, withLeaves, withOther, withOutside, withSizes, putAll, startWords};
-ghost use Rattle.spec.specs.Memory.{filled, copied};
+ghost use Rattle.parts.specs.Parts.{low};
+ghost use Rattle.parts.specs.Lists.{nodesIn, listsIn};
+ghost use Rattle.start.specs.Leaves.{leafSet, withOther, outsideTo, putAll};
+ghost use Rattle.start.specs.Within.{leafSetsIn, insideIn, weighedIn, preparedIn};
 
 // Makes slot `s` the set of the indices of leaf `v`.
 fn put_leaf(ws: &mut [u64], w: usize, s: usize, counts: &[u8], legs: &[u16], v: usize)
@@ -17,13 +19,26 @@ fn put_leaf(ws: &mut [u64], w: usize, s: usize, counts: &[u8], legs: &[u16], v: 
     slots::put_all(ws, w, s, legs, v * 32, cells::at8(counts, v));
 }
 
-// Makes slot i the set of the indices of the i-th of `leaves`.
-pub fn put_leaves(ws: &mut [u64], w: usize, counts: &[u8], legs: &[u16], leaves: &[u16])
-    requires { ⌜ (w ≤ 16) × (length (now leaves) < 1048576) ⌝ }
-    ensures { λ _. ⌜ now (ws .exit) ≡ withLeaves w (now (counts .entry)) (now (legs .entry)) (now (leaves .entry)) (now (ws .entry)) (length (now (leaves .entry))) ⌝ }
+// Makes slot i the set of the indices of the leaf whose number slot i has, for the first `n` slots.
+fn put_leaves(ws: &mut [u64], w: usize, counts: &[u8], legs: &[u16], n: usize)
+    requires { ⌜ (w ≤ 16) × (n < 1048576) × (2064 ≤ length (now ws)) ⌝ }
+    ensures { λ _. ⌜ listsIn (now (ws .exit)) ≡ leafSetsIn w (now (counts .entry)) (now (legs .entry)) n (listsIn (now (ws .entry))) ⌝ }
 {
-    for i in 0..leaves.len() {
-        put_leaf(ws, w, i, counts, legs, cells::at16(leaves, i));
+    for i in 0..n {
+        let v = parts::low_at(&ws[1040..1296], i);
+        put_leaf(&mut ws[0..1040], w, i, counts, legs, v);
+    }
+}
+
+// Makes slot 257 the set of the numbers of the first `n` slots.
+fn put_inside(ws: &mut [u64], w: usize, n: usize)
+    requires { ⌜ (w ≤ 16) × (2064 ≤ length (now ws)) ⌝ }
+    ensures { λ _. ⌜ listsIn (now (ws .exit)) ≡ insideIn w n (listsIn (now (ws .entry))) ⌝ }
+{
+    slots::empty(&mut ws[0..1040], w, 257);
+    for i in 0..n {
+        let v = parts::low_at(&ws[1040..1296], i);
+        slots::insert(&mut ws[0..1040], w, 257, v);
     }
 }
 
@@ -47,20 +62,11 @@ fn put_other(ws: &mut [u64], w: usize, counts: &[u8], legs: &[u16], l: usize)
     slots::put_all(ws, w, 256, legs, l * 32, cells::at8(counts, l));
 }
 
-// Makes slot 257 the set of `leaves`, and slot 256 that of the outputs and of the indices of the other leaves, of `n` in all.
-pub fn put_outside(
-    ws: &mut [u64],
-    w: usize,
-    n: usize,
-    counts: &[u8],
-    legs: &[u16],
-    outputs: &[u16],
-    leaves: &[u16],
-)
-    requires { ⌜ (w ≤ 16) × (n ≤ w * 64) × (length (now leaves) ≤ 4294967296) × (length (now outputs) ≤ 4294967296) ⌝ }
-    ensures { λ _. ⌜ now (ws .exit) ≡ withOutside w (now (counts .entry)) (now (legs .entry)) (now (leaves .entry)) (now (ws .entry)) (now (outputs .entry)) n ⌝ }
+// Makes slot 256 the set of the outputs and of the indices of the leaves, of `n` in all, that slot 257 has not.
+fn put_outside(ws: &mut [u64], w: usize, n: usize, counts: &[u8], legs: &[u16], outputs: &[u16])
+    requires { ⌜ (w ≤ 16) × (n ≤ w * 64) × (length (now outputs) ≤ 4294967296) ⌝ }
+    ensures { λ _. ⌜ now (ws .exit) ≡ outsideTo w (now (counts .entry)) (now (legs .entry)) (now (ws .entry)) (now (outputs .entry)) n ⌝ }
 {
-    put_list(ws, w, 257, leaves, leaves.len());
     put_list(ws, w, 256, outputs, outputs.len());
     for l in 0..n {
         put_other(ws, w, counts, legs, l);
@@ -68,13 +74,13 @@ pub fn put_outside(
 }
 
 // Puts the size bits of the first `n` slots down.
-pub fn weigh_all(ws: &[u64], w: usize, weights: &[u8], sizes: &mut [u64], n: usize)
-    requires { ⌜ (w ≤ 16) × (n < 1048576) × Light (now weights) ⌝ }
-    ensures { λ _. ⌜ now (sizes .exit) ≡ withSizes (now (ws .entry)) w (now (weights .entry)) (now (sizes .entry)) n ⌝ }
+fn weigh_all(ws: &mut [u64], w: usize, weights: &[u8], n: usize)
+    requires { ⌜ (w ≤ 16) × (n < 1048576) × Light (now weights) × (2064 ≤ length (now ws)) ⌝ }
+    ensures { λ _. ⌜ listsIn (now (ws .exit)) ≡ weighedIn w (now (weights .entry)) n (listsIn (now (ws .entry))) ⌝ }
 {
     for i in 0..n {
-        let b = slots::weigh(ws, w, i, i, weights, &weights[..0]);
-        cells::put64(sizes, i, b as u64);
+        let b = slots::weigh(&ws[0..1040], w, i, i, weights, &weights[..0]);
+        cells::put64(&mut ws[1296..1552], i, b as u64);
     }
 }
 
@@ -88,7 +94,27 @@ pub fn count_up(list: &mut [u16], n: usize)
     }
 }
 
-// Puts the tables of `leaves` into slots 0, 1, .., with their sets, numbers and size bits; none has its least pair yet.
+// The same in words.
+pub fn count_words(list: &mut [u64], n: usize)
+    requires { ⌜ n < 65536 ⌝ }
+    ensures { λ _. ⌜ low (now (list .exit)) ≡ putAll (λ i. i) (low (now (list .entry))) n ⌝ }
+{
+    for i in 0..n {
+        parts::put_low(list, i, i as u16);
+    }
+}
+
+// Puts the numbers of a list at the front of words.
+pub fn put_numbers(to: &mut [u64], list: &[u16])
+    ensures { λ _. ⌜ low (now (to .exit)) ≡ putAll (λ i. getD (now (list .entry)) i 0) (low (now (to .entry))) (length (now (list .entry))) ⌝ }
+{
+    for i in 0..list.len() {
+        parts::put_low(to, i, cells::get16(list, i));
+    }
+}
+
+// Makes slots 0, 1, .. the tables of the leaves whose numbers stand at the front of the node numbers, with their sets and size bits; none has
+// its least pair yet.
 pub fn prepare(
     ws: &mut [u64],
     w: usize,
@@ -97,24 +123,15 @@ pub fn prepare(
     counts: &[u8],
     legs: &[u16],
     outputs: &[u16],
-    leaves: &[u16],
-    nodes: &mut [u16],
-    sizes: &mut [u64],
-    live: &mut [u16],
-    rows: &mut [u64],
+    tables: usize,
 )
-    requires { ⌜ (w ≤ 16) × (n ≤ w * 64) × (length (now leaves) ≤ 128) × (length (now outputs) ≤ 4294967296) × Light (now weights) ⌝ }
-    ensures sets { λ _. ⌜ now (ws .exit) ≡ startWords w n (now (counts .entry)) (now (legs .entry)) (now (outputs .entry)) (now (leaves .entry)) (now (ws .entry)) ⌝ }
-    ensures numbers { λ _. ⌜ now (nodes .exit) ≡ copied (now (nodes .entry)) (now (leaves .entry)) (length (now (leaves .entry))) ⌝ }
-    ensures bits { λ _. ⌜ now (sizes .exit) ≡ withSizes (now (ws .exit)) w (now (weights .entry)) (now (sizes .entry)) (length (now (leaves .entry))) ⌝ }
-    ensures slots { λ _. ⌜ now (live .exit) ≡ putAll (λ i. i) (now (live .entry)) (length (now (leaves .entry))) ⌝ }
-    ensures pairs { λ _. ⌜ now (rows .exit) ≡ filled (length (now (rows .entry))) 258 ⌝ }
+    requires { ⌜ (w ≤ 16) × (n ≤ w * 64) × (tables ≤ 128) × (length (now outputs) ≤ 4294967296) × Light (now weights) × (2064 ≤ length (now ws)) ⌝ }
+    ensures { λ _. ⌜ listsIn (now (ws .exit)) ≡ preparedIn w (now (weights .entry)) n (now (counts .entry)) (now (legs .entry)) (now (outputs .entry)) (take tables (nodesIn (now (ws .entry)))) (listsIn (now (ws .entry))) ⌝ }
 {
-    let tables = leaves.len();
-    put_outside(ws, w, n, counts, legs, outputs, leaves);
-    put_leaves(ws, w, counts, legs, leaves);
-    weigh_all(ws, w, weights, sizes, tables);
-    cells::copy16(nodes, leaves, tables);
-    count_up(live, tables);
-    cells::fill64(rows, 258);
+    put_inside(ws, w, tables);
+    put_outside(&mut ws[0..1040], w, n, counts, legs, outputs);
+    put_leaves(ws, w, counts, legs, tables);
+    weigh_all(ws, w, weights, tables);
+    count_words(&mut ws[1552..1808], tables);
+    cells::fill64(&mut ws[1808..2064], 258);
 }

@@ -1,36 +1,38 @@
 -- Assumes nothing.
 use borrow.Author.Needs.{needs}
-use lib.ListN.{take}
+use Rattle.greedy.specs.Whole.{leaves-counted, whole-fits, whole-light, whole-answer}
 use lib.Seq.{length-take-le}
-use Rattle.greedy.specs.Whole.{whole-fits, whole-light, whole-answer}
 use native.Mathlib.Omega.{arith}
-use mathlib.Core.Path.{sym, ap}
+use Prim.Native.Nat.{_-_}
+use mathlib.Core.Path.{sym}
 use Rattle.greedy.proofs.greedy_all.Statement.{statement}
 use Rattle.greedy.proofs.greedy_all.Tie as tie
 
-slice-aggregate-count-up : tie.Need-slice-aggregate-count-up
-slice-aggregate-count-up c = search needs
+sub-count-words : tie.Need-sub-count-words
+sub-count-words c = search needs
 
-count-up-requires : tie.Need-count-up-requires
-count-up-requires c κs = search needs
+part-count-words-start : tie.Need-part-count-words-start
+part-count-words-start c = search needs
 
-slice-aggregate-greedy-nodes : tie.Need-slice-aggregate-greedy-nodes
-slice-aggregate-greedy-nodes c = let d = c .before .before .before .before .before .before .before .before .before .before .before in sym (length-take-le (d .args .m) (d .args .weights .now) (omega (arith, d .pre .1 .fewIndices, d .pre .0 .weightPlaces)))
+part-count-words-end : tie.Need-part-count-words-end
+part-count-words-end c = search needs
 
-slice-aggregate-greedy-nodes-2 : tie.Need-slice-aggregate-greedy-nodes-2
-slice-aggregate-greedy-nodes-2 c = let d = c .before .before .before .before .before .before .before .before .before .before .before .before in sym (length-take-le (d .args .o) (d .args .outputs .now) (omega (arith, d .pre .1 .fewOutputs, d .pre .0 .outputPlaces)))
+count-words-requires : tie.Need-count-words-requires
+count-words-requires c κs = search needs
 
-array-share-prefix-numbers : tie.Need-array-share-prefix-numbers
-array-share-prefix-numbers c = search needs
+slice-aggregate-greedy-words : tie.Need-slice-aggregate-greedy-words
+slice-aggregate-greedy-words c = let d = c .before .before .before .before .before .before .before .before .before .before .before .before in sym (length-take-le (d .args .m) (d .args .weights .now) (omega (arith, d .pre .1 .fewIndices, d .pre .0 .weightPlaces)))
 
-slice-aggregate-greedy-nodes-3 : tie.Need-slice-aggregate-greedy-nodes-3
-slice-aggregate-greedy-nodes-3 c = let d = c .before .before .before .before .before .before .before .before .before .before .before .before .before in sym (length-take-le (d .args .n) _ (omega (arith, d .pre .1 .fewLeaves)))
+slice-aggregate-greedy-words-2 : tie.Need-slice-aggregate-greedy-words-2
+slice-aggregate-greedy-words-2 c = let d = c .before .before .before .before .before .before .before .before .before .before .before .before .before in sym (length-take-le (d .args .o) (d .args .outputs .now) (omega (arith, d .pre .1 .fewOutputs, d .pre .0 .outputPlaces)))
 
-greedy-nodes-requires : tie.Need-greedy-nodes-requires
-greedy-nodes-requires c κs = let d = c .before .before .before .before .before .before .before .before .before .before .before .before .before .before in
-    let a = d .args in (
-      whole-fits (a .m) (a .n) (a .o) (a .weights .now) (a .counts .now) (a .legs .now) (a .outputs .now) (d .pre .0) (d .pre .1) _ (search needs) _ (ap (take (a .n)) (c .before .before .before .before .before .before .count-up .ensures)) (a .ws .now) (d .pre .2),
-      whole-light (a .m) (a .n) (a .o) (a .weights .now) (a .counts .now) (a .legs .now) (a .outputs .now) (d .pre .0) (d .pre .1) _ (search needs) _ (ap (take (a .n)) (c .before .before .before .before .before .before .count-up .ensures)),
+greedy-words-requires : tie.Need-greedy-words-requires
+greedy-words-requires c κs = let d = c .before .before .before .before .before .before .before .before .before .before .before .before .before .before in
+    let a = d .args in
+    let e = leaves-counted (a .ws .now) (c .before .before .before .before .before .before .count-words .last .0) (a .n) (d .pre .2) (d .pre .1 .fewLeaves) (c .before .before .before .before .before .ws .given .0) (c .before .before .before .before .before .before .count-words .ensures) in (
+      whole-fits (a .m) (a .n) (a .o) (a .weights .now) (a .counts .now) (a .legs .now) (a .outputs .now) (d .pre .0) (d .pre .1) _ e _ (omega (arith, d .pre .2, c .before .before .before .before .before .ws .given .1)),
+      whole-light (a .m) (a .n) (a .o) (a .weights .now) (a .counts .now) (a .legs .now) (a .outputs .now) (d .pre .0) (d .pre .1) _ e,
+      d .pre .1 .fewLeaves,
     )
 
 same-length : tie.Need-same-length
@@ -42,19 +44,20 @@ same-length-2 c = search needs
 returns : tie.Need-returns
 returns c = let d = c .before .before .before .before .before .before .before .before .before .before .before .before .before .before .before .before .before .before .before in
     let a = d .args in
-    whole-answer (a .m) (a .n) (a .o) (a .weights .now) (a .counts .now) (a .legs .now) (a .outputs .now) (d .pre .0) (d .pre .1) _ (search needs) _ (ap (take (a .n)) (c .before .before .before .before .before .before .before .before .before .before .before .count-up .ensures)) (a .kids .now) _ _ (c .before .before .before .before .greedy-nodes .ensures)
+    let e = leaves-counted (a .ws .now) (c .before .before .before .before .before .before .before .before .before .before .before .count-words .last .0) (a .n) (d .pre .2) (d .pre .1 .fewLeaves) (c .before .before .before .before .before .before .before .before .before .before .ws .given .0) (c .before .before .before .before .before .before .before .before .before .before .before .count-words .ensures) in
+    whole-answer (a .m) (a .n) (a .o) (a .weights .now) (a .counts .now) (a .legs .now) (a .outputs .now) (d .pre .0) (d .pre .1) _ e (a .kids .now) _ _ (c .before .before .before .before .greedy-words .ensures)
 
 pub greedy-all-spec : {M : Type 1} → statement M
 greedy-all-spec =
     tie.close
     (tie.spec
-    slice-aggregate-count-up
-    count-up-requires
-    slice-aggregate-greedy-nodes
-    slice-aggregate-greedy-nodes-2
-    array-share-prefix-numbers
-    slice-aggregate-greedy-nodes-3
-    greedy-nodes-requires
+    sub-count-words
+    part-count-words-start
+    part-count-words-end
+    count-words-requires
+    slice-aggregate-greedy-words
+    slice-aggregate-greedy-words-2
+    greedy-words-requires
     same-length
     same-length-2
     returns)

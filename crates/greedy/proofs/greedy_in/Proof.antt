@@ -1,15 +1,15 @@
 -- Assumes nothing.
 use borrow.Author.Needs.{needs}
-use lib.ListN.{take}
-use lib.Seq.{length-take-le}
-use Rattle.walk.specs.Entry.{lent-cleared}
-use Rattle.spec.specs.Memory.{cleared}
-use Rattle.spec.specs.Network.{leafCount}
-use Rattle.spec.specs.Layout.{networkOf}
-use Rattle.network.specs.Layouts.{layout-leaf-count}
 use Rattle.greedy.specs.Answers.{answer-few-words, answer-few-places, answer-refused, answer-done}
+use Rattle.network.specs.Layouts.{layout-leaf-count}
+use Rattle.spec.specs.Layout.{networkOf}
+use Rattle.spec.specs.Network.{leafCount}
+use Rattle.spec.specs.Memory.{cleared}
+use Rattle.walk.specs.Entry.{lent-cleared}
+use lib.Seq.{length-take-le}
+use lib.ListN.{take}
 use native.Mathlib.Omega.{arith}
-use Prim.Native.Nat.{_≤_}
+use Prim.Native.Nat.{_-_, _*_, _≤_}
 use mathlib.Core.Path.{_≡_, refl, sym, ap, _∙_}
 use lib.ListN.{length}
 use Rattle.greedy.proofs.greedy_in.Statement.{statement}
@@ -34,17 +34,20 @@ returns-2 c = let a = c .before .before .before .before .before .before .before 
     answer-few-places (networkOf (a .m) (a .n) (a .o) (a .weights .now) (a .counts .now) (a .legs .now) (a .outputs .now)) (a .tree .now) (a .ws .now) (omega (arith, c .before .before .if1 .left, c .before .before .before .stated .ensures))
     (omega (arith, c .if2 .taken, c .before .less .ensures, n))
 
-slice-relend-prefix-greedy-all : tie.Need-slice-relend-prefix-greedy-all
-slice-relend-prefix-greedy-all c = search needs
+slice-relend-prefix-greedy-tree : tie.Need-slice-relend-prefix-greedy-tree
+slice-relend-prefix-greedy-tree c = search needs
 
-slice-aggregate-greedy-all : tie.Need-slice-aggregate-greedy-all
-slice-aggregate-greedy-all c = sym (length-take-le (c .before .before .before .before .stated .result) (c .before .before .before .before .before .before .before .before .before .before .before .args .ws .now) (c .before .before .before .if1 .left))
+slice-aggregate-greedy-tree : tie.Need-slice-aggregate-greedy-tree
+slice-aggregate-greedy-tree c = sym (length-take-le (c .before .before .before .before .stated .result) (c .before .before .before .before .before .before .before .before .before .before .before .args .ws .now) (c .before .before .before .if1 .left))
 
-slice-aggregate-greedy-all-2 : tie.Need-slice-aggregate-greedy-all-2
-slice-aggregate-greedy-all-2 c = search needs
+slice-relend-prefix-greedy-tree-2 : tie.Need-slice-relend-prefix-greedy-tree-2
+slice-relend-prefix-greedy-tree-2 c = search needs
 
-greedy-all-requires : tie.Need-greedy-all-requires
-greedy-all-requires c κs = let d = c .before .before .before .before .before .before .before .before .before .before .before .before in (d .pre .0, d .pre .1, omega (arith, c .before .before .before .before .before .stated .ensures, length-take-le (c .before .before .before .before .before .stated .result) (d .args .ws .now) (c .before .before .before .before .if1 .left)))
+slice-aggregate-greedy-tree-2 : tie.Need-slice-aggregate-greedy-tree-2
+slice-aggregate-greedy-tree-2 c = sym (length-take-le (c .before .before .before .less .result * 2) (c .before .before .before .before .before .before .before .before .before .before .before .before .args .tree .now) (omega (arith, c .before .before .if2 .left)))
+
+greedy-tree-requires : tie.Need-greedy-tree-requires
+greedy-tree-requires c κs = let d = c .before .before .before .before .before .before .before .before .before .before .before .before in (d .pre .0, d .pre .1, omega (arith, c .before .before .before .before .before .stated .ensures, length-take-le (c .before .before .before .before .before .stated .result) (d .args .ws .now) (c .before .before .before .before .if1 .left)), omega (arith, length-take-le (c .before .before .before .less .result * 2) (d .args .tree .now) (omega (arith, c .before .before .if2 .left)), c .before .before .before .less .ensures, d .pre .1 .fewLeaves))
 
 clear-requires : tie.Need-clear-requires
 clear-requires c κs = search needs
@@ -52,40 +55,36 @@ clear-requires c κs = search needs
 same-length : tie.Need-same-length
 same-length c = search needs
 
-returns-3 : tie.Need-returns-3
-returns-3 c = let a = c .before .before .before .before .before .before .before .before .before .before .before .before .before .before .before .before .before .before .before .before .before .args in
-    let w = c .before .before .before .before .before .before .before .before .before .before .before .before .before .before .stated .result in
-    let fit : w ≤ length (a .ws .now) = c .before .before .before .before .before .before .before .before .before .before .before .before .before .if1 .left in
-    let n : leafCount (networkOf (a .m) (a .n) (a .o) (a .weights .now) (a .counts .now) (a .legs .now) (a .outputs .now)) ≡ a .n = layout-leaf-count (a .m) (a .n) (a .o) (a .weights .now) (a .counts .now) (a .legs .now) (a .outputs .now) in
-    let y = c .before .before .before .before .before .before .before .before .greedy-all .last .0 in
-    let ly : length y ≡ length (take w (a .ws .now)) = search needs in
-    let z = c .before .before .before .clear .ensures ∙ lent-cleared (a .ws .now) y w w fit ly refl ∙ ap (cleared (a .ws .now)) (c .before .before .before .before .before .before .before .before .before .before .before .before .before .before .stated .ensures) in
-    answer-refused (networkOf (a .m) (a .n) (a .o) (a .weights .now) (a .counts .now) (a .legs .now) (a .outputs .now)) (a .tree .now) (a .ws .now) (omega (arith, fit, c .before .before .before .before .before .before .before .before .before .before .before .before .before .before .stated .ensures))
-    (omega (arith, c .before .before .before .before .before .before .before .before .before .before .before .if2 .left, c .before .before .before .before .before .before .before .before .before .before .before .before .less .ensures, n)) _ z _ _ (c .before .before .before .before .before .before .before .before .greedy-all .result) (c .before .before .before .before .before .before .before .before .greedy-all .ensures) (c .if3 .taken)
-
-slice-aggregate-copy16 : tie.Need-slice-aggregate-copy16
-slice-aggregate-copy16 c = search needs
-
-copy16-requires : tie.Need-copy16-requires
-copy16-requires c κs = search needs
-
 same-length-2 : tie.Need-same-length-2
 same-length-2 c = search needs
+
+returns-3 : tie.Need-returns-3
+returns-3 c = let a = c .before .before .before .before .before .before .before .before .before .before .before .before .before .before .before .before .before .before .before .before .before .before .args in
+    let w = c .before .before .before .before .before .before .before .before .before .before .before .before .before .before .before .stated .result in
+    let fit : w ≤ length (a .ws .now) = c .before .before .before .before .before .before .before .before .before .before .before .before .before .before .if1 .left in
+    let n : leafCount (networkOf (a .m) (a .n) (a .o) (a .weights .now) (a .counts .now) (a .legs .now) (a .outputs .now)) ≡ a .n = layout-leaf-count (a .m) (a .n) (a .o) (a .weights .now) (a .counts .now) (a .legs .now) (a .outputs .now) in
+    let y = c .before .before .before .before .before .before .before .before .before .greedy-tree .last .0 in
+    let ly : length y ≡ length (take w (a .ws .now)) = c .before .before .before .before .before .before .before .before .ws .given .0 in
+    let z = c .before .before .before .clear .ensures ∙ lent-cleared (a .ws .now) y w w fit ly refl ∙ ap (cleared (a .ws .now)) (c .before .before .before .before .before .before .before .before .before .before .before .before .before .before .before .stated .ensures) in
+    answer-refused (networkOf (a .m) (a .n) (a .o) (a .weights .now) (a .counts .now) (a .legs .now) (a .outputs .now)) (a .tree .now) (a .ws .now) (omega (arith, fit, c .before .before .before .before .before .before .before .before .before .before .before .before .before .before .before .stated .ensures))
+    (omega (arith, c .before .before .before .before .before .before .before .before .before .before .before .before .if2 .left, c .before .before .before .before .before .before .before .before .before .before .before .before .before .less .ensures, n)) _ z (c .before .before .before .before .before .before .before .before .before .before .before .before .before .less .result * 2) (omega (arith, c .before .before .before .before .before .before .before .before .before .before .before .before .before .less .ensures, n)) _ (c .before .before .before .before .before .before .before .before .before .greedy-tree .result) (c .before .before .before .before .before .before .before .before .before .greedy-tree .ensures) (c .if3 .taken)
 
 same-length-3 : tie.Need-same-length-3
 same-length-3 c = search needs
 
+same-length-4 : tie.Need-same-length-4
+same-length-4 c = search needs
+
 returns-4 : tie.Need-returns-4
-returns-4 c = let a = c .before .before .before .before .before .before .before .before .before .before .before .before .before .before .before .before .before .before .before .before .before .before .before .before .before .before .args in
-    let w = c .before .before .before .before .before .before .before .before .before .before .before .before .before .before .before .before .before .before .before .stated .result in
-    let fit : w ≤ length (a .ws .now) = c .before .before .before .before .before .before .before .before .before .before .before .before .before .before .before .before .before .before .if1 .left in
+returns-4 c = let a = c .before .before .before .before .before .before .before .before .before .before .before .before .before .before .before .before .before .before .before .before .before .before .args in
+    let w = c .before .before .before .before .before .before .before .before .before .before .before .before .before .before .before .stated .result in
+    let fit : w ≤ length (a .ws .now) = c .before .before .before .before .before .before .before .before .before .before .before .before .before .before .if1 .left in
     let n : leafCount (networkOf (a .m) (a .n) (a .o) (a .weights .now) (a .counts .now) (a .legs .now) (a .outputs .now)) ≡ a .n = layout-leaf-count (a .m) (a .n) (a .o) (a .weights .now) (a .counts .now) (a .legs .now) (a .outputs .now) in
-    let y = c .before .before .before .before .before .before .before .before .before .before .before .before .before .greedy-all .last .0 in
-    let ly : length y ≡ length (take w (a .ws .now)) = search needs in
-    let z = c .before .before .before .before .before .before .before .before .clear .ensures ∙ lent-cleared (a .ws .now) y w w fit ly refl ∙ ap (cleared (a .ws .now)) (c .before .before .before .before .before .before .before .before .before .before .before .before .before .before .before .before .before .before .before .stated .ensures) in
-    answer-done (networkOf (a .m) (a .n) (a .o) (a .weights .now) (a .counts .now) (a .legs .now) (a .outputs .now)) (a .tree .now) (a .ws .now) (omega (arith, fit, c .before .before .before .before .before .before .before .before .before .before .before .before .before .before .before .before .before .before .before .stated .ensures))
-    (omega (arith, c .before .before .before .before .before .before .before .before .before .before .before .before .before .before .before .before .if2 .left, c .before .before .before .before .before .before .before .before .before .before .before .before .before .before .before .before .before .less .ensures, n)) _ z _ _ (c .before .before .before .before .before .before .before .before .before .before .before .before .before .greedy-all .result) (c .before .before .before .before .before .before .before .before .before .before .before .before .before .greedy-all .ensures) (c .before .before .before .before .before .if3 .left)
-    _ (omega (arith, c .before .before .before .before .before .before .before .before .before .before .before .before .before .before .before .before .before .less .ensures, n)) (omega (arith, c .before .before .before .before .before .before .before .before .before .before .before .before .before .before .before .before .before .less .ensures, c .before .before .before .before .before .before .before .before .before .before .before .before .before .before .before .before .before .before .before .before .before .before .before .before .before .before .pre .1 .fewLeaves)) _ (c .before .before .copy16 .ensures)
+    let y = c .before .before .before .before .before .before .before .before .before .greedy-tree .last .0 in
+    let ly : length y ≡ length (take w (a .ws .now)) = c .before .before .before .before .before .before .before .before .ws .given .0 in
+    let z = c .before .before .before .clear .ensures ∙ lent-cleared (a .ws .now) y w w fit ly refl ∙ ap (cleared (a .ws .now)) (c .before .before .before .before .before .before .before .before .before .before .before .before .before .before .before .stated .ensures) in
+    answer-done (networkOf (a .m) (a .n) (a .o) (a .weights .now) (a .counts .now) (a .legs .now) (a .outputs .now)) (a .tree .now) (a .ws .now) (omega (arith, fit, c .before .before .before .before .before .before .before .before .before .before .before .before .before .before .before .stated .ensures))
+    (omega (arith, c .before .before .before .before .before .before .before .before .before .before .before .before .if2 .left, c .before .before .before .before .before .before .before .before .before .before .before .before .before .less .ensures, n)) _ z (c .before .before .before .before .before .before .before .before .before .before .before .before .before .less .result * 2) (omega (arith, c .before .before .before .before .before .before .before .before .before .before .before .before .before .less .ensures, n)) _ (c .before .before .before .before .before .before .before .before .before .greedy-tree .result) (c .before .before .before .before .before .before .before .before .before .greedy-tree .ensures) (c .if3 .left)
 
 pub greedy-in-spec : {M : Type 1} → statement M
 greedy-in-spec =
@@ -96,15 +95,15 @@ greedy-in-spec =
     less-requires
     mul-places
     returns-2
-    slice-relend-prefix-greedy-all
-    slice-aggregate-greedy-all
-    slice-aggregate-greedy-all-2
-    greedy-all-requires
+    slice-relend-prefix-greedy-tree
+    slice-aggregate-greedy-tree
+    slice-relend-prefix-greedy-tree-2
+    slice-aggregate-greedy-tree-2
+    greedy-tree-requires
     clear-requires
     same-length
-    returns-3
-    slice-aggregate-copy16
-    copy16-requires
     same-length-2
+    returns-3
     same-length-3
+    same-length-4
     returns-4)

@@ -2,6 +2,7 @@
 use borrow.Author.Needs.{needs}
 use Rattle.rows.specs.Rows.{bettered-one}
 use Rattle.rows.specs.Rows.{bettered, leastOf}
+use Rattle.parts.specs.Parts.{low}
 use Rattle.cells.specs.Loop.{turns-none, turns-next, turns-end}
 use native.Mathlib.Omega.{arith}
 use Prim.Native.Nat.{ℕ, _-_, _<_, _≤_}
@@ -10,7 +11,7 @@ use Rattle.rows.proofs.least.Statement.{statement}
 use Rattle.rows.proofs.least.Tie as tie
 
 abbrev Inv-loop : tie.InvT-loop
-Inv-loop sizes n0 rows live m best₀ k₀ best k = (k ≤ m) × (best ≡ leastOf sizes n0 rows live k) × (best < 65536)
+Inv-loop sizes n0 rows live m best₀ k₀ best k = (k ≤ m) × (best ≡ leastOf sizes n0 rows (low live) k) × (best < 65536)
 
 abbrev μ-loop : tie.MeasureT-loop
 μ-loop sizes n0 rows live m best₀ k₀ best k = m - k
@@ -19,8 +20,8 @@ loop-holds : tie.Need-loop-holds Inv-loop μ-loop
 unfolding leastOf
 loop-holds c = (omega arith, sym (turns-none _ _), omega arith)
 
-at16-requires : tie.Need-at16-requires Inv-loop μ-loop
-at16-requires c κs = search needs
+low-at-requires : tie.Need-low-at-requires Inv-loop μ-loop
+low-at-requires c κs = search needs
 
 better-requires : tie.Need-better-requires Inv-loop μ-loop
 better-requires c κs = search needs
@@ -36,8 +37,8 @@ unfolding leastOf
 loop-again c = let d = c .before .before .before .before .before .before .before .args in
     let l = c .before .before .before .loop in (
       omega arith,
-      turns-next _ _ (l .k) (l .inv .1) (c .better .ensures ∙ ap (bettered (d .sizes .now) (d .n0) (d .rows .now) (l .best)) (c .before .at16 .ensures .0)),
-      subst (λ (b : ℕ). b < 65536) (sym (c .better .ensures)) (bettered-one (d .sizes .now) (d .n0) (d .rows .now) (λ (b : ℕ). b < 65536) (l .best) (c .before .at16 .result) (l .inv .2) (c .before .at16 .ensures .1) (omega arith)),
+      turns-next _ _ (l .k) (l .inv .1) (c .better .ensures ∙ ap (bettered (d .sizes .now) (d .n0) (d .rows .now) (l .best)) (c .before .low-at .ensures .0)),
+      subst (λ (b : ℕ). b < 65536) (sym (c .better .ensures)) (bettered-one (d .sizes .now) (d .n0) (d .rows .now) (λ (b : ℕ). b < 65536) (l .best) (c .before .low-at .result) (l .inv .2) (c .before .low-at .ensures .1) (omega arith)),
     )
 
 returns : tie.Need-returns Inv-loop μ-loop
@@ -51,7 +52,7 @@ least-spec =
     Inv-loop
     μ-loop
     loop-holds
-    at16-requires
+    low-at-requires
     better-requires
     add-k
     loop-less

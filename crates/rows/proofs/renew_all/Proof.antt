@@ -1,23 +1,22 @@
 -- Assumes nothing.
 use borrow.Author.Needs.{needs}
-use Rattle.rows.specs.Rows.{renewedAll, all-length}
-use Rattle.cells.specs.Loop.{turns-none, turns-next, turns-end}
+use Rattle.rows.specs.Within.{allRenewed, none-renewed, next-renewed}
+use Rattle.parts.specs.Lists.{listsIn}
 use native.Mathlib.Omega.{arith}
 use Prim.Native.Nat.{_-_, _≤_}
-use mathlib.Core.Path.{_≡_, sym, ap, _∙_}
+use mathlib.Core.Path.{_≡_, refl, ap, _∙_}
 use lib.ListN.{length}
 use Rattle.rows.proofs.renew_all.Statement.{statement}
 use Rattle.rows.proofs.renew_all.Tie as tie
 
 abbrev Inv-loop : tie.InvT-loop
-Inv-loop ws w weights sizes n0 live m rows₀ k₀ rows k = (k ≤ m) × (rows ≡ renewedAll ws w weights sizes n0 live rows₀ k)
+Inv-loop ws₀ w weights n0 m k₀ ws k = (k ≤ m) × (length ws ≡ length ws₀) × (listsIn ws ≡ allRenewed w weights n0 (listsIn ws₀) k)
 
 abbrev μ-loop : tie.MeasureT-loop
-μ-loop ws w weights sizes n0 live m rows₀ k₀ rows k = m - k
+μ-loop ws₀ w weights n0 m k₀ ws k = m - k
 
 loop-holds : tie.Need-loop-holds Inv-loop μ-loop
-unfolding renewedAll
-loop-holds c = (omega arith, sym (turns-none _ _))
+loop-holds c = let d = c .before .before .args in (omega arith, refl, none-renewed (d .w) (d .weights .now) (d .n0) (listsIn (d .ws .now)))
 
 renew-requires : tie.Need-renew-requires Inv-loop μ-loop
 renew-requires c κs = search needs
@@ -29,15 +28,18 @@ loop-less : tie.Need-loop-less Inv-loop μ-loop
 loop-less c = search needs
 
 loop-again : tie.Need-loop-again Inv-loop μ-loop
-unfolding renewedAll
-loop-again c = let l = c .before .before .before .before .before .loop in (omega arith, turns-next _ _ (l .k) (l .inv .1) (c .before .before .renew .ensures))
+loop-again c = let d = c .before .before .before .before .before .before .before .before .args in
+    let l = c .before .before .before .before .before .loop in
+    (omega arith, c .before .ws .given ∙ l .inv .1, next-renewed (d .w) (d .weights .now) (d .n0) (listsIn (d .ws .now)) (listsIn (l .ws)) _ (l .k) (l .inv .2) (c .before .before .renew .ensures))
 
 same-length : tie.Need-same-length Inv-loop μ-loop
-same-length c = let d = c .before .before .before .before .before .before .before .args in ap length (c .before .loop .inv .1) ∙ all-length (d .ws .now) (d .w) (d .weights .now) (d .sizes .now) (d .n0) (d .live .now) (d .rows .now) _
+same-length c = search needs
 
 returns : tie.Need-returns Inv-loop μ-loop
-unfolding renewedAll
-returns c = turns-end _ _ (omega arith) (c .before .loop .inv .1)
+returns c = let d = c .before .before .before .before .args in
+    let l = c .before .loop in
+    let e : l .k ≡ d .m = omega arith in
+    l .inv .2 ∙ ap (allRenewed (d .w) (d .weights .now) (d .n0) (listsIn (d .ws .now))) e
 
 pub renew-all-spec : {M : Type 1} → statement M
 renew-all-spec =

@@ -1,6 +1,7 @@
 -- Assumes nothing.
 use borrow.Author.Needs.{needs}
 use Rattle.scores.specs.Scores.{considered, rowOf}
+use Rattle.parts.specs.Parts.{low}
 use Rattle.cells.specs.Loop.{turns-none, turns-next, turns-end}
 use native.Mathlib.Omega.{arith}
 use Prim.Native.Nat.{_-_, _≤_}
@@ -9,7 +10,7 @@ use Rattle.scores.proofs.row.Statement.{statement}
 use Rattle.scores.proofs.row.Tie as tie
 
 abbrev Inv-loop : tie.InvT-loop
-Inv-loop ws w weights sizes n0 live k y best₀ i₀ best i = (i ≤ k) × (best ≡ rowOf ws w weights sizes n0 live i y)
+Inv-loop ws w weights sizes n0 live k y best₀ i₀ best i = (i ≤ k) × (best ≡ rowOf ws w weights sizes n0 (low live) i y)
 
 abbrev μ-loop : tie.MeasureT-loop
 μ-loop ws w weights sizes n0 live k y best₀ i₀ best i = k - i
@@ -18,8 +19,8 @@ loop-holds : tie.Need-loop-holds Inv-loop μ-loop
 unfolding rowOf
 loop-holds c = (omega arith, sym (turns-none _ _))
 
-at16-requires : tie.Need-at16-requires Inv-loop μ-loop
-at16-requires c κs = search needs
+low-at-requires : tie.Need-low-at-requires Inv-loop μ-loop
+low-at-requires c κs = search needs
 
 consider-requires : tie.Need-consider-requires Inv-loop μ-loop
 consider-requires c κs = search needs
@@ -35,7 +36,7 @@ unfolding rowOf
 loop-again c = let d = c .before .before .before .before .before .before .before .before .args in
     let l = c .before .before .before .loop in (
       omega arith,
-      turns-next _ _ (l .i) (l .inv .1) (c .consider .ensures ∙ ap (considered (d .ws .now) (d .w) (d .weights .now) (d .sizes .now) (d .n0) (d .y) (l .best)) (c .before .at16 .ensures .0)),
+      turns-next _ _ (l .i) (l .inv .1) (c .consider .ensures ∙ ap (considered (d .ws .now) (d .w) (d .weights .now) (d .sizes .now) (d .n0) (d .y) (l .best)) (c .before .low-at .ensures .0)),
     )
 
 returns : tie.Need-returns Inv-loop μ-loop
@@ -49,7 +50,7 @@ row-spec =
     Inv-loop
     μ-loop
     loop-holds
-    at16-requires
+    low-at-requires
     consider-requires
     add-i
     loop-less
