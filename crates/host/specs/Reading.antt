@@ -18,31 +18,18 @@ use Rattle.laws.specs.FileLists.{placed-front, valid-length}
 use Rattle.cells.specs.Cells.{filled-length}
 use Rattle.network.specs.Record.{netOf}
 use Rattle.network.specs.declared.Network.{Network as Record}
-use Rattle.netfile.specs.Answers.{treeAnswer, askAnswer, answerOf, networkIn, treeAfter, flagsAfter}
-use Rattle.netfile.specs.declared.Tree.{Tree}
-use Rattle.netfile.specs.declared.Tree.the-variants.{Absent, Present}
-use Rattle.netfile.specs.declared.Ask.{Ask as Asked}
-use Rattle.netfile.specs.declared.Ask.the-variants.{Plain, Flagged, Target}
+use Rattle.netfile.specs.Answers.{placesOf, flagCount, treeAnswer, askAnswer, answerOf, networkIn, treeAfter, flagsAfter}
 use Rattle.netfile.specs.declared.Found.{Found}
 use Rattle.netfile.specs.declared.Answer.the-variants.{Refused, Done}
 use Rattle.listing.specs.Listing.{leaf-count, answered-refused}
 
 -- ---- how many places of the lists a file fills with its own tree and flags ----
 
-abbrev pub placesOf : Tree → ℕ
-placesOf Absent = 0
-placesOf (Present n) = n
-
-abbrev pub countOf : Asked → ℕ
-countOf Plain = 0
-countOf (Flagged n) = n
-countOf (Target w) = 0
-
 places-are : (t : Option (List ℕ)) → placesOf (treeAnswer t) ≡ length (treeBytes t)
 places-are none = refl
 places-are (some kids) = refl
 
-count-is : (a : Ask) → countOf (askAnswer a) ≡ length (flagBytes a)
+count-is : (a : Ask) → flagCount (askAnswer a) ≡ length (flagBytes a)
 count-is plain = refl
 count-is (flagged l) = refl
 count-is (target w) = refl
@@ -81,8 +68,8 @@ all-bytes (x ∷ l) h = (h 0, all-bytes l (λ i. h (suc i)))
 pub record Whole (file : List ℕ) (f : Found) (R : Record) (kids flags : List ℕ) : Type 0 where
   pub few : R .«leaf_count» ≤ 128
   pub treeRoom : placesOf (f .tree) ≤ 254
-  pub flagRoom : countOf (f .ask) ≤ 256
-  pub rest : (size : ℕ) → hostCall size file ≡ listingCall size (netOf R) (take (countOf (f .ask)) flags) (take (placesOf (f .tree)) kids)
+  pub flagRoom : flagCount (f .ask) ≤ 256
+  pub rest : (size : ℕ) → hostCall size file ≡ listingCall size (netOf R) (take (flagCount (f .ask)) flags) (take (placesOf (f .tree)) kids)
 
 host-done : (size : ℕ) (file : List ℕ) (c : Contents) → readOf 254 256 file ≡ done c
     → hostCall size file ≡ listingCall size (c .network) (flagBytes (c .ask)) (treeBytes (c .tree))
@@ -111,7 +98,7 @@ module _ (file a b : List ℕ) (h : length a ≡ 254) (k : length b ≡ 256) whe
       let (i, x) = tree-part (c .network) (c .tree) (c .ask) a (lawful .tree) (subst (λ p. RoomForTree (c .network) p (c .tree)) (sym h) r) in
       let (j, y) = flags-part (c .network) (c .tree) (c .ask) b (lawful .ask) (subst (λ p. RoomForFlags (c .network) p (c .ask)) (sym k) u) in
       let places : placesOf (f .tree) ≡ length (treeBytes (c .tree)) = ap (λ z. placesOf (z .tree)) found ∙ places-are (c .tree) in
-      let count : countOf (f .ask) ≡ length (flagBytes (c .ask)) = ap (λ z. countOf (z .ask)) found ∙ count-is (c .ask) in
+      let count : flagCount (f .ask) ≡ length (flagBytes (c .ask)) = ap (λ z. flagCount (z .ask)) found ∙ count-is (c .ask) in
       record {
         few = omega (arith, leaf-count R, ap leafCount n, accepted-parts (c .network) (lawful .network) .0 .few);
         treeRoom = omega arith;

@@ -1,54 +1,33 @@
-// The functions that a C host calls: a file's bytes priced, a file planned, a network in memory priced, its greedy plan, a tree of it improved, a
-// tree of it sliced.
+// The functions that a C host calls: a file's bytes priced, a file planned, a network in memory priced, its greedy plan, its plan by bisection, a tree
+// of it improved, a tree of it sliced.
 ghost use mathlib.Core.Path.{_≡_};
 ghost use Prim.Native.Nat.{_≤_};
 ghost use lib.ListN.{length, take};
 ghost use Rattle.spec.specs.Memory.{over};
-ghost use Rattle.spec.specs.Host.{listingCall, hostCall, Answered, lentNetwork, limitNumber};
+ghost use Rattle.spec.specs.Host.{listingCall, hostCall, Answered, lentNetwork, limitNumber, improvingNumber};
+ghost use Rattle.spec.specs.Output.{planBytes};
 ghost use Rattle.network.specs.Record.{netOf};
-ghost use Rattle.host.specs.Reading.{placesOf, countOf};
+ghost use Rattle.netfile.specs.Answers.{placesOf, flagCount};
 ghost use Rattle.host.specs.Sound.{HandsOut};
 ghost use Rattle.memory.specs.Promise.{MemoryCost};
 ghost use Rattle.memoryplans.specs.Plan.{MemoryGreedy};
+ghost use Rattle.memorybisection.specs.Promise.{MemoryBisects};
 ghost use Rattle.memoryreconf.specs.Promise.{MemoryReconfigures};
-ghost use Rattle.memoryslice.specs.Promise.{improvingNumber, MemorySlices};
-ghost use Rattle.planning.specs.Output.{planBytes, Prints};
+ghost use Rattle.memoryslice.specs.Promise.{MemorySlices};
+ghost use Rattle.planning.specs.Output.{Prints};
 use netfile::Answer;
-use netfile::Ask;
 use netfile::Found;
-use netfile::Tree;
 use network::Network;
-
-// How many places of the list the tree fills.
-fn tree_places(tree: Tree) -> usize
-    ensures { λ r. ⌜ r ≡ placesOf tree ⌝ }
-{
-    match tree {
-        Tree::Absent => 0,
-        Tree::Present(places) => places,
-    }
-}
-
-// How many flags there are.
-fn flag_count(ask: Ask) -> usize
-    ensures { λ r. ⌜ r ≡ countOf ask ⌝ }
-{
-    match ask {
-        Ask::Plain => 0,
-        Ask::Flagged(count) => count,
-        Ask::Target(_) => 0,
-    }
-}
 
 // Lists a network with the tree and the flags that were found.
 fn price_found(network: Network, found: Found, tree: &[u16], flags: &[u8], out: &mut [u8]) -> u8
-    requires { ⌜ (network .«leaf_count» ≤ 128) × (placesOf (found .tree) ≤ length (now tree)) × (countOf (found .ask) ≤ length (now flags)) ⌝ }
-    ensures { λ r. ⌜ Answered (listingCall (length (now (out .entry))) (netOf network) (take (countOf (found .ask)) (now (flags .entry))) (take (placesOf (found .tree)) (now (tree .entry)))) r (now (out .entry)) (now (out .exit)) ⌝ }
+    requires { ⌜ (network .«leaf_count» ≤ 128) × (placesOf (found .tree) ≤ length (now tree)) × (flagCount (found .ask) ≤ length (now flags)) ⌝ }
+    ensures { λ r. ⌜ Answered (listingCall (length (now (out .entry))) (netOf network) (take (flagCount (found .ask)) (now (flags .entry))) (take (placesOf (found .tree)) (now (tree .entry)))) r (now (out .entry)) (now (out .exit)) ⌝ }
 {
     let found_tree = found.tree;
     let found_ask = found.ask;
-    let places = tree_places(found_tree);
-    let count = flag_count(found_ask);
+    let places = netfile::tree_places(found_tree);
+    let count = netfile::flag_count(found_ask);
     listing::list(network, &flags[..count], &tree[..places], out)
 }
 
@@ -127,6 +106,36 @@ pub extern "C" fn loqshyber_greedy(
         (now (tree .entry)) (now (ws .entry)) (now (tree .exit)) (now (ws .exit)) r ⌝ }
 {
     memoryplans::greedy(weights, leg_counts, legs, outputs, tree, ws) as u32
+}
+
+#[no_mangle]
+pub extern "C" fn loqshyber_bisection(
+    weights: &[u8],
+    leg_counts: &[u8],
+    legs: &[u16],
+    outputs: &[u16],
+    draws: &[u64],
+    tree: &mut [u16],
+    ws: &mut [u64],
+    answer: &mut [u64],
+    imbalance: usize,
+    cutoff: usize,
+) -> u32
+    ensures { λ r. ⌜ MemoryBisects (lentNetwork (now (weights .entry)) (now («leg_counts» .entry)) (now (legs .entry)) (now (outputs .entry))) imbalance cutoff
+        (now (draws .entry)) (now (tree .entry)) (now (ws .entry)) (now (answer .entry)) (now (tree .exit)) (now (ws .exit)) (now (answer .exit)) r ⌝ }
+{
+    memorybisection::bisection(
+        weights,
+        leg_counts,
+        legs,
+        outputs,
+        draws,
+        tree,
+        ws,
+        answer,
+        imbalance,
+        cutoff,
+    ) as u32
 }
 
 #[no_mangle]

@@ -37,6 +37,10 @@ module _ {A : Type 0} where
       few : min (a + n - a) (length (drop a l)) ≡ n
       few = omega (arith, length-drop a l)
 
+  -- the first n places of a list, as many as k
+  pub front-as : {k : ℕ} (n : ℕ) (l : List A) → n ≤ length l → k ≡ n → length (take n l) ≡ k
+  front-as n l h e = length-take-le n l h ∙ sym e
+
 -- ---- a partition, projected ----
 
 map-at : (f : ℕ → ℕ) (l : List ℕ) (v : ℕ) → v < length l → getD (map f l) v 0 ≡ f (getD l v 0)

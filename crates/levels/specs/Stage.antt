@@ -56,19 +56,6 @@ pub record Stage (ws : List ℕ) (weights vw places l m n : ℕ) : Type 0 where
   pub vertices-fit : 3584 ≤ vw
   pub places-fit : 3584 ≤ places
 
--- how long the lists are, at least, that are for callees
-pub record Scratch (trial links keys stamps waiting moves list pins own touched : ℕ) : Type 0 where
-  pub for-trial : 128 ≤ trial
-  pub for-links : 128 ≤ links
-  pub for-keys : 128 ≤ keys
-  pub for-stamps : 128 ≤ stamps
-  pub for-waiting : 256 ≤ waiting
-  pub for-moves : 128 ≤ moves
-  pub for-list : 256 ≤ list
-  pub for-pins : 128 ≤ pins
-  pub for-own : 256 ≤ own
-  pub for-touched : 16384 ≤ touched
-
 abbrev pub netsAt : List ℕ → ℕ → List ℕ
 netsAt weights l = span (l * 256) (l * 256 + 256) weights
 

@@ -85,22 +85,16 @@ fn project(part: &mut [u8], coarse: &[u8], places: &[u16])
     }
 }
 
-// The same at one level: the partition of `coarse` vertices at the front of the list becomes one of `n`. The list `trial` is for the former.
-pub fn project_at(
-    part: &mut [u8],
-    level: usize,
-    n: usize,
-    coarse: usize,
-    trial: &mut [u8],
-    places: &[u16],
-)
-    requires { ⌜ (level ≤ 27) × (n ≤ 128) × (n ≤ length (now part)) × (coarse ≤ n) × (128 ≤ length (now trial)) × (3584 ≤ length (now places)) ⌝ }
+// The same at one level: the partition of `coarse` vertices at the front of the list becomes one of `n`.
+pub fn project_at(part: &mut [u8], level: usize, n: usize, coarse: usize, places: &[u16])
+    requires { ⌜ (level ≤ 27) × (n ≤ 128) × (n ≤ length (now part)) × (coarse ≤ n) × (3584 ≤ length (now places)) ⌝ }
     ensures { λ _. ⌜ take n (now (part .exit)) ≡ map (sideOf (take coarse (now (part .entry)))) (span (level * 128) (level * 128 + n) (now (places .entry))) ⌝ }
 {
+    let mut former = [0u8; 128];
     let first = level * 128;
     let end = first + n;
-    cells::copy8(trial, part, coarse);
-    project(&mut part[..n], &trial[..coarse], &places[first..end]);
+    cells::copy8(&mut former, part, coarse);
+    project(&mut part[..n], &former[..coarse], &places[first..end]);
 }
 
 // Refines the partition of level `level` at the front of the list, in at most four passes. Returns the cursor.
@@ -116,17 +110,17 @@ pub fn refine_at(
     at: usize,
     part: &mut [u8],
     places: usize,
-    keys: &mut [f64],
-    stamps: &mut [u64],
-    waiting: &mut [u8],
-    moves: &mut [u16],
-    list: &mut [u16],
-    pins: &mut [u16],
-    own: &mut [u16],
 ) -> usize
-    requires { ⌜ Stage (now graph) (length (now weights)) (length (now vw)) places level m n × (n ≤ length (now part)) × Bits (take n (now part)) × (128 ≤ length (now keys)) × (128 ≤ length (now stamps)) × (128 ≤ length (now waiting)) × (128 ≤ length (now moves)) × (256 ≤ length (now list)) × (128 ≤ length (now pins)) × (256 ≤ length (now own)) ⌝ }
+    requires { ⌜ Stage (now graph) (length (now weights)) (length (now vw)) places level m n × (n ≤ length (now part)) × Bits (take n (now part)) ⌝ }
     ensures { λ r. ⌜ Gives n (now (draws .entry)) (fm (graphAt (now (graph .entry)) (now (weights .entry)) (now (vw .entry)) level m n) maxw 4 (take n (now (part .entry))) (wordsAt (now (draws .entry)) at)) (now (graph .entry)) (now (graph .exit)) (now (part .exit)) r ⌝ }
 {
+    let mut keys = [0.0f64; 128];
+    let mut stamps = [0u64; 128];
+    let mut waiting = [0u8; 128];
+    let mut moves = [0u16; 128];
+    let mut list = [0u16; 256];
+    let mut pins = [0u16; 128];
+    let mut own = [0u16; 256];
     let net = level * 256;
     let nets = net + 256;
     let first = level * 128;
@@ -147,10 +141,10 @@ pub fn refine_at(
         &mut keys[..n],
         &mut stamps[..n],
         &mut waiting[..n],
-        moves,
-        list,
-        pins,
-        own,
+        &mut moves,
+        &mut list,
+        &mut pins,
+        &mut own,
     )
 }
 
@@ -167,19 +161,19 @@ pub fn initial_at(
     at: usize,
     part: &mut [u8],
     places: usize,
-    trial: &mut [u8],
-    links: &mut [f64],
-    keys: &mut [f64],
-    stamps: &mut [u64],
-    waiting: &mut [u8],
-    moves: &mut [u16],
-    list: &mut [u16],
-    pins: &mut [u16],
-    own: &mut [u16],
 ) -> usize
-    requires { ⌜ Stage (now graph) (length (now weights)) (length (now vw)) places level m n × (n ≤ length (now part)) × (128 ≤ length (now trial)) × (128 ≤ length (now links)) × (128 ≤ length (now keys)) × (128 ≤ length (now stamps)) × (128 ≤ length (now waiting)) × (128 ≤ length (now moves)) × (256 ≤ length (now list)) × (128 ≤ length (now pins)) × (256 ≤ length (now own)) ⌝ }
+    requires { ⌜ Stage (now graph) (length (now weights)) (length (now vw)) places level m n × (n ≤ length (now part)) ⌝ }
     ensures { λ r. ⌜ Gives n (now (draws .entry)) (initial (graphAt (now (graph .entry)) (now (weights .entry)) (now (vw .entry)) level m n) maxw (wordsAt (now (draws .entry)) at)) (now (graph .entry)) (now (graph .exit)) (now (part .exit)) r ⌝ }
 {
+    let mut trial = [0u8; 128];
+    let mut links = [0.0f64; 128];
+    let mut keys = [0.0f64; 128];
+    let mut stamps = [0u64; 128];
+    let mut waiting = [0u8; 128];
+    let mut moves = [0u16; 128];
+    let mut list = [0u16; 256];
+    let mut pins = [0u16; 128];
+    let mut own = [0u16; 256];
     let net = level * 256;
     let nets = net + 256;
     let first = level * 128;
@@ -203,14 +197,14 @@ pub fn initial_at(
         &mut keys[..n],
         &mut stamps[..n],
         &mut waiting[..n],
-        moves,
-        list,
-        pins,
-        own,
+        &mut moves,
+        &mut list,
+        &mut pins,
+        &mut own,
     )
 }
 
-// The coarser hypergraph of level `level`, at the next level, with its weights and the map to it. The lists from `links` on are for callees.
+// The coarser hypergraph of level `level`, at the next level, with its weights and the map to it. The list `touched` is for ratings.
 pub fn coarsen_at(
     graph: &mut [u64],
     level: usize,
@@ -222,18 +216,18 @@ pub fn coarsen_at(
     draws: &[u64],
     at: usize,
     places: &mut [u16],
-    links: &mut [f64],
-    keys: &mut [f64],
-    waiting: &mut [u8],
-    moves: &mut [u16],
-    list: &mut [u16],
-    pins: &mut [u16],
-    own: &mut [u16],
     touched: &mut [u16],
 ) -> Coarse
-    requires { ⌜ Stage (now graph) (length (now weights)) (length (now vw)) (length (now places)) level m n × (48 < n) × (128 ≤ length (now links)) × (128 ≤ length (now keys)) × (256 ≤ length (now waiting)) × (128 ≤ length (now moves)) × (256 ≤ length (now list)) × (128 ≤ length (now pins)) × (256 ≤ length (now own)) × (16384 ≤ length (now touched)) ⌝ }
+    requires { ⌜ Stage (now graph) (length (now weights)) (length (now vw)) (length (now places)) level m n × (48 < n) × (16384 ≤ length (now touched)) ⌝ }
     ensures { λ r. ⌜ Deeper level m n limit (now (draws .entry)) at (r .at) (now (graph .entry)) (now (weights .entry)) (now (vw .entry)) (now (places .entry)) (now (graph .exit)) (now (weights .exit)) (now (vw .exit)) (now (places .exit)) (r .found) (r .nets) (r .vertices) ⌝ }
 {
+    let mut weights2 = [0u8; 256];
+    let mut vw2 = [0.0f64; 128];
+    let mut order = [0u16; 128];
+    let mut mates = [0u16; 128];
+    let mut rating = [0.0f64; 128];
+    let mut pins = [0u16; 128];
+    let mut list = [0u16; 256];
     let net = level * 256;
     let nets = net + 256;
     let first = level * 128;
@@ -251,17 +245,17 @@ pub fn coarsen_at(
         at,
         next * 512,
         next * 256 + 128,
-        &mut waiting[..256],
-        &mut links[..128],
+        &mut weights2,
+        &mut vw2,
         &mut places[first..end],
-        &mut moves[..n],
-        &mut own[..n],
-        &mut keys[..n],
+        &mut order[..n],
+        &mut mates[..n],
+        &mut rating[..n],
         touched,
-        pins,
-        list,
+        &mut pins,
+        &mut list,
     );
-    cells::place8(weights, next * 256, &waiting[..256]);
-    placef(vw, next * 128, &links[..128]);
+    cells::place8(weights, next * 256, &weights2);
+    placef(vw, next * 128, &vw2);
     c
 }

@@ -1,0 +1,110 @@
+// Leaves halved by a partition of their hypergraph.
+ghost use Prim.Native.Nat.{_<_, _≤_};
+ghost use lib.ListN.{length};
+ghost use Rattle.spec.specs.Network.{Network as Net};
+ghost use Rattle.hypergraph.specs.Whole.{Names};
+ghost use Rattle.halving.specs.Cuts.{Partitioned, CutBy};
+ghost use Rattle.bisection.specs.Spare.{Spare};
+ghost use Rattle.bisection.specs.Named.{Named};
+
+// How many leaves go left, 0 where they are not halved; and the cursor.
+pub struct Cut {
+    pub left: usize,
+    pub at: usize,
+}
+
+// A partition of the leaves, to the front of `part`. Returns the cursor.
+fn partition_of(
+    ws: &mut [u64],
+    weights: &[u8],
+    counts: &[u8],
+    legs: &[u16],
+    leaves: &[u16],
+    eps: f64,
+    draws: &[u64],
+    at: usize,
+    netw: &mut [u8],
+    vw: &mut [f64],
+    part: &mut [u8],
+    places: &mut [u16],
+    touched: &mut [u16],
+) -> usize
+    requires { ⌜ (length (now weights) ≤ 256) × (2 < length (now leaves)) × (length (now leaves) ≤ 128) × Named (now weights) (now counts) (now legs) (now leaves) ⌝ }
+    requires { ⌜ Spare (now ws) (now netw) (now vw) (now part) (now places) (now touched) ⌝ }
+    ensures { λ r. ⌜ ((N : Net) → Names N (now (weights .entry)) (now (counts .entry)) (now (legs .entry)) (now (leaves .entry)) → Partitioned N (now (leaves .entry)) eps (now (draws .entry)) at (now (part .exit)) r) ⌝ }
+{
+    let n = leaves.len();
+    let mut pins = [0u16; 128];
+    let m = hypergraph::hypergraph_of(
+        ws,
+        0,
+        128,
+        weights,
+        counts,
+        legs,
+        leaves,
+        netw,
+        &mut vw[..n],
+        &mut pins,
+    );
+    bisect::bisect(
+        ws,
+        m,
+        n,
+        netw,
+        vw,
+        eps,
+        draws,
+        at,
+        &mut part[..n],
+        places,
+        touched,
+    )
+}
+
+// Halves the leaves by a partition, side 0 first.
+pub(crate) fn cut_leaves(
+    leaves: &mut [u16],
+    ws: &mut [u64],
+    weights: &[u8],
+    counts: &[u8],
+    legs: &[u16],
+    eps: f64,
+    draws: &[u64],
+    at: usize,
+    netw: &mut [u8],
+    vw: &mut [f64],
+    part: &mut [u8],
+    places: &mut [u16],
+    touched: &mut [u16],
+) -> Cut
+    requires { ⌜ (length (now weights) ≤ 256) × (2 < length (now leaves)) × (length (now leaves) ≤ 128) × Named (now weights) (now counts) (now legs) (now leaves) ⌝ }
+    requires { ⌜ Spare (now ws) (now netw) (now vw) (now part) (now places) (now touched) ⌝ }
+    ensures { λ r. ⌜ r .left < length (now (leaves .entry)) ⌝ }
+    ensures { λ r. ⌜ ((N : Net) → Names N (now (weights .entry)) (now (counts .entry)) (now (legs .entry)) (now (leaves .entry)) → CutBy N (now (leaves .entry)) eps (now (draws .entry)) at (now (leaves .exit)) (r .left) (r .at)) ⌝ }
+{
+    let next = partition_of(
+        ws,
+        weights,
+        counts,
+        legs,
+        leaves,
+        eps,
+        draws,
+        at,
+        netw,
+        vw,
+        part,
+        places,
+        touched,
+    );
+    if draws::is_spent(draws, next) {
+        return Cut { left: 0, at: next };
+    }
+    let n = leaves.len();
+    let left = halves::halve(leaves, &part[..n], touched);
+    if left == n {
+        return Cut { left: 0, at: next };
+    }
+    Cut { left, at: next }
+}

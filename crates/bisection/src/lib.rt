@@ -1,0 +1,310 @@
+// Recursive bisection: the leaves are halved, each half is halved again, and small ends are left to greedy.
+ghost use mathlib.Core.List.{List};
+ghost use mathlib.Core.Path.{_≡_};
+ghost use Prim.Native.Nat.{_+_, _<_, _≤_};
+ghost use lib.ListN.{length};
+ghost use Rattle.spec.specs.Layout.{networkOf};
+ghost use Rattle.spec.specs.Network.{Network as Net};
+ghost use Rattle.spec.specs.Tree.{Pair};
+ghost use Rattle.spec.specs.Calls.{bisectionWords, bisectionCall, bisectedTree, workspaceAfter};
+ghost use Rattle.network.specs.Record.{netOf};
+ghost use Rattle.network.specs.Checks.{Lent};
+ghost use Rattle.network.specs.Codes.{Facts};
+ghost use Rattle.slots.specs.Weigh.{Light};
+ghost use Rattle.greedynodes.specs.Begin.{Fits, Asks};
+ghost use Rattle.halving.specs.Cases.{Halves};
+ghost use Rattle.bisection.specs.Spare.{Spare};
+ghost use Rattle.bisection.specs.Named.{Named};
+ghost use Rattle.bisection.specs.Whole.{Whole};
+ghost use Rattle.bisection.specs.Answers.{answerOf, Answers};
+use halving::Half;
+use merging::REFUSED;
+use network::Network;
+use network::checks;
+use network::refusal;
+
+pub mod cuts; // cuts.rt: leaves halved by a partition
+
+// The answer of bisection: how many words were taken.
+pub enum Bisected {
+    Refused(u8),
+    Done(usize),
+}
+
+// Bisection of some leaves, onto the array of `count` nodes whose children stand at the front of `kids`: the new nodes' children are put after them.
+// It falls with the number of leaves. The lists from `netw` on are for a partition.
+fn bisect_rec(
+    leaves: &mut [u16],
+    ws: &mut [u64],
+    weights: &[u8],
+    n: usize,
+    counts: &[u8],
+    legs: &[u16],
+    outputs: &[u16],
+    eps: f64,
+    cutoff: usize,
+    draws: &[u64],
+    at: usize,
+    kids: &mut [u16],
+    count: usize,
+    netw: &mut [u8],
+    vw: &mut [f64],
+    part: &mut [u8],
+    places: &mut [u16],
+    touched: &mut [u16],
+) -> Half
+    requires { ⌜ Fits 4 n count (now weights) (now outputs) (now leaves) (now ws) × Light (now weights) × (count + length (now leaves) ≤ 4096) × Named (now weights) (now counts) (now legs) (now leaves) ⌝ }
+    requires { ⌜ Spare (now ws) (now netw) (now vw) (now part) (now places) (now touched) ⌝ }
+    ensures { λ r. ⌜ ((N : Net) (a : List Pair) → Asks N a n count (now (weights .entry)) (now (counts .entry)) (now (legs .entry)) (now (outputs .entry)) (now (leaves .entry)) (now (kids .entry)) → Halves N eps cutoff a (now (leaves .entry)) (now (draws .entry)) at (now (kids .entry)) (now (kids .exit)) (r .top) (r .at)) ⌝ }
+{
+    let most = halving::small(cutoff);
+    let all = leaves.len();
+    if all <= most {
+        let top = greedynodes::greedy_nodes(
+            ws,
+            4,
+            weights,
+            n,
+            counts,
+            legs,
+            outputs,
+            leaves,
+            kids,
+            count,
+        );
+        return Half { top, at };
+    }
+    let cut = cuts::cut_leaves(
+        leaves,
+        ws,
+        weights,
+        counts,
+        legs,
+        eps,
+        draws,
+        at,
+        netw,
+        vw,
+        part,
+        places,
+        touched,
+    );
+    let left = cut.left;
+    let next = cut.at;
+    if left == 0 {
+        return halving::unsplit(
+            ws,
+            weights,
+            n,
+            counts,
+            legs,
+            outputs,
+            leaves,
+            draws,
+            next,
+            kids,
+            count,
+        );
+    }
+    let first = bisect_rec(
+        &mut leaves[..left],
+        ws,
+        weights,
+        n,
+        counts,
+        legs,
+        outputs,
+        eps,
+        cutoff,
+        draws,
+        next,
+        kids,
+        count,
+        netw,
+        vw,
+        part,
+        places,
+        touched,
+    );
+    if REFUSED <= first.top {
+        return first;
+    }
+    let top = first.top;
+    let next2 = first.at;
+    let second = bisect_rec(
+        &mut leaves[left..],
+        ws,
+        weights,
+        n,
+        counts,
+        legs,
+        outputs,
+        eps,
+        cutoff,
+        draws,
+        next2,
+        kids,
+        count + (left - 1),
+        netw,
+        vw,
+        part,
+        places,
+        touched,
+    );
+    halving::join_halves(n, kids, count + (all - 2), top, second)
+}
+
+// Bisection of all leaves of an accepted network, whose children are put at the front of `kids`.
+fn bisect_all<'a>(
+    ws: &mut [u64],
+    m: usize,
+    n: usize,
+    o: usize,
+    weights: &'a [u8],
+    counts: &'a [u8],
+    legs: &'a [u16],
+    outputs: &'a [u16],
+    imbalance: usize,
+    cutoff: usize,
+    draws: &[u64],
+    kids: &mut [u16],
+) -> Half
+    requires { ⌜ Lent (now weights) (now counts) (now legs) (now outputs) × Facts m n o (now weights) (now counts) (now legs) (now outputs) × (bisectionWords ≤ length (now ws)) × (imbalance ≤ 1000) ⌝ }
+    ensures { λ r. ⌜ Whole (networkOf m n o (now (weights .entry)) (now (counts .entry)) (now (legs .entry)) (now (outputs .entry))) imbalance cutoff (now (draws .entry)) (now (kids .entry)) (now (kids .exit)) (r .top) (r .at) ⌝ }
+{
+    let mut numbers = [0u16; 128];
+    let mut netw = [0u8; 7168];
+    let mut vw = [0.0f64; 3584];
+    let mut part = [0u8; 128];
+    let mut places = [0u16; 3584];
+    let mut touched = [0u16; 16384];
+    start::count_up(&mut numbers, n);
+    let eps = halving::imbalance(imbalance);
+    bisect_rec(
+        &mut numbers[..n],
+        ws,
+        &weights[..m],
+        n,
+        counts,
+        legs,
+        &outputs[..o],
+        eps,
+        cutoff,
+        draws,
+        0,
+        kids,
+        0,
+        &mut netw,
+        &mut vw,
+        &mut part,
+        &mut places,
+        &mut touched,
+    )
+}
+
+// The stated workspace, in words.
+fn stated() -> usize
+    ensures { λ r. ⌜ r ≡ bisectionWords ⌝ }
+{
+    32768
+}
+
+// Bisection's call on an accepted network.
+fn bisection_in<'a>(
+    m: usize,
+    n: usize,
+    o: usize,
+    weights: &'a [u8],
+    counts: &'a [u8],
+    legs: &'a [u16],
+    outputs: &'a [u16],
+    imbalance: usize,
+    cutoff: usize,
+    draws: &[u64],
+    tree: &mut [u16],
+    ws: &mut [u64],
+) -> Bisected
+    requires { ⌜ Lent (now weights) (now counts) (now legs) (now outputs) × Facts m n o (now weights) (now counts) (now legs) (now outputs) × (imbalance ≤ 1000) ⌝ }
+    ensures { λ r. ⌜ Answers (networkOf m n o (now (weights .entry)) (now (counts .entry)) (now (legs .entry)) (now (outputs .entry))) imbalance cutoff (now (draws .entry)) (now (tree .entry)) (now (tree .exit)) (now (ws .entry)) (now (ws .exit)) r ⌝ }
+{
+    let words = stated();
+    if ws.len() < words {
+        return Bisected::Refused(refusal::SHORT_BUFFER);
+    }
+    let places = cells::less(n, 1) * 2;
+    if tree.len() < places {
+        return Bisected::Refused(refusal::SHORT_BUFFER);
+    }
+    let mut kids = [0u16; 256];
+    let r = bisect_all(
+        &mut ws[..words],
+        m,
+        n,
+        o,
+        weights,
+        counts,
+        legs,
+        outputs,
+        imbalance,
+        cutoff,
+        draws,
+        &mut kids,
+    );
+    cells::clear(ws, words);
+    if r.top == REFUSED {
+        return Bisected::Refused(refusal::TABLE_TOO_WIDE);
+    }
+    if REFUSED < r.top {
+        return Bisected::Refused(refusal::DRAWS_EXHAUSTED);
+    }
+    cells::copy16(tree, &kids, places);
+    Bisected::Done(cells::min(r.at, draws.len()))
+}
+
+// The plan of a network by bisection, with an imbalance in thousandths: its children, two places a node, to the front of `tree`. The words of `draws`
+// stand for a random generator.
+pub fn bisection(
+    network: Network,
+    imbalance: usize,
+    cutoff: usize,
+    draws: &[u64],
+    tree: &mut [u16],
+    ws: &mut [u64],
+) -> Bisected
+    ensures answer { λ r. ⌜ r ≡ answerOf (bisectionCall (netOf network) imbalance cutoff (now (draws .entry)) (length (now (ws .entry))) (length (now (tree .entry)))) ⌝ }
+    ensures plan { λ r. ⌜ now (tree .exit) ≡ bisectedTree (bisectionCall (netOf network) imbalance cutoff (now (draws .entry)) (length (now (ws .entry))) (length (now (tree .entry)))) (now (tree .entry)) ⌝ }
+    ensures workspace { λ r. ⌜ now (ws .exit) ≡ workspaceAfter bisectionWords (bisectionCall (netOf network) imbalance cutoff (now (draws .entry)) (length (now (ws .entry))) (length (now (tree .entry)))) (now (ws .entry)) ⌝ }
+{
+    if 1000 < imbalance {
+        return Bisected::Refused(refusal::TOO_LARGE);
+    }
+    let m = network.index_count;
+    let n = network.leaf_count;
+    let o = network.output_count;
+    let k = checks::number(
+        m,
+        n,
+        o,
+        &network.weights,
+        &network.leg_counts,
+        &network.legs,
+        &network.outputs,
+    );
+    if k != refusal::NONE {
+        return Bisected::Refused(k);
+    }
+    bisection_in(
+        m,
+        n,
+        o,
+        &network.weights,
+        &network.leg_counts,
+        &network.legs,
+        &network.outputs,
+        imbalance,
+        cutoff,
+        draws,
+        tree,
+        ws,
+    )
+}

@@ -1,0 +1,2 @@
+-- Bisection of a network in memory. Assumes nothing.
+pub mod Promise
