@@ -2,12 +2,6 @@
 ghost use Prim.Native.Nat.{_<_};
 use cells::at8;
 
-// A word, then a number.
-pub fn number(word: &[u8], n: u64) {
-    io::write_all(1, word);
-    io::print_decimal(1, n);
-}
-
 // The two bytes from place i on.
 fn two(bytes: &[u8], i: usize) -> usize
     requires { ⌜ i < 4294967296 ⌝ }
@@ -25,7 +19,7 @@ fn total(bytes: &[u8]) -> u64 {
 
 fn write_total(bytes: &[u8]) {
     if at8(bytes, 2) == 0 {
-        number(b" total ", total(bytes));
+        stored::number(b" total ", total(bytes));
     } else {
         io::write_all(1, b" total beyond");
     }
@@ -35,7 +29,7 @@ fn write_widest(bytes: &[u8]) {
     if at8(bytes, 11) == 0 {
         io::write_all(1, b" widest -");
     } else {
-        number(b" widest ", two(bytes, 12) as u64);
+        stored::number(b" widest ", two(bytes, 12) as u64);
     }
 }
 
@@ -57,9 +51,9 @@ fn sum(bytes: &[u8], steps: usize) -> u64
 
 pub fn write(bytes: &[u8]) {
     let steps = two(bytes, 0);
-    number(b"priced ", steps as u64);
+    stored::number(b"priced ", steps as u64);
     write_total(bytes);
     write_widest(bytes);
-    number(b" bits ", two(bytes, 14) as u64);
-    number(b" sum ", sum(bytes, steps));
+    stored::number(b" bits ", two(bytes, 14) as u64);
+    stored::number(b" sum ", sum(bytes, steps));
 }

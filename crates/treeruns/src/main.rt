@@ -1,8 +1,5 @@
 // Runs the tree check, the step order and the comparison of two trees on stored cases and writes a line for each.
 // The form of input and output is stated in harness/src/tree_record.rs, which makes both.
-ghost use Prim.Native.Nat.{_<_, _≤_};
-ghost use lib.ListN.{length};
-use cells::at8;
 use cells::min;
 use netfile::Answer;
 use network::Network;
@@ -10,24 +7,11 @@ use tree::Ordered;
 use tree::Same;
 use tree::Validity;
 
-// A word, then a number.
-fn number(word: &[u8], n: u64) {
-    io::write_all(1, word);
-    io::print_decimal(1, n);
-}
-
-// The numbers that stand at the front of a list.
-fn write_nodes(nodes: &[u16], count: usize) {
-    for i in 0..count {
-        number(b" ", cells::get16(nodes, i) as u64);
-    }
-}
-
 // Is the tree valid.
 fn check(network: Network, tree: &[u16], ws: &mut [u64]) {
     let answer = tree::is_valid(network, tree, ws);
     match answer {
-        Validity::Refused(refusal) => number(b"refused ", refusal as u64),
+        Validity::Refused(refusal) => stored::number(b"refused ", refusal as u64),
         Validity::Valid => {
             io::write_all(1, b"valid");
         }
@@ -39,8 +23,8 @@ fn order(network: Network, tree: &[u16], ws: &mut [u64]) {
     let mut steps = [0u16; 127];
     let answer = tree::post_order(network, tree, ws, &mut steps);
     match answer {
-        Ordered::Refused(refusal) => number(b" refused ", refusal as u64),
-        Ordered::Done(count) => write_nodes(&steps, count),
+        Ordered::Refused(refusal) => stored::number(b" refused ", refusal as u64),
+        Ordered::Done(count) => stored::numbers(&steps, count),
     }
 }
 
@@ -48,7 +32,7 @@ fn order(network: Network, tree: &[u16], ws: &mut [u64]) {
 fn compare(network: Network, tree: &[u16], other: &[u16], ws: &mut [u64]) {
     let answer = tree::same_plan(network, tree, other, ws);
     match answer {
-        Same::Refused(refusal) => number(b" refused ", refusal as u64),
+        Same::Refused(refusal) => stored::number(b" refused ", refusal as u64),
         Same::Done(same) => {
             if same {
                 io::write_all(1, b" same");
@@ -66,17 +50,6 @@ fn run(network: Network, tree: &[u16], other: &[u16]) {
     order(network, tree, &mut ws);
     compare(network, tree, tree, &mut ws);
     compare(network, tree, other, &mut ws);
-}
-
-// Four bytes of standard input, high byte first.
-fn next_number() -> usize
-    ensures { λ r. ⌜ r < 4294967296 ⌝ }
-{
-    let mut head = [0u8; 4];
-    io::read_full(0, &mut head);
-    let high = at8(&head, 0) * 256 + at8(&head, 1);
-    let low = at8(&head, 2) * 256 + at8(&head, 3);
-    high * 65536 + low
 }
 
 // One byte of standard input.
@@ -97,23 +70,21 @@ fn read_tree(tree: &mut [u16], places: usize) {
 fn next_trees(network: Network) {
     let mut tree = [0u16; 512];
     let mut other = [0u16; 512];
-    let places = min(next_number(), 512);
+    let places = min(stored::next_number(), 512);
     read_tree(&mut tree, places);
-    let others = min(next_number(), 512);
+    let others = min(stored::next_number(), 512);
     read_tree(&mut other, others);
     run(network, &tree[..places], &other[..others]);
 }
 
 // Reads so many bytes from standard input as a network file, and goes on with its network.
-fn take(bytes: &mut [u8], length: usize) {
+fn take(bytes: &mut [u8], count: usize) {
     let mut tree = [0u16; 254];
     let mut flags = [0u8; 256];
-    let n = min(length, bytes.len());
-    io::read_full(0, &mut bytes[..n]);
-    let reading = netfile::read(&bytes[..n], &mut tree, &mut flags);
+    let reading = stored::read(bytes, count, &mut tree, &mut flags);
     let answer = reading.answer;
     match answer {
-        Answer::Refused(refusal) => number(b"file refused ", refusal as u64),
+        Answer::Refused(refusal) => stored::number(b"file refused ", refusal as u64),
         Answer::Done(_) => {
             let network = reading.network;
             next_trees(network);
@@ -124,8 +95,8 @@ fn take(bytes: &mut [u8], length: usize) {
 
 fn next_case() {
     let mut bytes = [0u8; 131072];
-    let length = next_number();
-    take(&mut bytes, length);
+    let count = stored::next_number();
+    take(&mut bytes, count);
 }
 
 fn all_cases(count: usize) {
@@ -135,5 +106,5 @@ fn all_cases(count: usize) {
 }
 
 fn main() {
-    all_cases(next_number());
+    all_cases(stored::next_number());
 }

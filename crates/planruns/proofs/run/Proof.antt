@@ -5,17 +5,8 @@ use lib.ListN.{length-take}
 use Rattle.planruns.proofs.run.Statement.{statement}
 use Rattle.planruns.proofs.run.Tie as tie
 
-min-requires : tie.Need-min-requires
-min-requires c κs = search needs
-
-slice-relend-prefix-read-full : tie.Need-slice-relend-prefix-read-full
-slice-relend-prefix-read-full c = search needs
-
-slice-aggregate-read-full : tie.Need-slice-aggregate-read-full
-slice-aggregate-read-full c = simp length-take (omega arith)
-
-read-full-requires : tie.Need-read-full-requires
-read-full-requires c κs = search needs
+take-requires : tie.Need-take-requires
+take-requires c κs = search needs
 
 slice-reshare-prefix-plan : tie.Need-slice-reshare-prefix-plan
 slice-reshare-prefix-plan c = search needs
@@ -48,10 +39,7 @@ pub run-spec : {M : Type 1} → statement M
 run-spec =
     tie.close
     (tie.spec
-    min-requires
-    slice-relend-prefix-read-full
-    slice-aggregate-read-full
-    read-full-requires
+    take-requires
     slice-reshare-prefix-plan
     slice-aggregate-plan
     slice-aggregate-plan-2

@@ -5,17 +5,8 @@ use lib.ListN.{length-take}
 use Rattle.replay.proofs.take.Statement.{statement}
 use Rattle.replay.proofs.take.Tie as tie
 
-min-requires : tie.Need-min-requires
-min-requires c κs = search needs
-
-slice-relend-prefix-read-full : tie.Need-slice-relend-prefix-read-full
-slice-relend-prefix-read-full c = search needs
-
-slice-aggregate-read-full : tie.Need-slice-aggregate-read-full
-slice-aggregate-read-full c = simp length-take (omega arith)
-
-read-full-requires : tie.Need-read-full-requires
-read-full-requires c κs = search needs
+take-requires : tie.Need-take-requires
+take-requires c κs = search needs
 
 slice-reshare-prefix-price : tie.Need-slice-reshare-prefix-price
 slice-reshare-prefix-price c = search needs
@@ -36,10 +27,7 @@ pub take-spec : {M : Type 1} → statement M
 take-spec =
     tie.close
     (tie.spec
-    min-requires
-    slice-relend-prefix-read-full
-    slice-aggregate-read-full
-    read-full-requires
+    take-requires
     slice-reshare-prefix-price
     slice-aggregate-price
     price-requires

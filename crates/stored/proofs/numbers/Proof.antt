@@ -1,14 +1,14 @@
 -- Assumes nothing.
 use borrow.Author.Needs.{needs}
 use Prim.Native.Nat.{_-_, _≤_}
-use Rattle.greedyruns.proofs.write_children.Statement.{statement}
-use Rattle.greedyruns.proofs.write_children.Tie as tie
+use Rattle.stored.proofs.numbers.Statement.{statement}
+use Rattle.stored.proofs.numbers.Tie as tie
 
 abbrev Inv-loop : tie.InvT-loop
-Inv-loop tree places i₀ t4 i = i ≤ places
+Inv-loop list count i₀ t4 i = i ≤ count
 
 abbrev μ-loop : tie.MeasureT-loop
-μ-loop tree places i₀ t4 i = places - i
+μ-loop list count i₀ t4 i = count - i
 
 loop-holds : tie.Need-loop-holds Inv-loop μ-loop
 loop-holds c = search needs
@@ -37,8 +37,8 @@ loop-again c = search needs
 returns : tie.Need-returns Inv-loop μ-loop
 returns c = search needs
 
-pub write-children-spec : {M : Type 1} → statement M
-write-children-spec =
+pub numbers-spec : {M : Type 1} → statement M
+numbers-spec =
     tie.close
     (tie.spec
     Inv-loop
