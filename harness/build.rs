@@ -17,6 +17,23 @@ fn find(variable: &str, top: &Path, usual: &str) -> Option<PathBuf> {
     path.is_file().then(|| path.canonicalize().expect("a file has a path"))
 }
 
+/// What stands in path.rs, and what stands for it in its settled copy: sizes of empty lists are 0 and not −0.0; pairs of over 40 bits are told.
+const SETTLED: [(&str, &str); 2] = [
+    ("hg.log2dim[i as usize]).sum() };", "hg.log2dim[i as usize]).sum::<f64>() + 0.0 };"),
+    (
+        "let d = sm - p.alpha * (sx + sy);",
+        "let d = sm - p.alpha * (sx + sy);\n        if sx.max(sy).max(sm) > 40f64.exp2() { super::meet_wide(); }",
+    ),
+];
+
+/// path.rs with each of these lines changed, at its one place.
+fn settled(text: String) -> String {
+    SETTLED.iter().fold(text, |text, (line, other)| {
+        assert_eq!(text.matches(line).count(), 1, "path.rs has other lines than those that its settled copy changes");
+        text.replace(line, other)
+    })
+}
+
 fn main() {
     let folder = PathBuf::from(env::var_os("CARGO_MANIFEST_DIR").expect("cargo sets it"));
     let out = PathBuf::from(env::var_os("OUT_DIR").expect("cargo sets it"));
@@ -24,7 +41,10 @@ fn main() {
     println!("cargo::rerun-if-changed=build.rs");
     println!("cargo::rustc-check-cfg=cfg(path_rs, port)");
     if let Some(path) = find("LOQSHYBER_PATH_RS", top, PATH_RS) {
-        fs::write(out.join("engine.rs"), format!("#[path = {path:?}]\npub mod path;\n")).expect("OUT_DIR can be written");
+        let copy = out.join("settled.rs");
+        fs::write(&copy, settled(fs::read_to_string(&path).expect("path.rs can be read"))).expect("OUT_DIR can be written");
+        let modules = format!("#[path = {path:?}]\npub mod path;\n#[path = {copy:?}]\npub mod settled;\n");
+        fs::write(out.join("engine.rs"), modules).expect("OUT_DIR can be written");
         println!("cargo::rustc-cfg=path_rs");
     }
     if let Some(library) = find("LOQSHYBER_HOST_LIB", top, HOST_LIB) {

@@ -1,5 +1,6 @@
 //! The entries of docs/DIFFERENCES.md, and the draws of bisection: runs of path.rs and, of the calls that it has, the port.
 
+use crate::bisection;
 use crate::case::{Case, Network, Tree};
 use crate::engine::path::{self, BisectParams, ContractionTree, GreedyParams, Hypergraph};
 use crate::listing::{Listing, Total, MOST};
@@ -103,8 +104,15 @@ fn greedy_takes_an_empty_table_first() {
 
 #[test]
 fn bisection_takes_an_empty_table_first() {
-    let run = rust::bisection(&network(&[0, 1], &[&[0], &[], &[1]]), 200, 2, vec![0; 48]).unwrap();
+    let network = network(&[0, 1], &[&[0], &[], &[1]]);
+    let run = rust::bisection(&network, 200, 2, vec![0; 48]).unwrap();
     assert_eq!((run.children, run.taken, run.missed), (vec![[1, 0], [2, 3]], 48, 0));
+    tell_if_missing();
+    if port::AT_HAND {
+        let ask = bisection::call::Ask { imbalance: 200, cutoff: 2, draws: &[0; 48] };
+        let port = bisection::call::answer(&crate::greedy::call::Given::new(&network), ask).unwrap();
+        assert_eq!(port, bisection::Answer::Tree { children: vec![[0, 1], [2, 3]], taken: 48 });
+    }
 }
 
 /// The port's improvement with no flags, k = 8, one pass and no limit, if the port is linked.

@@ -1,12 +1,15 @@
 //! The port beside the Rust that it comes from. See README.md.
 
+mod all;
 mod bench;
-mod bisect;
+mod bisection;
 mod case;
 mod compare;
+mod damage;
 mod edges;
 #[cfg(path_rs)]
 mod engine;
+mod families;
 #[cfg(all(test, path_rs))]
 mod findings;
 mod greedy;
@@ -41,7 +44,10 @@ const GREEDY_RUNS: &str = concat!(env!("CARGO_MANIFEST_DIR"), "/../crates/greedy
 /// The crate whose input and output `reconfigure-record` writes.
 const RECONF_RUNS: &str = concat!(env!("CARGO_MANIFEST_DIR"), "/../crates/reconfruns");
 
-const USAGE: &str = "usage: harness compare|greedy|reconfigure|slice [NETWORKS [SEED]] | bisect [NETWORKS [SEED [LEAVES]]] | bench | greedy-bench | reconfigure-bench | slice-bench | plan-bench | record | tree-record | greedy-record | reconfigure-record";
+/// The crate whose input and output `bisection-record` writes.
+const BISECT_RUNS: &str = concat!(env!("CARGO_MANIFEST_DIR"), "/../crates/bisectruns");
+
+const USAGE: &str = "usage: harness all [SECONDS [SEED]] | compare|greedy|bisection|reconfigure|slice [NETWORKS [SEED]] | bisect [NETWORKS [SEED [LEAVES]]] | families | damage [FILES [SEED]] | bench | price-bench | greedy-bench | bisection-bench | reconfigure-bench | slice-bench | plan-bench | record | tree-record | greedy-record | bisection-record | reconfigure-record";
 
 fn compare(count: usize, seed: u64) -> ExitCode {
     if !port::AT_HAND {
@@ -80,6 +86,7 @@ fn main() -> ExitCode {
     let words: Vec<String> = env::args().skip(1).collect();
     let number = |k: usize, usual: u64| words.get(k).map_or(Some(usual), |word| word.parse().ok());
     match (words.first().map(String::as_str), number(1, 100_000), number(2, 1)) {
+        (Some("all"), ..) => all::run(number(1, 60).unwrap_or(60), number(2, 1).unwrap_or(1)),
         (Some("compare"), Some(count), Some(seed)) => compare(count as usize, seed),
         (Some("greedy"), Some(count), Some(seed)) => greedy::run(count as usize, seed),
         (Some("greedy-bench"), ..) => {
@@ -104,7 +111,7 @@ fn main() -> ExitCode {
             ExitCode::SUCCESS
         }
         (Some("bisect"), Some(count), Some(seed)) => {
-            match bisect::run(count as usize, seed, number(3, 128).unwrap_or(128) as usize) {
+            match bisection::lines::run(count as usize, seed, number(3, 128).unwrap_or(128) as usize) {
                 Ok(()) => ExitCode::SUCCESS,
                 Err(error) => {
                     eprintln!("{error}");
@@ -112,8 +119,25 @@ fn main() -> ExitCode {
                 }
             }
         }
+        (Some("bisection"), Some(count), Some(seed)) => bisection::run(count as usize, seed),
+        (Some("bisection-bench"), ..) => {
+            bisection::bench::run();
+            ExitCode::SUCCESS
+        }
+        (Some("bisection-record"), ..) => recorded("bisectruns", bisection::record::run(Path::new(BISECT_RUNS))),
+        (Some("families"), ..) => families::run_both(),
+        (Some("damage"), Some(count), Some(seed)) => damage::run(count as usize, seed),
+        (Some("price-bench"), ..) => {
+            bench::run();
+            ExitCode::SUCCESS
+        }
         (Some("bench"), ..) => {
             bench::run();
+            greedy::bench::run();
+            bisection::bench::run();
+            reconfigure::bench::run();
+            slice::bench::run();
+            plan_bench::run();
             ExitCode::SUCCESS
         }
         (Some("record"), ..) => recorded("replay", record::run(Path::new(REPLAY))),

@@ -2,7 +2,7 @@
 #![cfg_attr(not(path_rs), allow(dead_code))]
 
 use crate::bench::Call;
-use crate::bisect::Run;
+use crate::bisection::{Run, Settled};
 use crate::case::{Case, Network, Tree};
 
 /// Whether path.rs is compiled in.
@@ -49,8 +49,8 @@ pub struct Answer {
 
 #[cfg(path_rs)]
 pub use compiled::{
-    bisection, greedy, greedy_call, plan_call, quiet_caught_panics, reconfigure, reconfigure_call, slice, slice_call,
-    tree_cost_call, valid_cost_call,
+    bisection, bisection_time, greedy, greedy_call, plan_call, quiet_caught_panics, reconfigure, reconfigure_call,
+    settled_bisection, slice, slice_call, tree_cost_call, valid_cost_call,
 };
 
 /// Runs path.rs, if it is at hand. A case without a tree is one with no internal node.
@@ -63,8 +63,8 @@ pub fn answer(case: &Case) -> Option<Answer> {
 
 #[cfg(not(path_rs))]
 pub use missing::{
-    answer, bisection, greedy, greedy_call, plan_call, quiet_caught_panics, reconfigure, reconfigure_call, slice, slice_call,
-    tree_cost_call, valid_cost_call,
+    answer, bisection, bisection_time, greedy, greedy_call, plan_call, quiet_caught_panics, reconfigure, reconfigure_call,
+    settled_bisection, slice, slice_call, tree_cost_call, valid_cost_call,
 };
 
 #[cfg(not(path_rs))]
@@ -84,6 +84,14 @@ mod missing {
     }
 
     pub fn bisection(_network: &Network, _imbalance: u32, _cutoff: usize, _words: Vec<u64>) -> Option<Run> {
+        None
+    }
+
+    pub fn settled_bisection(_network: &Network, _imbalance: u32, _cutoff: usize, _words: Vec<u64>) -> Option<Settled> {
+        None
+    }
+
+    pub fn bisection_time(_network: &Network, _imbalance: u32, _cutoff: usize, _words: &[u64]) -> Option<f64> {
         None
     }
 
@@ -122,6 +130,7 @@ mod missing {
 mod compiled {
     use super::*;
     use crate::engine::path::{self, BisectParams, ContractionTree, GreedyParams, Hypergraph};
+    use crate::engine::{self, settled};
     use rand::draws;
     use std::cell::Cell;
     use std::hint::black_box;
@@ -220,13 +229,41 @@ mod compiled {
         }))
     }
 
+    fn halving(imbalance: u32, cutoff: usize) -> BisectParams {
+        BisectParams { imbalance: imbalance as f64 / 1000.0, cutoff, ..BisectParams::default() }
+    }
+
     /// The tree of `bisection` with jitter 0, decay 0 and the imbalance in thousandths, its draws from the lent words.
     pub fn bisection(network: &Network, imbalance: u32, cutoff: usize, words: Vec<u64>) -> Option<Run> {
-        let params = BisectParams { imbalance: imbalance as f64 / 1000.0, cutoff, ..BisectParams::default() };
         draws::lend(words);
-        let tree = path::bisection(&hypergraph(network), &params, 0);
+        let tree = path::bisection(&hypergraph(network), &halving(imbalance, cutoff), 0);
         let taken = draws::taken();
         Some(Run { children: tree.children, taken: taken.words.len(), missed: taken.missed })
+    }
+
+    /// The same of path.rs's settled copy.
+    pub fn settled_bisection(network: &Network, imbalance: u32, cutoff: usize, words: Vec<u64>) -> Option<Settled> {
+        let wide = |list: &Vec<u16>| list.iter().map(|&i| i as u32).collect();
+        let weights = network.weights.iter().map(|&w| w as f64).collect();
+        let network = settled::Hypergraph::new(network.leaves.iter().map(wide).collect(), wide(&network.outputs), weights);
+        let params = settled::BisectParams { imbalance: imbalance as f64 / 1000.0, cutoff, ..settled::BisectParams::default() };
+        engine::take_wide();
+        draws::lend(words);
+        let tree = settled::bisection(&network, &params, 0);
+        let taken = draws::taken();
+        let run = Run { children: tree.children, taken: taken.words.len(), missed: taken.missed };
+        Some(Settled { run, wide_after: engine::take_wide() })
+    }
+
+    /// Microseconds of one `bisection` from these words.
+    pub fn bisection_time(network: &Network, imbalance: u32, cutoff: usize, words: &[u64]) -> Option<f64> {
+        let (network, params) = (hypergraph(network), halving(imbalance, cutoff));
+        draws::lend(words.to_vec());
+        let time = crate::greedy::bench::time(|| {
+            black_box(path::bisection(black_box(&network), &params, 0));
+        });
+        assert_eq!(draws::taken().missed, 0);
+        Some(time)
     }
 
     /// The tree that `reconfigure` leaves of a valid one, and its count of rebuilds.

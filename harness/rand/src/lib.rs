@@ -13,7 +13,10 @@ pub mod draws {
     #[derive(Default)]
     struct Words {
         lent: Option<Vec<u64>>,
-        taken: Vec<u64>,
+        /// Lent words that were taken.
+        at: usize,
+        /// Seeded words that were taken.
+        seeded: Vec<u64>,
         missed: usize,
     }
 
@@ -39,24 +42,36 @@ pub mod draws {
     /// Ends what [`lend`] or [`record`] began, and hands out what was taken.
     pub fn taken() -> Taken {
         let words = WORDS.take();
-        Taken { words: words.taken, missed: words.missed }
+        let taken = words.lent.map_or(words.seeded, |mut lent| {
+            lent.truncate(words.at);
+            lent
+        });
+        Taken { words: taken, missed: words.missed }
+    }
+
+    /// How many lent words were taken so far, unless a draw was due past them.
+    pub fn so_far() -> Option<usize> {
+        WORDS.with_borrow(|words| (words.missed == 0).then_some(words.at))
     }
 
     /// The word of one draw; `seeded` makes it where no list is lent.
     pub(crate) fn next(seeded: impl FnOnce() -> u64) -> u64 {
-        WORDS.with_borrow_mut(|words| {
-            let word = match &words.lent {
-                None => seeded(),
-                Some(lent) => match lent.get(words.taken.len()) {
-                    Some(&word) => word,
-                    None => {
-                        words.missed += 1;
-                        return 0;
-                    }
-                },
-            };
-            words.taken.push(word);
-            word
+        WORDS.with_borrow_mut(|words| match &words.lent {
+            None => {
+                let word = seeded();
+                words.seeded.push(word);
+                word
+            }
+            Some(lent) => match lent.get(words.at) {
+                Some(&word) => {
+                    words.at += 1;
+                    word
+                }
+                None => {
+                    words.missed += 1;
+                    0
+                }
+            },
         })
     }
 }

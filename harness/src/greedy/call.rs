@@ -35,7 +35,7 @@ impl Given {
     }
 
     /// Places of the tree's list that are stated.
-    fn places(&self) -> usize {
+    pub fn places(&self) -> usize {
         2 * self.leg_counts.len().saturating_sub(1)
     }
 }

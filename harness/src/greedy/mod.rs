@@ -8,6 +8,8 @@ pub mod record;
 #[cfg(test)]
 mod tests;
 
+pub use cases::wide as wide_networks;
+
 use crate::case::{Case, Network, Tree};
 use crate::{port, rust};
 use call::Given;
