@@ -1,4 +1,5 @@
-/* Loqshyber for a C host: the prices of a contraction plan, the greedy plan, a plan improved, a plan sliced, and the text of a file's plan.
+/* Loqshyber for a C host: the prices of a contraction plan, the greedy plan, the plan by bisection, a plan improved, a plan sliced, and the text
+ * of a file's plan.
  *
  * Each function but loqshyber_plan returns 0, or the number of the refusal. Each list is a pointer and a length in its own units. The pointer is not null, and is aligned
  * as C has it for the list's type; for an empty list any such pointer will do. No list that is written overlaps another. A list that is
@@ -9,10 +10,10 @@
 #include <stddef.h>
 #include <stdint.h>
 
-/* The refusals. Of a file's own the first that its bytes meet decides; of all others the lowest. */
+/* The refusals. Of a file's own the first that its bytes meet decides; of all others the lowest, but for 12 and 13, which come as the run meets them. */
 #define LOQSHYBER_TRUNCATED 1      /* a field of the file, or the file before its outputs, ends early */
 #define LOQSHYBER_WRONG_TAG 2      /* a tag that is not allowed at its place */
-#define LOQSHYBER_TOO_LARGE 3      /* over 128 leaves, 256 indices, 32 indices of a leaf or 32 outputs; over 255 passes; a target field not of one byte */
+#define LOQSHYBER_TOO_LARGE 3      /* over 128 leaves, 256 indices, 32 indices of a leaf or 32 outputs; over 255 passes; an imbalance over 1000; a target field not of one byte */
 #define LOQSHYBER_OVERWEIGHT 4     /* a weight above 8 */
 #define LOQSHYBER_OUT_OF_RANGE 5   /* an index that is not below the number of indices */
 #define LOQSHYBER_REPEATED 6       /* an index twice in a leaf or in the outputs */
@@ -21,7 +22,8 @@
 #define LOQSHYBER_INVALID_FLAGS 9  /* more flags than indices, or a flag over 1 */
 #define LOQSHYBER_TOTAL_BEYOND 10  /* improvement and slicing: the total is 2^53 or more */
 #define LOQSHYBER_DANGLING 11      /* improvement, and slicing with it: an index that just one leaf names, and that is no output */
-#define LOQSHYBER_TABLE_TOO_WIDE 12 /* greedy: a scored pair has a table, or makes one, of over 40 bits */
+#define LOQSHYBER_TABLE_TOO_WIDE 12 /* greedy, and bisection's small ends: a scored pair has a table, or makes one, of over 40 bits */
+#define LOQSHYBER_DRAWS_EXHAUSTED 13 /* bisection: a draw is due and no word is left */
 
 /* loqshyber_price reads a network file with its tree, and flags if it has them, and writes the plan's listing to `out`.
  * It refuses 1 to 9; a file of two leaves or more without a tree is refused 8. After a refusal `out` is as it was.
@@ -78,6 +80,24 @@ uint32_t loqshyber_tree_cost(const uint8_t *weights, size_t weights_length, cons
 uint32_t loqshyber_greedy(const uint8_t *weights, size_t weights_length, const uint8_t *leg_counts, size_t leg_counts_length,
     const uint16_t *legs, size_t legs_length, const uint16_t *outputs, size_t outputs_length, uint16_t *tree, size_t tree_length,
     uint64_t *ws, size_t ws_length);
+
+/* loqshyber_bisection plans a network in memory, which is read as above, by recursive bisection: the leaves are halved by a partition of their hypergraph,
+ * each half again, down to at most `cutoff` leaves (less than 2 counts as 2), which are planned as loqshyber_greedy plans.
+ *
+ *   draws        the words that stand for a random generator's; a draw takes one, from the front on
+ *   imbalance    0 to 1000, in thousandths: a side of n leaves may have n / 2 and so much of n / 2 more, but at least n / 2 + 1, and no more than 95 of a hundred
+ *                where that is more than n / 2 + 1; less than 1 counts as 1, more than 900 as 900
+ * What is written:
+ *   tree         the left and the right child of each inner node, n - 1 nodes from the front; after a refusal `tree` is as it was
+ *   ws           LOQSHYBER_BISECTION_WORDS words, 0 afterwards; after refusals 3 to 7 as they were
+ *   answer       LOQSHYBER_TAKEN number: how many words of `draws` were taken; after a refusal as it was
+ * It refuses 3 to 7 for what it is lent, 12 as loqshyber_greedy does, and 13 where a draw is due and no word is left. */
+#define LOQSHYBER_BISECTION_WORDS 32768
+#define LOQSHYBER_TAKEN 1
+
+uint32_t loqshyber_bisection(const uint8_t *weights, size_t weights_length, const uint8_t *leg_counts, size_t leg_counts_length,
+    const uint16_t *legs, size_t legs_length, const uint16_t *outputs, size_t outputs_length, const uint64_t *draws, size_t draws_length,
+    uint16_t *tree, size_t tree_length, uint64_t *ws, size_t ws_length, uint64_t *answer, size_t answer_length, size_t imbalance, size_t cutoff);
 
 /* loqshyber_reconfigure improves a tree of a network in memory, which is read as above with its flags: `passes` passes over its nodes, of which the last is the
  * first that rebuilds nothing. The part of the tree below a node, down to at most `k` tables (3 to 12: less counts as 3, more as 12), is rebuilt where
