@@ -1,10 +1,10 @@
 -- What the entry answers: number and values of each case; the call once the network is accepted; laws of both. Assumes nothing.
 use mathlib.Core.Path.{_≡_, refl, sym, _∙_, ap}
-use mathlib.Core.List.{List, [], _∷_, _++_}
+use mathlib.Core.List.{List, [], _∷_}
 use mathlib.Core.Option.{none}
 use Prim.Native.Nat.{ℕ, _≤_, _<_}
 use native.Mathlib.Omega.{arith}
-use lib.ListN.{length, take, drop, take-append-drop}
+use lib.ListN.{length}
 use borrow.Author.Tests.{lt-ltb, le-ltb}
 use Rattle.spec.specs.Memory.{cleared}
 use Rattle.spec.specs.Network.{Network, refusalOf}
@@ -12,9 +12,8 @@ use Rattle.spec.specs.Tree.{Pair, flatOf}
 use Rattle.spec.specs.Refusal.{Refusal, tableTooWide, numberOf, codeOf, Result, refused, done, checked}
 use Rattle.spec.specs.Calls.{Lent, lent, lengthCheck, plainWords, treePlaces, greedyCall, workspaceAfter, greedyTree}
 use Rattle.spec.specs.Greedy.{greedy}
-use Rattle.merging.specs.Removed.{flat-length}
 use Rattle.walk.specs.Entry.{Untouched, answers, same-words, same-list, done-words, refused-words, by-network, past-network, by-length, past-length}
-use Rattle.greedy.specs.Whole.{Grown, isLeft, isGrown, over-front}
+use Rattle.greedy.specs.Whole.{Grown, isLeft, isGrown}
 use Rattle.greedy.specs.declared.Planned.{Planned}
 
 -- refused by number, or done
@@ -78,33 +77,32 @@ module _ (N : Network) (tree ws : List ℕ) where
   pub answer-few-places : plainWords ≤ length ws → length tree < treePlaces N → Answers N tree tree ws ws (Planned.Refused 7)
   answer-few-places h q = quiet (few-places N (length ws) (length tree) h q)
 
-  -- greedy ran over the front of the tree's list, and the stated words are cleared
+  -- greedy ran, and the stated words are cleared
   module _ (h : plainWords ≤ length ws) (q : treePlaces N ≤ length tree) (ws′ : List ℕ) (ew : ws′ ≡ cleared ws plainWords)
-      (places : ℕ) (ep : places ≡ treePlaces N) (y : List ℕ) (r : ℕ) (grown : Grown N (take places tree) y r)
+      (y : List ℕ) (r : ℕ) (grown : Grown N tree y r)
     where
-      pub answer-refused : r ≡ 65536 → Answers N tree (y ++ drop places tree) ws ws′ (Planned.Refused 12)
+      pub answer-refused : r ≡ 65536 → Answers N tree y ws ws′ (Planned.Refused 12)
       answer-refused e = go grown
         where
-          go : Grown N (take places tree) y r → Answers N tree (y ++ drop places tree) ws ws′ (Planned.Refused 12)
+          go : Grown N tree y r → Answers N tree y ws ws′ (Planned.Refused 12)
           go (isLeft z g w) =
               let c : call ≡ refused tableTooWide = greedy-runs N (length ws) (length tree) h q ∙ g in
               record {
                 answer = sym (ap plannedOf c);
-                plan = ap (λ (l : List ℕ). l ++ drop places tree) w ∙ take-append-drop places tree ∙ sym (ap (λ (x : Result (List Pair)). greedyTree x tree) c);
+                plan = w ∙ sym (ap (λ (x : Result (List Pair)). greedyTree x tree) c);
                 workspace = refused-words plainWords ws ws′ ew call tableTooWide refl c;
               }
           go (isGrown z a g w l) = absurd (omega arith)
 
-      pub answer-done : (r ≡ 65536 → ⊥) → Answers N tree (y ++ drop places tree) ws ws′ Planned.Done
+      pub answer-done : (r ≡ 65536 → ⊥) → Answers N tree y ws ws′ Planned.Done
       answer-done n = go grown
         where
-          go : Grown N (take places tree) y r → Answers N tree (y ++ drop places tree) ws ws′ Planned.Done
+          go : Grown N tree y r → Answers N tree y ws ws′ Planned.Done
           go (isLeft z g w) = absurd (n z)
           go (isGrown z a g w l) =
               let c : call ≡ done a = greedy-runs N (length ws) (length tree) h q ∙ g in
               record {
                 answer = sym (ap plannedOf c);
-                plan = over-front tree y (flatOf a) places w (omega (arith, ep, l, flat-length a)) (omega (arith, ep, q))
-                    ∙ sym (ap (λ (x : Result (List Pair)). greedyTree x tree) c);
+                plan = w ∙ sym (ap (λ (x : Result (List Pair)). greedyTree x tree) c);
                 workspace = done-words plainWords ws ws′ ew call a c;
               }

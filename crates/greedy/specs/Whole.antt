@@ -1,10 +1,10 @@
 -- Greedy over all leaves of a network, from greedy over a list of leaves. Assumes nothing.
 use mathlib.Core.Path.{_≡_, refl, sym, _∙_, ap, subst}
-use mathlib.Core.List.{List, [], _∷_, _++_, append-nil}
-use Prim.Native.Nat.{ℕ, _-_, _≤_, _<_}
+use mathlib.Core.List.{List, [], _∷_}
+use Prim.Native.Nat.{ℕ, _-_, _*_, _≤_, _<_}
 use native.Mathlib.Omega.{arith}
 use native.Mathlib.Decide.{decLe}
-use lib.ListN.{length, getD, take, drop, drop-of-length-le, List·getD-eq-default}
+use lib.ListN.{length, getD, take, List·getD-eq-default}
 use lib.Seq.{ext-getD, getD-take, length-take-le}
 use Rattle.spec.specs.Lists.{memb, count, range}
 use Rattle.spec.specs.Memory.{over}
@@ -15,18 +15,19 @@ use Rattle.spec.specs.Refusal.{tableTooWide, refused, done}
 use Rattle.spec.specs.Greedy.{arrayOf, leavesOf, greedyFrom, greedy}
 use Rattle.laws.specs.ListLaws.{from-memb, range-length}
 use Rattle.laws.specs.GreedyForest.{leaves-single}
-use Rattle.cells.specs.Cells.{over-fits}
+use Rattle.merging.specs.Removed.{flat-length}
 use Rattle.network.specs.Layouts.{layout-leaf-count}
 use Rattle.network.specs.Checks.{Lent}
 use Rattle.network.specs.Codes.{Facts}
 use Rattle.slots.specs.Weigh.{Light}
-use Rattle.parts.specs.Parts.{part, back, low, low-length, part-length, back-there}
-use Rattle.parts.specs.Lists.{nodesIn}
+use Rattle.parts.specs.Parts.{part, back, low, low-length, part-length, part-front, back-there, back-after}
+use Rattle.parts.specs.Lists.{nodesIn, frontIn, kidsIn}
 use Rattle.start.specs.Leaves.{putAll, put-length, put-at}
 use Rattle.greedynodes.specs.Lends.{lends-layout}
 use Rattle.greedynodes.specs.Begin.{range-at, Fits, Asks}
 use Rattle.greedynodes.specs.Ends.{Greedied, isRefused, isBuilt}
 use Rattle.greedynodes.specs.Within.{leavesIn}
+use Rattle.greedynodes.specs.Copied.{copiedTo, copied-over}
 
 -- what greedy over all leaves answers: 65536 if it is refused; else the children of the array stand at the front of `kids`
 pub data Whole (N : Network) (kids₀ kids : List ℕ) (r : ℕ) : Type 0 where
@@ -47,11 +48,11 @@ counted-range l n h =
     ∙ sym (range-at 0 n i (omega (arith, e)) ∙ omega arith))
 
 -- they stand where greedy wants its leaves
-pub leaves-counted : (ws y : List ℕ) (n : ℕ) → 2064 ≤ length ws → n ≤ 128 → length y ≡ length (part 1040 256 ws)
-    → low y ≡ putAll (λ i. i) (nodesIn ws) n → leavesIn n (back 1040 256 ws y) ≡ range n
+pub leaves-counted : (ws y : List ℕ) (n : ℕ) → 2320 ≤ length ws → n ≤ 128 → length y ≡ length (part 1040 256 ws)
+    → low y ≡ putAll (λ i. i) (nodesIn ws) n → leavesIn n (frontIn (back 1040 256 ws y)) ≡ range n
 leaves-counted ws y n h b e p =
     let l : length (part 1040 256 ws) ≡ 256 = part-length 1040 256 ws (omega arith) in
-    ap (λ (x : List ℕ). take n (low x)) (back-there 1040 256 ws y (omega arith) (e ∙ l)) ∙ ap (take n) p
+    ap (λ (x : List ℕ). take n (low x)) (part-front 1040 256 2064 (back 1040 256 ws y) (omega arith) ∙ back-there 1040 256 ws y (omega arith) (e ∙ l)) ∙ ap (take n) p
     ∙ counted-range (nodesIn ws) n (omega (arith, b, l, low-length (part 1040 256 ws)))
 
 nothing-over : (l : List ℕ) → l ≡ over l []
@@ -77,7 +78,7 @@ module _ (m n o : ℕ) (weights counts cells outputs : List ℕ) (lent : Lent we
     leaves-many = ap length all-leaves ∙ range-length 0 n
 
     -- the lengths fit, for sets of four words
-    pub whole-fits : (ws : List ℕ) → 2064 ≤ length ws → Fits 4 n 0 (take m weights) (take o outputs) leaves ws
+    pub whole-fits : (ws : List ℕ) → 2320 ≤ length ws → Fits 4 n 0 (take m weights) (take o outputs) leaves ws
     whole-fits ws h =
         record {
           width = omega arith;
@@ -111,9 +112,9 @@ module _ (m n o : ℕ) (weights counts cells outputs : List ℕ) (lent : Lent we
         (ap range (layout-leaf-count m n o weights counts cells outputs) ∙ sym all-leaves)
 
     pub whole-answer : (kids₀ kids : List ℕ) (r : ℕ)
-        → ((N : Network) (a : List Pair) → Asks N a n 0 (take m weights) counts cells (take o outputs) leaves kids₀ → Greedied N a leaves kids₀ kids r)
+        → (Asks N [] n 0 (take m weights) counts cells (take o outputs) leaves kids₀ → Greedied N [] leaves kids₀ kids r)
         → Whole N kids₀ kids r
-    whole-answer kids₀ kids r f = go (f N [] (asks kids₀))
+    whole-answer kids₀ kids r f = go (f (asks kids₀))
       where
         go : Greedied N [] leaves kids₀ kids r → Whole N kids₀ kids r
         go (isRefused e q) = isTooWide e (greedy-is ∙ ap arrayOf q)
@@ -121,37 +122,27 @@ module _ (m n o : ℕ) (weights counts cells outputs : List ℕ) (lent : Lent we
             isPlan h (b .pairs) (greedy-is ∙ ap arrayOf q) w
             (omega (arith, k, leaves-many, layout-leaf-count m n o weights counts cells outputs))
 
--- ---- the tree, kept meanwhile ----
+pub whole-entry : {N : Network} {w₀ w₁ w : List ℕ} {r : ℕ} → w₁ ≡ w₀ → Whole N w₁ w r → Whole N w₀ w r
+whole-entry {N} {w₀} {w₁} {w} {r} e g = subst (λ (x : List ℕ). Whole N x w r) e g
 
--- a list that was kept in words is back: w are the words before, y those that hold it
-pub put-back : (tree tree₁ tree₂ w y y′ : List ℕ) → length tree ≤ length w → low y ≡ putAll (λ i. getD tree i 0) (low w) (length tree) → y′ ≡ y
-    → length tree₁ ≡ length tree → tree₂ ≡ putAll (λ i. getD (low y′) i 0) tree₁ (length tree₁) → tree₂ ≡ tree
-put-back tree tree₁ tree₂ w y y′ b ek ey e q =
-    let l : length tree₂ ≡ length tree = ap length q ∙ put-length (λ i. getD (low y′) i 0) tree₁ (length tree₁) ∙ e in
-    ext-getD 0 tree₂ tree l (λ i h.
-    ap (λ (x : List ℕ). getD x i 0) q ∙ put-at (λ i. getD (low y′) i 0) tree₁ (length tree₁) i (omega (arith, l, e)) (omega (arith, l, e))
-    ∙ ap (λ (x : List ℕ). getD (low x) i 0) ey ∙ ap (λ (x : List ℕ). getD x i 0) ek
-    ∙ put-at (λ i. getD tree i 0) (low w) (length tree) i (omega (arith, l)) (omega (arith, l, b, low-length w)))
+-- the numbers do not touch the children's words
+pub kids-same : (ws y : List ℕ) → 2320 ≤ length ws → length y ≡ length (part 1040 256 ws) → kidsIn (back 1040 256 ws y) ≡ kidsIn ws
+kids-same ws y h e = ap low (back-after 1040 256 ws y (omega arith) (e ∙ part-length 1040 256 ws (omega arith)) 2064 256 (omega arith))
 
-module _ (N : Network) (tree tree₁ : List ℕ) (r : ℕ) (whole : Whole N tree tree₁ r) where
-  pub grown-left : r ≡ 65536 → (tree₂ : List ℕ) → tree₂ ≡ tree → Grown N tree tree₂ 65536
-  grown-left e tree₂ q = go whole
+-- ---- the children, copied out ----
+
+module _ (N : Network) (tree w₀ w : List ℕ) (r : ℕ) (whole : Whole N w₀ w r) where
+  pub grown-left : r ≡ 65536 → Grown N tree tree 65536
+  grown-left e = go whole
     where
-      go : Whole N tree tree₁ r → Grown N tree tree₂ 65536
-      go (isTooWide z g) = isLeft refl g q
-      go (isPlan z a g w l) = absurd (omega arith)
+      go : Whole N w₀ w r → Grown N tree tree 65536
+      go (isTooWide z g) = isLeft refl g refl
+      go (isPlan z a g v l) = absurd (omega arith)
 
-  pub grown-whole : (r ≡ 65536 → ⊥) → Grown N tree tree₁ r
-  grown-whole n = go whole
+  pub grown-whole : (r ≡ 65536 → ⊥) → (n : ℕ) → n ≡ (leafCount N - 1) * 2 → n ≤ length w₀ → (tree′ : List ℕ) → tree′ ≡ copiedTo tree 0 w n → Grown N tree tree′ r
+  grown-whole x n en b tree′ et = go whole
     where
-      go : Whole N tree tree₁ r → Grown N tree tree₁ r
-      go (isTooWide z g) = absurd (n z)
-      go (isPlan z a g w l) = isGrown z a g w l
-
--- the front of a list was written over
-pub over-front : (tree y s : List ℕ) (places : ℕ) → y ≡ over (take places tree) s → places ≡ length s → places ≤ length tree → y ++ drop places tree ≡ over tree s
-over-front tree y s places e h b =
-    let p : length (take places tree) ≡ places = length-take-le places tree b in
-    ap (λ (l : List ℕ). l ++ drop places tree)
-    (e ∙ over-fits (take places tree) s (omega (arith, h, p)) ∙ ap (λ (l : List ℕ). s ++ l) (drop-of-length-le (take places tree) {i = length s} (omega (arith, h, p))) ∙ append-nil s)
-    ∙ ap (λ (k : ℕ). s ++ drop k tree) h ∙ sym (over-fits tree s (omega (arith, h, b)))
+      go : Whole N w₀ w r → Grown N tree tree′ r
+      go (isTooWide z g) = absurd (x z)
+      go (isPlan z a g v l) =
+          isGrown z a g (et ∙ copied-over tree [] w₀ w (flatOf a) n (nothing-over tree) v (omega (arith, flat-length a, l, en)) b) l

@@ -1,14 +1,13 @@
 // The greedy plan.
 ghost use mathlib.Core.Path.{_≡_};
 ghost use Prim.Native.Nat.{_≤_};
-ghost use lib.ListN.{length, getD};
+ghost use lib.ListN.{length};
 ghost use Rattle.spec.specs.Layout.{networkOf};
 ghost use Rattle.spec.specs.Calls.{plainWords, greedyCall, greedyTree, workspaceAfter};
 ghost use Rattle.network.specs.Record.{netOf};
 ghost use Rattle.network.specs.Checks.{Lent};
 ghost use Rattle.network.specs.Codes.{Facts};
-ghost use Rattle.parts.specs.Parts.{low};
-ghost use Rattle.start.specs.Leaves.{putAll};
+ghost use Rattle.parts.specs.Lists.{kidsIn};
 ghost use Rattle.greedy.specs.Whole.{Whole, Grown};
 ghost use Rattle.greedy.specs.Answers.{plannedOf, Answers};
 use merging::REFUSED;
@@ -22,7 +21,8 @@ pub enum Planned {
     Done,
 }
 
-// Greedy over all leaves of an accepted network, whose children are put at the front of `kids`. Returns REFUSED where a scored pair is too wide.
+// Greedy over all leaves of an accepted network, whose children are put into the words behind greedy's lists. Returns REFUSED where a scored
+// pair is too wide.
 fn greedy_all<'a>(
     ws: &mut [u64],
     m: usize,
@@ -32,36 +32,15 @@ fn greedy_all<'a>(
     counts: &'a [u8],
     legs: &'a [u16],
     outputs: &'a [u16],
-    kids: &mut [u16],
 ) -> usize
-    requires { ⌜ Lent (now weights) (now counts) (now legs) (now outputs) × Facts m n o (now weights) (now counts) (now legs) (now outputs) × (2064 ≤ length (now ws)) ⌝ }
-    ensures { λ r. ⌜ Whole (networkOf m n o (now (weights .entry)) (now (counts .entry)) (now (legs .entry)) (now (outputs .entry))) (now (kids .entry)) (now (kids .exit)) r ⌝ }
+    requires { ⌜ Lent (now weights) (now counts) (now legs) (now outputs) × Facts m n o (now weights) (now counts) (now legs) (now outputs) × (2320 ≤ length (now ws)) ⌝ }
+    ensures { λ r. ⌜ Whole (networkOf m n o (now (weights .entry)) (now (counts .entry)) (now (legs .entry)) (now (outputs .entry))) (kidsIn (now (ws .entry))) (kidsIn (now (ws .exit))) r ⌝ }
 {
     start::count_words(&mut ws[1040..1296], n);
-    greedynodes::greedy_words(
-        ws,
-        4,
-        &weights[..m],
-        n,
-        counts,
-        legs,
-        &outputs[..o],
-        n,
-        kids,
-        0,
-    )
+    greedynodes::greedy_words(ws, 4, &weights[..m], n, counts, legs, &outputs[..o], n, 0)
 }
 
-// Puts the numbers that were kept in words back into a list.
-fn put_back(list: &mut [u16], words: &[u64])
-    ensures { λ _. ⌜ now (list .exit) ≡ putAll (λ i. getD (low (now (words .entry))) i 0) (now (list .entry)) (length (now (list .entry))) ⌝ }
-{
-    for i in 0..list.len() {
-        cells::put16(list, i, parts::get_low(words, i));
-    }
-}
-
-// The same, with `tree` as it was where a scored pair is too wide: what it holds is kept in the words past greedy's own.
+// The same, with the children copied to `tree` where a tree is built.
 fn greedy_tree<'a>(
     ws: &mut [u64],
     m: usize,
@@ -73,25 +52,14 @@ fn greedy_tree<'a>(
     outputs: &'a [u16],
     tree: &mut [u16],
 ) -> usize
-    requires { ⌜ Lent (now weights) (now counts) (now legs) (now outputs) × Facts m n o (now weights) (now counts) (now legs) (now outputs) × (2320 ≤ length (now ws)) × (length (now tree) ≤ 256) ⌝ }
+    requires { ⌜ Lent (now weights) (now counts) (now legs) (now outputs) × Facts m n o (now weights) (now counts) (now legs) (now outputs) × (2320 ≤ length (now ws)) ⌝ }
     ensures { λ r. ⌜ Grown (networkOf m n o (now (weights .entry)) (now (counts .entry)) (now (legs .entry)) (now (outputs .entry))) (now (tree .entry)) (now (tree .exit)) r ⌝ }
 {
-    start::put_numbers(&mut ws[2064..2320], tree);
-    let r = greedy_all(
-        &mut ws[0..2064],
-        m,
-        n,
-        o,
-        weights,
-        counts,
-        legs,
-        outputs,
-        tree,
-    );
+    let r = greedy_all(ws, m, n, o, weights, counts, legs, outputs);
     if r == REFUSED {
-        put_back(tree, &ws[2064..2320]);
         return REFUSED;
     }
+    greedynodes::copy_out(tree, 0, &ws[2064..2320], cells::less(n, 1) * 2);
     r
 }
 
@@ -134,7 +102,7 @@ fn greedy_in<'a>(
         counts,
         legs,
         outputs,
-        &mut tree[..places],
+        tree,
     );
     cells::clear(ws, words);
     if r == REFUSED {

@@ -94,7 +94,7 @@ pub record Fits (w n made : ℕ) (weights outputs leaves ws : List ℕ) : Type 0
   pub leafSets : n ≤ w * 64
   pub few : length leaves ≤ 128
   pub outputsFit : length outputs ≤ 4294967296
-  pub words : 2064 ≤ length ws
+  pub words : 2320 ≤ length ws
   pub array : made < 8192
 
 -- what greedy over a list of leaves is given: the leaves are some of the network's, each once; the array so far has `made` nodes

@@ -3,3 +3,4 @@ pub mod Lends
 pub mod Begin
 pub mod Ends
 pub mod Within
+pub mod Copied

@@ -7,12 +7,13 @@ ghost use lib.ListN.{length, getD, take};
 ghost use Rattle.spec.specs.Memory.{over};
 ghost use Rattle.slots.specs.Weigh.{Light};
 ghost use Rattle.parts.specs.Parts.{low};
-ghost use Rattle.parts.specs.Lists.{nodesIn, sizesIn, liveIn, rowsIn, listsIn};
+ghost use Rattle.parts.specs.Lists.{nodesIn, sizesIn, liveIn, rowsIn, frontIn, listsIn};
 ghost use Rattle.rows.specs.Rows.{leastOf};
 ghost use Rattle.merging.specs.Listed.{remaining};
 ghost use Rattle.merging.specs.Removed.{keptAt, placeAfter};
 ghost use Rattle.merging.specs.Holds.{Given, Ghost};
 ghost use Rattle.merging.specs.Connect.{Start, Connected};
+ghost use Rattle.merging.specs.Scans.{kidsBehind};
 ghost use Rattle.merging.specs.Merge.{firstAt, secondAt, marked, withNode, scannedIn, mergedIn};
 use rows::GONE;
 use rows::STALE;
@@ -78,6 +79,21 @@ pub fn put_node(kids: &mut [u16], count: usize, l: u16, r: u16)
     cells::put16(kids, count * 2 + 1, r);
 }
 
+// The same in words.
+pub fn put_children(kids: &mut [u64], i: usize, l: u16, r: u16)
+    requires { ⌜ i < 1048576 ⌝ }
+    ensures { λ _. ⌜ low (now (kids .exit)) ≡ withNode (low (now (kids .entry))) i l r ⌝ }
+{
+    parts::put_low(kids, i * 2, l);
+    parts::put_low(kids, i * 2 + 1, r);
+}
+
+// The numbers of two tables that make one.
+struct Children {
+    left: u16,
+    right: u16,
+}
+
 // Merges the tables of the pair that stands for `y` into slot `z`.
 fn merge(
     ws: &mut [u64],
@@ -87,25 +103,24 @@ fn merge(
     y: usize,
     z: usize,
     m: usize,
-    kids: &mut [u16],
     count: usize,
-)
+) -> Children
     requires { ⌜ (w ≤ 16) × (y < 65536) × (z < 65536) × (m ≤ 256) × (n + count < 65536) × (2064 ≤ length (now ws)) ⌝ }
-    ensures lists { λ _. ⌜ listsIn (now (ws .exit)) ≡ mergedIn w n0 y z m (n + count) (listsIn (now (ws .entry))) ⌝ }
-    ensures children { λ _. ⌜ now (kids .exit) ≡ withNode (now (kids .entry)) count (getD (nodesIn (now (ws .entry))) (firstAt n0 (rowsIn (now (ws .entry))) y) 0) (getD (nodesIn (now (ws .entry))) (secondAt n0 (rowsIn (now (ws .entry))) y) 0) ⌝ }
+    ensures lists { λ r. ⌜ listsIn (now (ws .exit)) ≡ mergedIn w n0 y z m (n + count) (listsIn (now (ws .entry))) ⌝ }
+    ensures children { λ r. ⌜ (r .left ≡ getD (nodesIn (now (ws .entry))) (firstAt n0 (rowsIn (now (ws .entry))) y) 0) × (r .right ≡ getD (nodesIn (now (ws .entry))) (secondAt n0 (rowsIn (now (ws .entry))) y) 0) ⌝ }
 {
     let r = scores::at(&ws[1808..2064], y);
     let x = r % 512;
     let f = scores::first(n0, x, y);
     let g = scores::second(n0, x, y);
-    let a = parts::get_low(&ws[1040..1296], f);
-    let b = parts::get_low(&ws[1040..1296], g);
-    put_node(kids, count, a, b);
+    let left = parts::get_low(&ws[1040..1296], f);
+    let right = parts::get_low(&ws[1040..1296], g);
     live::put_merged(&mut ws[0..1040], w, f, g, z);
     parts::put_low(&mut ws[1040..1296], z, (n + count) as u16);
     cells::put64(&mut ws[1296..1552], z, (r / 512) as u64);
     mark(&mut ws[1808..2064], f, g, z);
     replace(&mut ws[1552..1808], m, f, g, z);
+    Children { left, right }
 }
 
 // Scans the first `m` live tables for the least pair of all: the table that has it, NONE, or TOO_WIDE.
@@ -120,31 +135,24 @@ fn scan(ws: &mut [u64], w: usize, weights: &[u8], n0: usize, m: usize) -> usize
 }
 
 // Merges the least pair of the `n0` live tables and its like until none share an index, and returns how many merges there were, or REFUSED.
-// The array so far has `count` nodes, and each merge puts one more after them.
-pub fn connect(
-    ws: &mut [u64],
-    w: usize,
-    weights: &[u8],
-    n: usize,
-    n0: usize,
-    kids: &mut [u16],
-    count: usize,
-) -> usize
-    requires { ⌜ (w ≤ 16) × Light (now weights) × (n0 ≤ 256) × (n < 16384) × (count < 16384) × (2064 ≤ length (now ws)) ⌝ }
+// The array so far has `count` nodes. Each merge makes one more, whose children are put into the words behind the lists.
+pub fn connect(ws: &mut [u64], w: usize, weights: &[u8], n: usize, n0: usize, count: usize) -> usize
+    requires { ⌜ (w ≤ 16) × Light (now weights) × (n0 ≤ 256) × (n < 16384) × (count < 16384) × (2320 ≤ length (now ws)) ⌝ }
     ensures { λ r. ⌜ ((r ≡ 65536 → ⊥) → r ≤ n0) ⌝ }
-    ensures { λ r. ⌜ ((G : Given) (S : Ghost) → Start G S (listsIn (now (ws .entry))) w n n0 count (now (weights .entry)) (now (kids .entry)) → Connected G S (now (kids .entry)) (nodesIn (now (ws .exit))) (sizesIn (now (ws .exit))) (liveIn (now (ws .exit))) (now (kids .exit)) r) ⌝ }
+    ensures { λ r. ⌜ ((G : Given) (S : Ghost) → Start G S (listsIn (frontIn (now (ws .entry)))) w n n0 count (now (weights .entry)) (kidsBehind S (now (ws .entry))) → Connected G S (kidsBehind S (now (ws .entry))) (nodesIn (frontIn (now (ws .exit)))) (sizesIn (frontIn (now (ws .exit)))) (liveIn (frontIn (now (ws .exit)))) (kidsBehind S (now (ws .exit))) r) ⌝ }
 {
     let mut t: usize = 0;
     while t < n0 {
         let m = n0 - t;
-        let y = scan(ws, w, weights, n0, m);
+        let y = scan(&mut ws[0..2064], w, weights, n0, m);
         if y == TOO_WIDE {
             return REFUSED;
         }
         if y == NONE {
             return t;
         }
-        merge(ws, w, n, n0, y, n0 + t, m, kids, count + t);
+        let c = merge(&mut ws[0..2064], w, n, n0, y, n0 + t, m, count + t);
+        put_children(&mut ws[2064..2320], t, c.left, c.right);
         t += 1;
     }
     t

@@ -33,6 +33,13 @@ liveIn ws = low (part 1552 256 ws)
 abbrev pub rowsIn : List ℕ → List ℕ
 rowsIn ws = part 1808 256 ws
 
+-- the words of all five, and behind them 256 for the children of new nodes
+abbrev pub frontIn : List ℕ → List ℕ
+frontIn ws = part 0 2064 ws
+
+abbrev pub kidsIn : List ℕ → List ℕ
+kidsIn ws = low (part 2064 256 ws)
+
 abbrev pub listsIn : List ℕ → Lists
 listsIn ws = listsOf (setsIn ws) (nodesIn ws) (sizesIn ws) (liveIn ws) (rowsIn ws)
 
@@ -106,3 +113,14 @@ module _ (ws y : List ℕ) (h : 2064 ≤ length ws) where
       (back-before 1808 256 ws y (omega arith) q 1296 256 (omega arith))
       (ap low (back-before 1808 256 ws y (omega arith) q 1552 256 (omega arith)))
       (back-there 1808 256 ws y (omega arith) q)
+
+module _ (ws y : List ℕ) (h : 2320 ≤ length ws) where
+  pub front-back : length y ≡ length (frontIn ws) → (frontIn (back 0 2064 ws y) ≡ y) × (kidsIn (back 0 2064 ws y) ≡ kidsIn ws)
+  front-back e =
+      let q : length y ≡ 2064 = e ∙ part-length 0 2064 ws (omega arith) in
+      (back-there 0 2064 ws y (omega arith) q, ap low (back-after 0 2064 ws y (omega arith) q 2064 256 (omega arith)))
+
+  pub kids-back : length y ≡ length (part 2064 256 ws) → (frontIn (back 2064 256 ws y) ≡ frontIn ws) × (kidsIn (back 2064 256 ws y) ≡ low y)
+  kids-back e =
+      let q : length y ≡ 256 = e ∙ part-length 2064 256 ws (omega arith) in
+      (back-before 2064 256 ws y (omega arith) q 0 2064 (omega arith), ap low (back-there 2064 256 ws y (omega arith) q))

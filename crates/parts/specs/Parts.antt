@@ -22,6 +22,13 @@ module _ {A : Type 0} where
   pub part-enough : (a k m : ℕ) (l : List A) → a + k ≤ length l → m ≤ k → m ≤ length (part a k l)
   part-enough a k m l h q = omega (arith, part-length a k l h)
 
+  -- a part of the front
+  pub part-front : (b j a : ℕ) (l : List A) → b + j ≤ a → part b j (take a l) ≡ part b j l
+  part-front zero j a l q = take-take j a l (omega arith)
+  part-front (suc b) j zero l q = absurd (omega arith)
+  part-front (suc b) j (suc a) [] q = refl
+  part-front (suc b) j (suc a) (x ∷ l) q = part-front b j a l (omega arith)
+
   module _ (a k : ℕ) (l y : List A) (h : a + k ≤ length l) (e : length y ≡ k) where
     front : length (take a l) ≡ a
     front = length-take-le a l (omega arith)
@@ -38,13 +45,7 @@ module _ {A : Type 0} where
     back-before b j q =
         ap (take j) (drop-append-le b (take a l) (y ++ drop k (drop a l)) (omega (arith, front)))
         ∙ take-append-le j (drop b (take a l)) (y ++ drop k (drop a l)) (omega (arith, front, length-drop b (take a l)))
-        ∙ take-drop b j a l q
-      where
-        take-drop : (b j a : ℕ) (l : List A) → b + j ≤ a → take j (drop b (take a l)) ≡ take j (drop b l)
-        take-drop zero j a l q = take-take j a l (omega arith)
-        take-drop (suc b) j zero l q = absurd (omega arith)
-        take-drop (suc b) j (suc a) [] q = refl
-        take-drop (suc b) j (suc a) (x ∷ l) q = take-drop b j a l (omega arith)
+        ∙ part-front b j a l q
 
     -- after it
     pub back-after : (b j : ℕ) → a + k ≤ b → part b j (back a k l y) ≡ part b j l

@@ -1,6 +1,6 @@
 -- Greedy's start in lent lists: the leaves' tables in slots with their sizes, and the indices that stay whatever is merged. Assumes nothing.
 use mathlib.Core.Bool.{Bool, true, false, not, _&&_, _||_, cond, or-assoc, or-false}
-use mathlib.Core.Path.{_≡_, refl, sym, _∙_, ap, ap₂, fun-ext}
+use mathlib.Core.Path.{_≡_, refl, sym, _∙_, ap, fun-ext}
 use mathlib.Core.List.{List, []}
 use Prim.Native.Nat.{ℕ, zero, suc, _+_, _*_, _≤_, _<_}
 use native.Mathlib.Omega.{arith}
@@ -142,12 +142,6 @@ module _ (W : ℕ) (counts legs ws outputs : List ℕ) where
       outside e j =
           or-assoc (among outputs 0 (length outputs) j) (others counts legs (held ws W 257) k j) (leafSet counts legs k j)
           ∙ ap (λ (b : Bool). among outputs 0 (length outputs) j || (others counts legs (held ws W 257) k j || (not b && leafSet counts legs k j))) (sym e)
-
-pub outside-end : (W : ℕ) (counts legs leaves ws outputs base r : List ℕ) (k n : ℕ) → k ≡ n → r ≡ outsideTo W counts legs base outputs k
-    → base ≡ withInside W leaves ws → r ≡ withOutside W counts legs leaves ws outputs n
-unfolding withOutside
-outside-end W counts legs leaves ws outputs base r k n e h b =
-    h ∙ ap₂ (λ (z : List ℕ) (c : ℕ). outsideTo W counts legs z outputs c) b e
 
 -- the sizes of the first n slots
 unfoldable pub withSizes : List ℕ → ℕ → List ℕ → List ℕ → ℕ → List ℕ

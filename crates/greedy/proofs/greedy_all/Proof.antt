@@ -1,6 +1,9 @@
 -- Assumes nothing.
 use borrow.Author.Needs.{needs}
-use Rattle.greedy.specs.Whole.{leaves-counted, whole-fits, whole-light, whole-answer}
+use Rattle.greedy.specs.Whole.{leaves-counted, whole-fits, whole-light, whole-answer, whole-entry, kids-same}
+use Rattle.spec.specs.Layout.{networkOf}
+use Rattle.spec.specs.Tree.{flatOf}
+use mathlib.Core.List.{[]}
 use lib.Seq.{length-take-le}
 use native.Mathlib.Omega.{arith}
 use Prim.Native.Nat.{_-_}
@@ -21,16 +24,16 @@ count-words-requires : tie.Need-count-words-requires
 count-words-requires c κs = search needs
 
 slice-aggregate-greedy-words : tie.Need-slice-aggregate-greedy-words
-slice-aggregate-greedy-words c = let d = c .before .before .before .before .before .before .before .before .before .before .before .before in sym (length-take-le (d .args .m) (d .args .weights .now) (omega (arith, d .pre .1 .fewIndices, d .pre .0 .weightPlaces)))
+slice-aggregate-greedy-words c = let d = c .before .before .before .before .before .before .before .before .before .before .before in sym (length-take-le (d .args .m) (d .args .weights .now) (omega (arith, d .pre .1 .fewIndices, d .pre .0 .weightPlaces)))
 
 slice-aggregate-greedy-words-2 : tie.Need-slice-aggregate-greedy-words-2
-slice-aggregate-greedy-words-2 c = let d = c .before .before .before .before .before .before .before .before .before .before .before .before .before in sym (length-take-le (d .args .o) (d .args .outputs .now) (omega (arith, d .pre .1 .fewOutputs, d .pre .0 .outputPlaces)))
+slice-aggregate-greedy-words-2 c = let d = c .before .before .before .before .before .before .before .before .before .before .before .before in sym (length-take-le (d .args .o) (d .args .outputs .now) (omega (arith, d .pre .1 .fewOutputs, d .pre .0 .outputPlaces)))
 
 greedy-words-requires : tie.Need-greedy-words-requires
-greedy-words-requires c κs = let d = c .before .before .before .before .before .before .before .before .before .before .before .before .before .before in
+greedy-words-requires c κs = let d = c .before .before .before .before .before .before .before .before .before .before .before .before in
     let a = d .args in
-    let e = leaves-counted (a .ws .now) (c .before .before .before .before .before .before .count-words .last .0) (a .n) (d .pre .2) (d .pre .1 .fewLeaves) (c .before .before .before .before .before .ws .given .0) (c .before .before .before .before .before .before .count-words .ensures) in (
-      whole-fits (a .m) (a .n) (a .o) (a .weights .now) (a .counts .now) (a .legs .now) (a .outputs .now) (d .pre .0) (d .pre .1) _ e _ (omega (arith, d .pre .2, c .before .before .before .before .before .ws .given .1)),
+    let e = leaves-counted (a .ws .now) (c .before .before .before .before .before .count-words .last .0) (a .n) (d .pre .2) (d .pre .1 .fewLeaves) (c .before .before .before .before .ws .given .0) (c .before .before .before .before .before .count-words .ensures) in (
+      whole-fits (a .m) (a .n) (a .o) (a .weights .now) (a .counts .now) (a .legs .now) (a .outputs .now) (d .pre .0) (d .pre .1) _ e _ (omega (arith, d .pre .2, c .before .before .before .before .ws .given .1)),
       whole-light (a .m) (a .n) (a .o) (a .weights .now) (a .counts .now) (a .legs .now) (a .outputs .now) (d .pre .0) (d .pre .1) _ e,
       d .pre .1 .fewLeaves,
     )
@@ -38,14 +41,14 @@ greedy-words-requires c κs = let d = c .before .before .before .before .before 
 same-length : tie.Need-same-length
 same-length c = search needs
 
-same-length-2 : tie.Need-same-length-2
-same-length-2 c = search needs
-
 returns : tie.Need-returns
-returns c = let d = c .before .before .before .before .before .before .before .before .before .before .before .before .before .before .before .before .before .before .before in
+unfolding flatOf
+returns c = let d = c .before .before .before .before .before .before .before .before .before .before .before .before .before .before .before in
     let a = d .args in
-    let e = leaves-counted (a .ws .now) (c .before .before .before .before .before .before .before .before .before .before .before .count-words .last .0) (a .n) (d .pre .2) (d .pre .1 .fewLeaves) (c .before .before .before .before .before .before .before .before .before .before .ws .given .0) (c .before .before .before .before .before .before .before .before .before .before .before .count-words .ensures) in
-    whole-answer (a .m) (a .n) (a .o) (a .weights .now) (a .counts .now) (a .legs .now) (a .outputs .now) (d .pre .0) (d .pre .1) _ e (a .kids .now) _ _ (c .before .before .before .before .greedy-words .ensures)
+    let y = c .before .before .before .before .before .before .before .before .count-words .last .0 in
+    let e = leaves-counted (a .ws .now) y (a .n) (d .pre .2) (d .pre .1 .fewLeaves) (c .before .before .before .before .before .before .before .ws .given .0) (c .before .before .before .before .before .before .before .before .count-words .ensures) in
+    whole-entry (kids-same (a .ws .now) y (d .pre .2) (c .before .before .before .before .before .before .before .ws .given .0))
+    (whole-answer (a .m) (a .n) (a .o) (a .weights .now) (a .counts .now) (a .legs .now) (a .outputs .now) (d .pre .0) (d .pre .1) _ e _ _ _ (c .before .before .greedy-words .ensures (networkOf (a .m) (a .n) (a .o) (a .weights .now) (a .counts .now) (a .legs .now) (a .outputs .now)) []))
 
 pub greedy-all-spec : {M : Type 1} → statement M
 greedy-all-spec =
@@ -59,5 +62,4 @@ greedy-all-spec =
     slice-aggregate-greedy-words-2
     greedy-words-requires
     same-length
-    same-length-2
     returns)

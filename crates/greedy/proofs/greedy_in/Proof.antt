@@ -9,7 +9,7 @@ use Rattle.walk.specs.Entry.{lent-cleared}
 use lib.Seq.{length-take-le}
 use lib.ListN.{take}
 use native.Mathlib.Omega.{arith}
-use Prim.Native.Nat.{_-_, _*_, _≤_}
+use Prim.Native.Nat.{_-_, _≤_}
 use mathlib.Core.Path.{_≡_, refl, sym, ap, _∙_}
 use lib.ListN.{length}
 use Rattle.greedy.proofs.greedy_in.Statement.{statement}
@@ -40,14 +40,8 @@ slice-relend-prefix-greedy-tree c = search needs
 slice-aggregate-greedy-tree : tie.Need-slice-aggregate-greedy-tree
 slice-aggregate-greedy-tree c = sym (length-take-le (c .before .before .before .before .stated .result) (c .before .before .before .before .before .before .before .before .before .before .before .args .ws .now) (c .before .before .before .if1 .left))
 
-slice-relend-prefix-greedy-tree-2 : tie.Need-slice-relend-prefix-greedy-tree-2
-slice-relend-prefix-greedy-tree-2 c = search needs
-
-slice-aggregate-greedy-tree-2 : tie.Need-slice-aggregate-greedy-tree-2
-slice-aggregate-greedy-tree-2 c = sym (length-take-le (c .before .before .before .less .result * 2) (c .before .before .before .before .before .before .before .before .before .before .before .before .args .tree .now) (omega (arith, c .before .before .if2 .left)))
-
 greedy-tree-requires : tie.Need-greedy-tree-requires
-greedy-tree-requires c κs = let d = c .before .before .before .before .before .before .before .before .before .before .before .before in (d .pre .0, d .pre .1, omega (arith, c .before .before .before .before .before .stated .ensures, length-take-le (c .before .before .before .before .before .stated .result) (d .args .ws .now) (c .before .before .before .before .if1 .left)), omega (arith, length-take-le (c .before .before .before .less .result * 2) (d .args .tree .now) (omega (arith, c .before .before .if2 .left)), c .before .before .before .less .ensures, d .pre .1 .fewLeaves))
+greedy-tree-requires c κs = let d = c .before .before .before .before .before .before .before .before .before .before .before .before in (d .pre .0, d .pre .1, omega (arith, c .before .before .before .before .before .stated .ensures, length-take-le (c .before .before .before .before .before .stated .result) (d .args .ws .now) (c .before .before .before .before .if1 .left)))
 
 clear-requires : tie.Need-clear-requires
 clear-requires c κs = search needs
@@ -67,7 +61,7 @@ returns-3 c = let a = c .before .before .before .before .before .before .before 
     let ly : length y ≡ length (take w (a .ws .now)) = c .before .before .before .before .before .before .before .before .ws .given .0 in
     let z = c .before .before .before .clear .ensures ∙ lent-cleared (a .ws .now) y w w fit ly refl ∙ ap (cleared (a .ws .now)) (c .before .before .before .before .before .before .before .before .before .before .before .before .before .before .before .stated .ensures) in
     answer-refused (networkOf (a .m) (a .n) (a .o) (a .weights .now) (a .counts .now) (a .legs .now) (a .outputs .now)) (a .tree .now) (a .ws .now) (omega (arith, fit, c .before .before .before .before .before .before .before .before .before .before .before .before .before .before .before .stated .ensures))
-    (omega (arith, c .before .before .before .before .before .before .before .before .before .before .before .before .if2 .left, c .before .before .before .before .before .before .before .before .before .before .before .before .before .less .ensures, n)) _ z (c .before .before .before .before .before .before .before .before .before .before .before .before .before .less .result * 2) (omega (arith, c .before .before .before .before .before .before .before .before .before .before .before .before .before .less .ensures, n)) _ (c .before .before .before .before .before .before .before .before .before .greedy-tree .result) (c .before .before .before .before .before .before .before .before .before .greedy-tree .ensures) (c .if3 .taken)
+    (omega (arith, c .before .before .before .before .before .before .before .before .before .before .before .before .if2 .left, c .before .before .before .before .before .before .before .before .before .before .before .before .before .less .ensures, n)) _ z _ (c .before .before .before .before .before .before .before .before .before .greedy-tree .result) (c .before .before .before .before .before .before .before .before .before .greedy-tree .ensures) (c .if3 .taken)
 
 same-length-3 : tie.Need-same-length-3
 same-length-3 c = search needs
@@ -84,7 +78,7 @@ returns-4 c = let a = c .before .before .before .before .before .before .before 
     let ly : length y ≡ length (take w (a .ws .now)) = c .before .before .before .before .before .before .before .before .ws .given .0 in
     let z = c .before .before .before .clear .ensures ∙ lent-cleared (a .ws .now) y w w fit ly refl ∙ ap (cleared (a .ws .now)) (c .before .before .before .before .before .before .before .before .before .before .before .before .before .before .before .stated .ensures) in
     answer-done (networkOf (a .m) (a .n) (a .o) (a .weights .now) (a .counts .now) (a .legs .now) (a .outputs .now)) (a .tree .now) (a .ws .now) (omega (arith, fit, c .before .before .before .before .before .before .before .before .before .before .before .before .before .before .before .stated .ensures))
-    (omega (arith, c .before .before .before .before .before .before .before .before .before .before .before .before .if2 .left, c .before .before .before .before .before .before .before .before .before .before .before .before .before .less .ensures, n)) _ z (c .before .before .before .before .before .before .before .before .before .before .before .before .before .less .result * 2) (omega (arith, c .before .before .before .before .before .before .before .before .before .before .before .before .before .less .ensures, n)) _ (c .before .before .before .before .before .before .before .before .before .greedy-tree .result) (c .before .before .before .before .before .before .before .before .before .greedy-tree .ensures) (c .if3 .left)
+    (omega (arith, c .before .before .before .before .before .before .before .before .before .before .before .before .if2 .left, c .before .before .before .before .before .before .before .before .before .before .before .before .before .less .ensures, n)) _ z _ (c .before .before .before .before .before .before .before .before .before .greedy-tree .result) (c .before .before .before .before .before .before .before .before .before .greedy-tree .ensures) (c .if3 .left)
 
 pub greedy-in-spec : {M : Type 1} → statement M
 greedy-in-spec =
@@ -97,8 +91,6 @@ greedy-in-spec =
     returns-2
     slice-relend-prefix-greedy-tree
     slice-aggregate-greedy-tree
-    slice-relend-prefix-greedy-tree-2
-    slice-aggregate-greedy-tree-2
     greedy-tree-requires
     clear-requires
     same-length

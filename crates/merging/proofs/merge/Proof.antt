@@ -1,10 +1,9 @@
 -- Assumes nothing.
 use borrow.Author.Needs.{needs}
-use Rattle.parts.specs.Parts.{back, part-enough}
-use Rattle.merging.specs.Merge.{firstAt, secondAt, withNode, first-lt, second-lt, merged-all}
+use Rattle.merging.specs.Merge.{firstAt, secondAt, first-lt, second-lt, merged-all}
 use Rattle.scores.specs.Scores.{firstOf, secondOf}
 use Rattle.parts.specs.Lists.{listsIn, nodesIn, rowsIn, sets-back, nodes-back, sizes-back, live-back, rows-back}
-use mathlib.Core.Path.{ap₂}
+use Rattle.parts.specs.Parts.{back, part-enough}
 use Prim.Native.Nat.{_/_, _%_}
 use native.Mathlib.Omega.{arith}
 use Prim.Native.Nat.{ℕ, _-_, _<_, _≤_}
@@ -55,9 +54,6 @@ part-get-low-end-2 c = search needs
 get-low-requires-2 : tie.Need-get-low-requires-2
 get-low-requires-2 c κs = search needs
 
-put-node-requires : tie.Need-put-node-requires
-put-node-requires c κs = search needs
-
 sub-put-merged : tie.Need-sub-put-merged
 sub-put-merged c = search needs
 
@@ -68,11 +64,11 @@ part-put-merged-end : tie.Need-part-put-merged-end
 part-put-merged-end c = search needs
 
 put-merged-requires : tie.Need-put-merged-requires
-put-merged-requires c κs = let d = c .before .before .before .before .before .before .before .before .before .before .before .before .before .before .before .before .before .before in
-    let r = c .before .before .before .before .before .before .before .before .before .before .before .before .before .at .result in (
+put-merged-requires c κs = let d = c .before .before .before .before .before .before .before .before .before .before .before .before .before in
+    let r = c .before .before .before .before .before .before .before .before .before .at .result in (
       d .pre .0,
-      subst (λ (b : ℕ). b < 1048576) (sym (c .before .before .before .before .before .before .before .before .before .before .before .before .first .ensures)) (first-lt (d .args .n0) (r % 512) (d .args .y) 1048576 (omega arith) (omega (arith, d .pre .1))),
-      subst (λ (b : ℕ). b < 1048576) (sym (c .before .before .before .before .before .before .before .before .before .before .before .second .ensures)) (second-lt (d .args .n0) (r % 512) (d .args .y) 1048576 (omega arith) (omega (arith, d .pre .1))),
+      subst (λ (b : ℕ). b < 1048576) (sym (c .before .before .before .before .before .before .before .before .first .ensures)) (first-lt (d .args .n0) (r % 512) (d .args .y) 1048576 (omega arith) (omega (arith, d .pre .1))),
+      subst (λ (b : ℕ). b < 1048576) (sym (c .before .before .before .before .before .before .before .second .ensures)) (second-lt (d .args .n0) (r % 512) (d .args .y) 1048576 (omega arith) (omega (arith, d .pre .1))),
       omega (arith, d .pre .2),
     )
 
@@ -113,7 +109,7 @@ part-mark-start : tie.Need-part-mark-start
 part-mark-start c = search needs
 
 part-mark-end : tie.Need-part-mark-end
-part-mark-end c = omega (arith, c .before .before .before .before .before .before .before .before .before .ws4 .given .1, c .before .before .before .before .before .ws5 .given .1, c .before .ws6 .given .1, c .before .before .before .before .before .before .before .before .before .before .before .before .before .before .before .before .before .before .before .before .before .before .before .before .before .before .before .before .before .pre .5)
+part-mark-end c = search needs
 
 mark-requires : tie.Need-mark-requires
 mark-requires c κs = search needs
@@ -125,10 +121,10 @@ part-replace-start : tie.Need-part-replace-start
 part-replace-start c = search needs
 
 part-replace-end : tie.Need-part-replace-end
-part-replace-end c = omega (arith, c .before .before .before .before .before .before .before .before .before .before .before .before .before .ws4 .given .1, c .before .before .before .before .before .before .before .before .before .ws5 .given .1, c .before .before .before .before .before .ws6 .given .1, c .before .ws7 .given .1, c .before .before .before .before .before .before .before .before .before .before .before .before .before .before .before .before .before .before .before .before .before .before .before .before .before .before .before .before .before .before .before .before .before .pre .5)
+part-replace-end c = omega (arith, c .before .before .before .before .before .before .before .before .before .before .before .before .before .ws4 .given .1, c .before .before .before .before .before .before .before .before .before .ws5 .given .1, c .before .before .before .before .before .ws6 .given .1, c .before .ws7 .given .1, c .before .before .before .before .before .before .before .before .before .before .before .before .before .before .before .before .before .before .before .before .before .before .before .before .before .before .before .before .pre .5)
 
 replace-requires : tie.Need-replace-requires
-replace-requires c κs = let d = c .before .before .before .before .before .before .before .before .before .before .before .before .before .before .before .before .before .before .before .before .before .before .before .before .before .before .before .before .before .before .before .before .before .before in
+replace-requires c κs = let d = c .before .before .before .before .before .before .before .before .before .before .before .before .before .before .before .before .before .before .before .before .before .before .before .before .before .before .before .before .before in
     let w₁ = back 0 1040 (d .args .ws .now) (c .before .before .before .before .before .before .before .before .before .before .before .before .before .before .before .put-merged .last .0) in
     let w₂ = back 1040 256 w₁ (c .before .before .before .before .before .before .before .before .before .before .before .put-low .last .0) in
     let w₃ = back 1296 256 w₂ (c .before .before .before .before .before .before .before .put64 .last .0) in
@@ -142,11 +138,8 @@ replace-requires c κs = let d = c .before .before .before .before .before .befo
 same-length : tie.Need-same-length
 same-length c = c .before .ws8 .given .1 ∙ c .before .before .before .before .before .ws7 .given .1 ∙ c .before .before .before .before .before .before .before .before .before .ws6 .given .1 ∙ c .before .before .before .before .before .before .before .before .before .before .before .before .before .ws5 .given .1 ∙ c .before .before .before .before .before .before .before .before .before .before .before .before .before .before .before .before .before .ws4 .given .1
 
-same-length-2 : tie.Need-same-length-2
-same-length-2 c = search needs
-
 returns : tie.Need-returns
-returns c = let d = c .before .before .before .before .before .before .before .before .before .before .before .before .before .before .before .before .before .before .before .before .before .before .before .before .before .before .before .before .before .before .before .before .before .before .before .before .before .args in
+returns c = let d = c .before .before .before .before .before .before .before .before .before .before .before .before .before .before .before .before .before .before .before .before .before .before .before .before .before .before .before .before .before .before .before .before .args in
     let a = d .ws .now in
     let y₁ = c .before .before .before .before .before .before .before .before .before .before .before .before .before .before .before .before .before .before .put-merged .last .0 in
     let w₁ = back 0 1040 a y₁ in
@@ -158,22 +151,22 @@ returns c = let d = c .before .before .before .before .before .before .before .b
     let w₄ = back 1808 256 w₃ y₄ in
     let y₅ = c .before .before .replace .last .0 in
     let w₅ = back 1552 256 w₄ y₅ in
-    let h : 2064 ≤ length a = c .before .before .before .before .before .before .before .before .before .before .before .before .before .before .before .before .before .before .before .before .before .before .before .before .before .before .before .before .before .before .before .before .before .before .before .before .before .pre .5 in
+    let h : 2064 ≤ length a = c .before .before .before .before .before .before .before .before .before .before .before .before .before .before .before .before .before .before .before .before .before .before .before .before .before .before .before .before .before .before .before .before .pre .5 in
     let l₁ : length w₁ ≡ length a = c .before .before .before .before .before .before .before .before .before .before .before .before .before .before .before .before .before .ws4 .given .1 in
     let l₂ : length w₂ ≡ length w₁ = c .before .before .before .before .before .before .before .before .before .before .before .before .before .ws5 .given .1 in
     let l₃ : length w₃ ≡ length w₂ = c .before .before .before .before .before .before .before .before .before .ws6 .given .1 in
     let l₄ : length w₄ ≡ length w₃ = c .before .before .before .before .before .ws7 .given .1 in
-    let r : c .before .before .before .before .before .before .before .before .before .before .before .before .before .before .before .before .before .before .before .before .before .before .before .before .before .before .before .before .before .before .before .before .at .result ≡ getD (rowsIn a) (d .y) 0 = c .before .before .before .before .before .before .before .before .before .before .before .before .before .before .before .before .before .before .before .before .before .before .before .before .before .before .before .before .before .before .before .before .at .ensures in
-    let f : c .before .before .before .before .before .before .before .before .before .before .before .before .before .before .before .before .before .before .before .before .before .before .before .before .before .before .before .before .before .before .before .first .result ≡ firstAt (d .n0) (rowsIn a) (d .y) = c .before .before .before .before .before .before .before .before .before .before .before .before .before .before .before .before .before .before .before .before .before .before .before .before .before .before .before .before .before .before .before .first .ensures ∙ ap (λ (k : ℕ). firstOf (d .n0) (k % 512) (d .y)) r in
-    let g : c .before .before .before .before .before .before .before .before .before .before .before .before .before .before .before .before .before .before .before .before .before .before .before .before .before .before .before .before .before .before .second .result ≡ secondAt (d .n0) (rowsIn a) (d .y) = c .before .before .before .before .before .before .before .before .before .before .before .before .before .before .before .before .before .before .before .before .before .before .before .before .before .before .before .before .before .before .second .ensures ∙ ap (λ (k : ℕ). secondOf (d .n0) (k % 512) (d .y)) r in (
-      merged-all (d .w) (d .n0) (d .y) (d .z) (d .m) _ (c .before .before .before .before .before .before .before .before .before .before .before .before .before .before .before .before .before .before .before .before .before .before .before .before .before .before .before .before .before .before .before .first .result) (c .before .before .before .before .before .before .before .before .before .before .before .before .before .before .before .before .before .before .before .before .before .before .before .before .before .before .before .before .before .before .second .result) (c .before .before .before .before .before .before .before .before .before .before .before .before .before .before .before .before .before .before .before .before .before .before .before .before .before .before .before .before .before .before .before .before .at .result / 512) (listsIn a) (listsIn w₁) (listsIn w₂) (listsIn w₃) (listsIn w₄) (listsIn w₅) y₁ _ y₃ y₄ _
+    let r : c .before .before .before .before .before .before .before .before .before .before .before .before .before .before .before .before .before .before .before .before .before .before .before .before .before .before .before .before .at .result ≡ getD (rowsIn a) (d .y) 0 = c .before .before .before .before .before .before .before .before .before .before .before .before .before .before .before .before .before .before .before .before .before .before .before .before .before .before .before .before .at .ensures in
+    let f : c .before .before .before .before .before .before .before .before .before .before .before .before .before .before .before .before .before .before .before .before .before .before .before .before .before .before .before .first .result ≡ firstAt (d .n0) (rowsIn a) (d .y) = c .before .before .before .before .before .before .before .before .before .before .before .before .before .before .before .before .before .before .before .before .before .before .before .before .before .before .before .first .ensures ∙ ap (λ (k : ℕ). firstOf (d .n0) (k % 512) (d .y)) r in
+    let g : c .before .before .before .before .before .before .before .before .before .before .before .before .before .before .before .before .before .before .before .before .before .before .before .before .before .before .second .result ≡ secondAt (d .n0) (rowsIn a) (d .y) = c .before .before .before .before .before .before .before .before .before .before .before .before .before .before .before .before .before .before .before .before .before .before .before .before .before .before .second .ensures ∙ ap (λ (k : ℕ). secondOf (d .n0) (k % 512) (d .y)) r in (
+      merged-all (d .w) (d .n0) (d .y) (d .z) (d .m) _ (c .before .before .before .before .before .before .before .before .before .before .before .before .before .before .before .before .before .before .before .before .before .before .before .before .before .before .before .first .result) (c .before .before .before .before .before .before .before .before .before .before .before .before .before .before .before .before .before .before .before .before .before .before .before .before .before .before .second .result) (c .before .before .before .before .before .before .before .before .before .before .before .before .before .before .before .before .before .before .before .before .before .before .before .before .before .before .before .before .at .result / 512) (listsIn a) (listsIn w₁) (listsIn w₂) (listsIn w₃) (listsIn w₄) (listsIn w₅) y₁ _ y₃ y₄ _
           (sets-back a y₁ h (c .before .before .before .before .before .before .before .before .before .before .before .before .before .before .before .before .before .ws4 .given .0)) (c .before .before .before .before .before .before .before .before .before .before .before .before .before .before .before .before .before .before .put-merged .ensures)
           (nodes-back w₁ y₂ (omega (arith, h, l₁)) (c .before .before .before .before .before .before .before .before .before .before .before .before .before .ws5 .given .0)) (c .before .before .before .before .before .before .before .before .before .before .before .before .before .before .put-low .ensures)
           (sizes-back w₂ y₃ (omega (arith, h, l₁, l₂)) (c .before .before .before .before .before .before .before .before .before .ws6 .given .0)) (c .before .before .before .before .before .before .before .before .before .before .put64 .ensures)
           (rows-back w₃ y₄ (omega (arith, h, l₁, l₂, l₃)) (c .before .before .before .before .before .ws7 .given .0)) (c .before .before .before .before .before .before .mark .ensures)
           (live-back w₄ y₅ (omega (arith, h, l₁, l₂, l₃, l₄)) (c .before .ws8 .given .0)) (c .before .before .replace .ensures)
           f g (ap (λ (k : ℕ). k / 512) r),
-      c .before .before .before .before .before .before .before .before .before .before .before .before .before .before .before .before .before .before .before .before .before .before .put-node .ensures ∙ ap₂ (λ (u v : ℕ). withNode (d .kids .now) (d .count) u v) (c .before .before .before .before .before .before .before .before .before .before .before .before .before .before .before .before .before .before .before .before .before .before .before .before .before .before .before .get-low .ensures ∙ ap (λ (i : ℕ). getD (nodesIn a) i 0) f) (c .before .before .before .before .before .before .before .before .before .before .before .before .before .before .before .before .before .before .before .before .before .before .before .before .get-low2 .ensures ∙ ap (λ (i : ℕ). getD (nodesIn a) i 0) g),
+      (c .before .before .before .before .before .before .before .before .before .before .before .before .before .before .before .before .before .before .before .before .before .before .before .get-low .ensures ∙ ap (λ (i : ℕ). getD (nodesIn a) i 0) f, c .before .before .before .before .before .before .before .before .before .before .before .before .before .before .before .before .before .before .before .before .get-low2 .ensures ∙ ap (λ (i : ℕ). getD (nodesIn a) i 0) g),
     )
 
 pub merge-spec : {M : Type 1} → statement M
@@ -194,7 +187,6 @@ merge-spec =
     part-get-low-start-2
     part-get-low-end-2
     get-low-requires-2
-    put-node-requires
     sub-put-merged
     part-put-merged-start
     part-put-merged-end
@@ -218,5 +210,4 @@ merge-spec =
     part-replace-end
     replace-requires
     same-length
-    same-length-2
     returns)
