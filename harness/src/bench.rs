@@ -70,15 +70,18 @@ fn pedigree(leaf_count: usize) -> Case {
 fn in_memory<'a>(case: &Case) -> Call<'a> {
     let given = Given::new(case);
     let mut lent = Lent::new(&given, 0);
-    port::AT_HAND
-        .then(|| Box::new(move || assert_eq!(port::tree_cost(black_box(&given), black_box(&mut lent)), 0)) as Box<dyn FnMut()>)
+    port::AT_HAND.then(|| {
+        Box::new(move || assert_eq!(crate::memory::tree_cost(black_box(&given), black_box(&mut lent)), 0)) as Box<dyn FnMut()>
+    })
 }
 
 /// The port on the network file.
 fn of_file<'a>(case: &Case) -> Call<'a> {
     let file = case.file();
     let mut out = [0; MOST];
-    port::AT_HAND.then(|| Box::new(move || assert_eq!(port::price(black_box(&file), black_box(&mut out)), 0)) as Box<dyn FnMut()>)
+    port::AT_HAND.then(|| {
+        Box::new(move || assert_eq!(port::loqshyber_price(black_box(&file), black_box(&mut out)), 0)) as Box<dyn FnMut()>
+    })
 }
 
 pub fn run() {

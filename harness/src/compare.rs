@@ -49,7 +49,7 @@ fn close(name: &str, port: f64, rust: f64) -> Checked {
 /// The port's answer. No byte is touched after a refusal, and none past a listing.
 fn port_answer(file: &[u8]) -> Result<Result<Listing, u32>, String> {
     let mut out = [MARK; MOST + 8];
-    let refusal = port::price(file, &mut out);
+    let refusal = port::loqshyber_price(file, &mut out);
     let is_marked = |bytes: &[u8]| bytes.iter().all(|&b| b == MARK);
     if refusal != 0 {
         ensure(is_marked(&out), || format!("refused {refusal}, and the buffer is touched"))?;
@@ -64,10 +64,12 @@ fn port_answer(file: &[u8]) -> Result<Result<Listing, u32>, String> {
 /// A buffer as long as the listing gets the same bytes; one byte less is refused.
 fn room(file: &[u8], listing: &[u8]) -> Checked {
     let mut exact = vec![MARK; listing.len()];
-    ensure(port::price(file, &mut exact) == 0 && exact == listing, || "another answer in a buffer that just fits".into())?;
+    ensure(port::loqshyber_price(file, &mut exact) == 0 && exact == listing, || {
+        "another answer in a buffer that just fits".into()
+    })?;
     exact.fill(MARK);
     let short = listing.len() - 1;
-    ensure(port::price(file, &mut exact[..short]) == NO_ROOM, || "no refusal 7 in a buffer one byte short".into())?;
+    ensure(port::loqshyber_price(file, &mut exact[..short]) == NO_ROOM, || "no refusal 7 in a buffer one byte short".into())?;
     ensure(exact.iter().all(|&b| b == MARK), || "refused 7, and the buffer is touched".into())
 }
 

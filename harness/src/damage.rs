@@ -143,7 +143,7 @@ fn refusal(text: &[u8]) -> Result<Option<u32>, String> {
 /// The text that `loqshyber_plan` writes for a file.
 fn plan(file: &[u8]) -> Result<Vec<u8>, String> {
     let (mut lent, mut out) = (Guarded::new(file), Guarded::new(&[CANARY; TEXT]));
-    let length = port::plan(lent.inside(), out.inside());
+    let length = port::loqshyber_plan(lent.inside(), out.inside());
     if !lent.is_kept() || !out.is_kept() || lent.inside() != file {
         return Err("plan: a byte is touched that must not be".into());
     }
@@ -157,7 +157,7 @@ fn plan(file: &[u8]) -> Result<Vec<u8>, String> {
 /// The number that `loqshyber_price` answers; 0 comes with a listing.
 fn price(file: &[u8]) -> Result<u32, String> {
     let (mut lent, mut out) = (Guarded::new(file), Guarded::new(&[CANARY; MOST]));
-    let number = port::price(lent.inside(), out.inside());
+    let number = port::loqshyber_price(lent.inside(), out.inside());
     if !lent.is_kept() || !out.is_kept() || lent.inside() != file {
         return Err("price: a byte is touched that must not be".into());
     }

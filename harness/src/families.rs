@@ -165,7 +165,7 @@ fn plan(network: &Network, target: Option<u8>) -> String {
     let mut file = Case { network: network.clone(), tree: None, flags: None }.file();
     file.extend(target.iter().flat_map(|&bits| [6, 0, 1, bits]));
     let mut out = vec![0; TEXT];
-    let length = port::plan(&file, &mut out);
+    let length = port::loqshyber_plan(&file, &mut out);
     String::from_utf8_lossy(&out[..length]).into_owned()
 }
 
@@ -200,7 +200,7 @@ fn forty_one() -> io::Result<bool> {
     }
     let price = |tree: &[[u16; 2]]| {
         let file = Case { network: network.clone(), tree: Some(tree.to_vec()), flags: None }.file();
-        port::price(&file, &mut vec![0; MOST])
+        port::loqshyber_price(&file, &mut vec![0; MOST])
     };
     let whole = price(&tree);
     let mut refused = 0;

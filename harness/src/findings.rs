@@ -44,7 +44,7 @@ fn both(case: &Case) -> (Option<Result<Listing, u32>>, rust::Answer) {
     let answer = rust::answer(case).expect("path.rs is compiled in");
     let port = port::AT_HAND.then(|| {
         let mut out = [0; MOST];
-        match port::price(&case.file(), &mut out) {
+        match port::loqshyber_price(&case.file(), &mut out) {
             0 => Ok(Listing::decode(&out).expect("a listing").0),
             refusal => Err(refusal),
         }
@@ -92,7 +92,7 @@ fn a_leaf_has_no_work_and_no_leaves_no_widest() {
     if port::AT_HAND {
         let given = Given::new(&bare(1, Vec::new()));
         let mut lent = Lent::new(&given, 0);
-        assert_eq!((port::tree_cost(&given, &mut lent), lent.works), (0, vec![0]));
+        assert_eq!((crate::memory::tree_cost(&given, &mut lent), lent.works), (0, vec![0]));
     }
 }
 
@@ -110,7 +110,7 @@ fn bisection_takes_an_empty_table_first() {
     tell_if_missing();
     if port::AT_HAND {
         let ask = bisection::call::Ask { imbalance: 200, cutoff: 2, draws: &[0; 48] };
-        let port = bisection::call::answer(&crate::greedy::call::Given::new(&network), ask).unwrap();
+        let port = bisection::call::answer(&crate::lent::Given::new(&network), ask).unwrap();
         assert_eq!(port, bisection::Answer::Tree { children: vec![[0, 1], [2, 3]], taken: 48 });
     }
 }
@@ -119,8 +119,7 @@ fn bisection_takes_an_empty_table_first() {
 fn improved(network: &Network, tree: &Tree) -> Option<Result<Improved, u32>> {
     tell_if_missing();
     let ask = Ask { k: 8, passes: 1, limit: None };
-    port::AT_HAND
-        .then(|| call::answer(&Call { given: crate::greedy::call::Given::new(network), flags: Vec::new(), ask }, tree).unwrap())
+    port::AT_HAND.then(|| call::answer(&Call { given: crate::lent::Given::new(network), flags: Vec::new(), ask }, tree).unwrap())
 }
 
 #[test]

@@ -14,6 +14,7 @@ mod families;
 mod findings;
 mod greedy;
 mod large;
+mod lent;
 mod listing;
 mod memory;
 mod networks;
@@ -50,12 +51,8 @@ const BISECT_RUNS: &str = concat!(env!("CARGO_MANIFEST_DIR"), "/../crates/bisect
 const USAGE: &str = "usage: harness all [SECONDS [SEED]] | compare|greedy|bisection|reconfigure|slice [NETWORKS [SEED]] | bisect [NETWORKS [SEED [LEAVES]]] | families | damage [FILES [SEED]] | bench | price-bench | greedy-bench | bisection-bench | reconfigure-bench | slice-bench | plan-bench | record | tree-record | greedy-record | bisection-record | reconfigure-record";
 
 fn compare(count: usize, seed: u64) -> ExitCode {
-    if !port::AT_HAND {
-        println!("{}", port::MISSING);
+    if !port::ready() {
         return ExitCode::FAILURE;
-    }
-    if !rust::AT_HAND {
-        println!("{}", rust::MISSING);
     }
     let mut comparison = compare::Comparison::default();
     small::run(&mut comparison, seed);
@@ -63,11 +60,7 @@ fn compare(count: usize, seed: u64) -> ExitCode {
     large::run(&mut comparison, count, seed);
     comparison.tell("all", compare::Counts::default());
     println!("{} differences", comparison.differences);
-    if comparison.differences == 0 {
-        ExitCode::SUCCESS
-    } else {
-        ExitCode::FAILURE
-    }
+    port::verdict(comparison.differences)
 }
 
 /// What became of writing the input and output of a crate.

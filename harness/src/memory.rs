@@ -1,7 +1,8 @@
 //! The port on a network in memory: the lists that are lent, and what stands in them afterwards.
 #![cfg_attr(not(port), allow(dead_code))]
 
-use crate::case::{Case, LEGS};
+use crate::case::Case;
+use crate::lent;
 use crate::listing::{Listing, Total};
 use crate::port;
 use crate::rust::Cost;
@@ -16,10 +17,7 @@ const NO_ROOM: u32 = 7;
 
 /// The lists that are read.
 pub struct Given {
-    pub weights: Vec<u8>,
-    pub leg_counts: Vec<u8>,
-    pub legs: Vec<u16>,
-    pub outputs: Vec<u16>,
+    pub network: lent::Given,
     pub flags: Vec<u8>,
     pub tree: Vec<u16>,
 }
@@ -37,28 +35,40 @@ pub struct Lent {
 
 impl Given {
     pub fn new(case: &Case) -> Self {
-        let network = &case.network;
-        let mut legs = vec![0; LEGS * network.leaves.len()];
-        for (row, leaf) in legs.chunks_mut(LEGS).zip(&network.leaves) {
-            row[..leaf.len()].copy_from_slice(leaf);
-        }
         Self {
-            weights: network.weights.clone(),
-            leg_counts: network.leaves.iter().map(|leaf| leaf.len() as u8).collect(),
-            legs,
-            outputs: network.outputs.clone(),
+            network: lent::Given::new(&case.network),
             flags: case.flags.iter().flatten().map(|&f| f as u8).collect(),
             tree: case.tree.iter().flatten().flatten().copied().collect(),
         }
     }
 
     fn nodes(&self) -> usize {
-        (2 * self.leg_counts.len()).saturating_sub(1)
+        (2 * self.network.leg_counts.len()).saturating_sub(1)
     }
 
     fn steps(&self) -> usize {
-        self.leg_counts.len().saturating_sub(1)
+        self.network.leg_counts.len().saturating_sub(1)
     }
+}
+
+/// Prices a network in memory: the number of the refusal, or 0 and the price list.
+pub fn tree_cost(given: &Given, lent: &mut Lent) -> u32 {
+    let lent::Given { weights, leg_counts, legs, outputs } = &given.network;
+    let Lent { words, sets, sizes, works, steps, answer } = lent;
+    port::loqshyber_tree_cost(
+        weights,
+        leg_counts,
+        legs,
+        outputs,
+        &given.flags,
+        &given.tree,
+        words,
+        sets,
+        sizes,
+        works,
+        steps,
+        answer,
+    )
 }
 
 impl Lent {
@@ -105,7 +115,7 @@ impl<T> Shorten for Vec<T> {
 fn expected(given: &Given, listing: &Listing, came: &Lent) -> Lent {
     let mut lent = Lent::new(given, SPARE);
     lent.words[..WORDS].fill(0);
-    let leaf_count = given.leg_counts.len();
+    let leaf_count = given.network.leg_counts.len();
     lent.sets[..SET * given.nodes()].copy_from_slice(&came.sets[..SET * given.nodes()]);
     lent.sizes[..leaf_count].copy_from_slice(&came.sizes[..leaf_count]);
     lent.works[..leaf_count].fill(0);
@@ -145,7 +155,7 @@ pub fn check(case: &Case, file: &Result<Listing, u32>, cost: Option<&Cost>) -> R
     let given = Given::new(case);
     let fresh = Lent::new(&given, SPARE);
     let mut lent = fresh.clone();
-    let refusal = port::tree_cost(&given, &mut lent);
+    let refusal = tree_cost(&given, &mut lent);
     let want = match file {
         Ok(listing) => expected(&given, listing, &lent),
         Err(_) => Lent { words: [vec![0; WORDS], fresh.words[WORDS..].to_vec()].concat(), ..fresh },
@@ -159,9 +169,9 @@ pub fn check(case: &Case, file: &Result<Listing, u32>, cost: Option<&Cost>) -> R
     }
     cost.map_or(Ok(()), |cost| same_nodes(&lent, cost))?;
     let mut short = Lent::new(&given, 0);
-    short.shorten(given.weights.len() + given.tree.len() + given.flags.len());
+    short.shorten(given.network.weights.len() + given.tree.len() + given.flags.len());
     let before = short.clone();
-    let refusal = port::tree_cost(&given, &mut short);
+    let refusal = tree_cost(&given, &mut short);
     if refusal != NO_ROOM || short != before {
         return Err(format!("in memory: a list one place short, and refusal {refusal}"));
     }

@@ -28,7 +28,7 @@ fn row(leaf_count: usize, below: Option<u32>) {
     let mut times = [Vec::new(), Vec::new()];
     for _ in 0..CALLS {
         if port::AT_HAND {
-            times[0].push(time(|| assert!(port::plan(black_box(&file), black_box(&mut out)) > 0)));
+            times[0].push(time(|| assert!(port::loqshyber_plan(black_box(&file), black_box(&mut out)) > 0)));
             assert!(out.starts_with(b"plan "));
         }
         if let Some(rust) = &mut rust {

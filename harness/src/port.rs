@@ -1,103 +1,75 @@
 //! The port, through its C functions. A slice crosses the boundary as a pointer and a length.
 
-use crate::memory::{Given, Lent};
+use std::process::ExitCode;
 
 /// Whether the port is linked in.
 pub const AT_HAND: bool = cfg!(port);
 
 pub const MISSING: &str = "the port is not linked: run `rt staticlib host` at the repository's top, and build again";
 
-#[cfg(port)]
-extern "C" {
-    fn loqshyber_price(file: *const u8, file_len: usize, out: *mut u8, out_len: usize) -> u32;
-    fn loqshyber_plan(file: *const u8, file_len: usize, out: *mut u8, out_len: usize) -> usize;
-    fn loqshyber_tree_cost(
-        weights: *const u8,
-        weights_len: usize,
-        leg_counts: *const u8,
-        leg_counts_len: usize,
-        legs: *const u16,
-        legs_len: usize,
-        outputs: *const u16,
-        outputs_len: usize,
-        flags: *const u8,
-        flags_len: usize,
-        tree: *const u16,
-        tree_len: usize,
-        words: *mut u64,
-        words_len: usize,
-        sets: *mut u64,
-        sets_len: usize,
-        sizes: *mut u16,
-        sizes_len: usize,
-        works: *mut u16,
-        works_len: usize,
-        steps: *mut u16,
-        steps_len: usize,
-        answer: *mut u64,
-        answer_len: usize,
-    ) -> u32;
+/// C functions of the port: slices that are read, then slices that are written, then numbers.
+macro_rules! c_functions {
+    ($($(#[$doc:meta])* fn $name:ident($($read:ident: $r:ty),*; $($written:ident: $w:ty),*; $($number:ident: $n:ty),*) -> $answer:ty;)*) => {
+        #[cfg(port)]
+        mod c {
+            extern "C" {
+                $(pub fn $name($(_: *const $r, _: usize,)* $(_: *mut $w, _: usize,)* $(_: $n),*) -> $answer;)*
+            }
+        }
+        $(
+            $(#[$doc])*
+            #[cfg(port)]
+            #[allow(clippy::too_many_arguments)]
+            pub fn $name($($read: &[$r],)* $($written: &mut [$w],)* $($number: $n),*) -> $answer {
+                // SAFETY: each slice is as long as is said, none that is written overlaps another, and none is kept past the call
+                unsafe { c::$name($($read.as_ptr(), $read.len(),)* $($written.as_mut_ptr(), $written.len(),)* $($number),*) }
+            }
+
+            #[cfg(not(port))]
+            #[allow(clippy::too_many_arguments)]
+            pub fn $name($(_: &[$r],)* $(_: &mut [$w],)* $(_: $n),*) -> $answer {
+                panic!("{MISSING}")
+            }
+        )*
+    };
 }
 
-/// Prices the plan of a network file: the number of the refusal, or 0 and a listing in `out`.
-#[cfg(port)]
-pub fn price(file: &[u8], out: &mut [u8]) -> u32 {
-    // SAFETY: both parts are as long as is said, and neither is kept past the call
-    unsafe { loqshyber_price(file.as_ptr(), file.len(), out.as_mut_ptr(), out.len()) }
+c_functions! {
+    /// Prices the plan of a network file: the number of the refusal, or 0 and a listing in `out`.
+    fn loqshyber_price(file: u8; out: u8;) -> u32;
+    /// What the program `plan` prints for a file: its text to the front of `out`, and its length.
+    fn loqshyber_plan(file: u8; out: u8;) -> usize;
+    /// Prices a network in memory: the number of the refusal, or 0 and the price list.
+    fn loqshyber_tree_cost(weights: u8, leg_counts: u8, legs: u16, outputs: u16, flags: u8, tree: u16;
+        words: u64, sets: u64, sizes: u16, works: u16, steps: u16, answer: u64;) -> u32;
+    /// The number of the refusal, or 0 and the children at the front of `tree`.
+    fn loqshyber_greedy(weights: u8, leg_counts: u8, legs: u16, outputs: u16; tree: u16, words: u64;) -> u32;
+    /// The number of the refusal, or 0, the children at the front of `tree` and the words taken in `answer`.
+    fn loqshyber_bisection(weights: u8, leg_counts: u8, legs: u16, outputs: u16, draws: u64;
+        tree: u16, words: u64, answer: u64; imbalance: usize, cutoff: usize) -> u32;
+    /// The number of the refusal, or 0, the children in `tree` and both counts in `answer`.
+    fn loqshyber_reconfigure(weights: u8, leg_counts: u8, legs: u16, outputs: u16, flags: u8;
+        tree: u16, words: u64, answer: u64; k: usize, passes: usize, limit: u32) -> u32;
+    /// The number of the refusal, or 0, the children in `tree`, the flags, and both counts in `answer`.
+    fn loqshyber_slice_tree(weights: u8, leg_counts: u8, legs: u16, outputs: u16;
+        tree: u16, flags: u8, words: u64, answer: u64; improving: u32, target: u16) -> u32;
 }
 
-/// What the program `plan` prints for a file: its text to the front of `out`, and its length.
-#[cfg(port)]
-pub fn plan(file: &[u8], out: &mut [u8]) -> usize {
-    // SAFETY: both parts are as long as is said, and neither is kept past the call
-    unsafe { loqshyber_plan(file.as_ptr(), file.len(), out.as_mut_ptr(), out.len()) }
-}
-
-/// Prices a network in memory: the number of the refusal, or 0 and the price list.
-#[cfg(port)]
-pub fn tree_cost(given: &Given, lent: &mut Lent) -> u32 {
-    // SAFETY: each list is as long as is said, none overlaps another, and none is kept past the call
-    unsafe {
-        loqshyber_tree_cost(
-            given.weights.as_ptr(),
-            given.weights.len(),
-            given.leg_counts.as_ptr(),
-            given.leg_counts.len(),
-            given.legs.as_ptr(),
-            given.legs.len(),
-            given.outputs.as_ptr(),
-            given.outputs.len(),
-            given.flags.as_ptr(),
-            given.flags.len(),
-            given.tree.as_ptr(),
-            given.tree.len(),
-            lent.words.as_mut_ptr(),
-            lent.words.len(),
-            lent.sets.as_mut_ptr(),
-            lent.sets.len(),
-            lent.sizes.as_mut_ptr(),
-            lent.sizes.len(),
-            lent.works.as_mut_ptr(),
-            lent.works.len(),
-            lent.steps.as_mut_ptr(),
-            lent.steps.len(),
-            lent.answer.as_mut_ptr(),
-            lent.answer.len(),
-        )
+/// Says what is not at hand, and whether the port is.
+pub fn ready() -> bool {
+    if !AT_HAND {
+        println!("{MISSING}");
+    } else if !crate::rust::AT_HAND {
+        println!("{}", crate::rust::MISSING);
     }
+    AT_HAND
 }
 
-#[cfg(not(port))]
-pub fn tree_cost(_given: &Given, _lent: &mut Lent) -> u32 {
-    panic!("{MISSING}")
-}
-
-#[cfg(not(port))]
-pub fn price(_file: &[u8], _out: &mut [u8]) -> u32 {
-    panic!("{MISSING}")
-}
-
-#[cfg(not(port))]
-pub fn plan(_file: &[u8], _out: &mut [u8]) -> usize {
-    panic!("{MISSING}")
+/// The exit status of a comparison with so many differences that have no name.
+pub fn verdict(unnamed: usize) -> ExitCode {
+    if unnamed == 0 {
+        ExitCode::SUCCESS
+    } else {
+        ExitCode::FAILURE
+    }
 }

@@ -4,7 +4,7 @@ use super::call::{self, Ask, Lent, WORDS};
 use super::cases::Question;
 use crate::case::LEAVES;
 use crate::greedy::bench::{least_and_median, pedigree, time};
-use crate::greedy::call::Given;
+use crate::lent::Given;
 use crate::{port, rust};
 use std::hint::black_box;
 

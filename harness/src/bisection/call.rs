@@ -1,15 +1,11 @@
-//! The port's bisection, through its C function, on lists in memory. A slice crosses the boundary as a pointer and a length.
+//! The port's bisection on lists in memory.
 
 use super::Answer;
-use crate::greedy::call::Given;
+use crate::lent::{marked_from, words_kept, Given, BEYOND, MARK, WORD_MARK};
+use crate::port::loqshyber_bisection;
 
 /// The stated workspace, in words.
 pub const WORDS: usize = 32_768;
-/// What stands in the lent lists before a call.
-const MARK: u16 = 0xa5a5;
-const WORD_MARK: u64 = 0xa5a5_a5a5_a5a5_a5a5;
-/// Places and words that are lent beyond what is stated.
-const BEYOND: usize = 3;
 
 /// What is asked of a network.
 #[derive(Clone, Copy)]
@@ -26,76 +22,29 @@ pub struct Lent {
     pub answer: Vec<u64>,
 }
 
-#[cfg(port)]
-extern "C" {
-    fn loqshyber_bisection(
-        weights: *const u8,
-        weights_len: usize,
-        leg_counts: *const u8,
-        leg_counts_len: usize,
-        legs: *const u16,
-        legs_len: usize,
-        outputs: *const u16,
-        outputs_len: usize,
-        draws: *const u64,
-        draws_len: usize,
-        tree: *mut u16,
-        tree_len: usize,
-        words: *mut u64,
-        words_len: usize,
-        answer: *mut u64,
-        answer_len: usize,
-        imbalance: usize,
-        cutoff: usize,
-    ) -> u32;
-}
-
 /// The number of the refusal, or 0, the children at the front of the tree's list and the words taken in the answer's.
-#[cfg(port)]
 pub fn bisection(given: &Given, ask: Ask, lent: &mut Lent) -> u32 {
-    // SAFETY: each list is as long as is said, none overlaps another, and none is kept past the call
-    unsafe {
-        loqshyber_bisection(
-            given.weights.as_ptr(),
-            given.weights.len(),
-            given.leg_counts.as_ptr(),
-            given.leg_counts.len(),
-            given.legs.as_ptr(),
-            given.legs.len(),
-            given.outputs.as_ptr(),
-            given.outputs.len(),
-            ask.draws.as_ptr(),
-            ask.draws.len(),
-            lent.tree.as_mut_ptr(),
-            lent.tree.len(),
-            lent.words.as_mut_ptr(),
-            lent.words.len(),
-            lent.answer.as_mut_ptr(),
-            lent.answer.len(),
-            ask.imbalance,
-            ask.cutoff,
-        )
-    }
+    let Lent { tree, words, answer } = lent;
+    loqshyber_bisection(
+        &given.weights,
+        &given.leg_counts,
+        &given.legs,
+        &given.outputs,
+        ask.draws,
+        tree,
+        words,
+        answer,
+        ask.imbalance,
+        ask.cutoff,
+    )
 }
 
-#[cfg(not(port))]
-pub fn bisection(_given: &Given, _ask: Ask, _lent: &mut Lent) -> u32 {
-    panic!("{}", crate::port::MISSING)
-}
-
-/// Whether the lent lists are as they must be after a call: the tree's list and the answer untouched after a refusal, and else past what is stated;
-/// the stated words 0, or untouched after refusals 3 to 7; words past them untouched.
+/// Whether the lent lists are as they must be after a call: the tree's list and the answer untouched after a refusal, and else past what is stated.
 fn lists_kept(refusal: u32, places: usize, lent: &Lent) -> Result<(), String> {
     let (tree, answer) = if refusal == 0 { (places, 1) } else { (0, 0) };
-    if lent.tree[tree..].iter().any(|&x| x != MARK) || lent.answer[answer..].iter().any(|&x| x != WORD_MARK) {
-        return Err(format!("number {refusal}, and a list is touched where it must not be"));
-    }
-    let stated = lent.words.len().min(WORDS);
-    let left = if (3..8).contains(&refusal) { WORD_MARK } else { 0 };
-    if lent.words[..stated].iter().any(|&x| x != left) || lent.words[stated..].iter().any(|&x| x != WORD_MARK) {
-        return Err(format!("number {refusal}, and the words are not {left:x} up to the stated length and marks past it"));
-    }
-    Ok(())
+    marked_from(refusal, "the tree's list is", &lent.tree, tree, MARK)?;
+    marked_from(refusal, "the answer's list is", &lent.answer, answer, WORD_MARK)?;
+    words_kept(refusal, WORDS, &lent.words)
 }
 
 /// The call on marked lists of so many places, words and numbers.

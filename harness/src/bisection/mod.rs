@@ -10,7 +10,7 @@ mod cases;
 pub mod lines;
 pub mod record;
 
-use crate::greedy::call::Given;
+use crate::lent::Given;
 use crate::numbers::Numbers;
 use crate::{port, rust};
 use call::Ask;
@@ -180,12 +180,10 @@ impl Comparison {
 
 /// So many questions, one in eight on a practice pedigree; the exit status is 0 only if there is no difference that has no name.
 pub fn run(count: usize, seed: u64) -> ExitCode {
-    if !port::AT_HAND {
-        println!("{}", port::MISSING);
+    if !port::ready() {
         return ExitCode::FAILURE;
     }
     if !rust::AT_HAND {
-        println!("{}", rust::MISSING);
         return ExitCode::SUCCESS;
     }
     let (mut numbers, mut comparison) = (Numbers::new(seed), Comparison::default());
@@ -200,9 +198,5 @@ pub fn run(count: usize, seed: u64) -> ExitCode {
     (0..count.div_ceil(8)).for_each(|k| comparison.run(&cases::pedigree(&mut numbers, k)));
     comparison.tell("practice pedigrees", before);
     comparison.tell("all", Counts::default());
-    if comparison.counts.unnamed == 0 {
-        ExitCode::SUCCESS
-    } else {
-        ExitCode::FAILURE
-    }
+    port::verdict(comparison.counts.unnamed)
 }

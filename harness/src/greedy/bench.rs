@@ -1,7 +1,8 @@
 //! Greedy on both sides, on pedigrees of 8 to 128 tables.
 
-use super::call::{self, Given, WORDS};
+use super::call::{self, WORDS};
 use crate::case::{Case, Network, LEAVES};
+use crate::lent::Given;
 use crate::networks::practice_pedigree;
 use crate::{port, rust};
 use std::hint::black_box;

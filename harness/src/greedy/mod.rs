@@ -11,8 +11,8 @@ mod tests;
 pub use cases::wide as wide_networks;
 
 use crate::case::{Case, Network, Tree};
+use crate::lent::Given;
 use crate::{port, rust};
-use call::Given;
 use model::{Rest, TooWide};
 use std::process::ExitCode;
 
@@ -122,19 +122,11 @@ impl Comparison {
 
 /// All cases; the exit status is 0 only if no difference is unnamed.
 pub fn run(count: usize, seed: u64) -> ExitCode {
-    if !port::AT_HAND {
-        println!("{}", port::MISSING);
+    if !port::ready() {
         return ExitCode::FAILURE;
-    }
-    if !rust::AT_HAND {
-        println!("{}", rust::MISSING);
     }
     let mut comparison = Comparison::default();
     cases::run(&mut comparison, count, seed);
     comparison.tell("all", Counts::default());
-    if comparison.counts.unnamed == 0 {
-        ExitCode::SUCCESS
-    } else {
-        ExitCode::FAILURE
-    }
+    port::verdict(comparison.counts.unnamed)
 }

@@ -1,10 +1,11 @@
 //! The greedy entry of docs/DIFFERENCES.md on both sides, refusals by number, and the second reading by itself.
 
-use super::call::{self, Given};
+use super::call;
 use super::cases;
 use super::model::{self, Rest};
 use super::{outcome, Outcome};
 use crate::case::{Network, LEGS};
+use crate::lent::Given;
 use crate::port;
 
 fn network(weights: &[u8], leaves: &[&[u16]]) -> Network {

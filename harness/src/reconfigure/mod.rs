@@ -9,7 +9,7 @@ pub mod record;
 mod tests;
 
 use crate::case::{Case, Network, Tree};
-use crate::greedy::call::Given;
+use crate::lent::Given;
 use crate::{port, rust};
 use call::Call;
 use model::{Ask, Improved};
@@ -124,19 +124,11 @@ impl Comparison {
 
 /// All questions; the exit status is 0 only if there is no difference.
 pub fn run(count: usize, seed: u64) -> ExitCode {
-    if !port::AT_HAND {
-        println!("{}", port::MISSING);
+    if !port::ready() {
         return ExitCode::FAILURE;
-    }
-    if !rust::AT_HAND {
-        println!("{}", rust::MISSING);
     }
     let mut comparison = Comparison::default();
     cases::run(&mut comparison, count, seed);
     comparison.tell("all", Counts::default());
-    if comparison.counts.unnamed == 0 {
-        ExitCode::SUCCESS
-    } else {
-        ExitCode::FAILURE
-    }
+    port::verdict(comparison.counts.unnamed)
 }

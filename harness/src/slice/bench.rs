@@ -4,7 +4,7 @@ use super::call::{self, words, Lent};
 use super::model::Target;
 use crate::case::{Case, LEAVES};
 use crate::greedy::bench::{least_and_median, time};
-use crate::greedy::call::Given;
+use crate::lent::Given;
 use crate::reconfigure::{bench::network, model};
 use crate::{port, rust};
 use std::hint::black_box;

@@ -7,7 +7,7 @@ pub mod model;
 mod tests;
 
 use crate::case::Case;
-use crate::greedy::call::Given;
+use crate::lent::Given;
 use crate::networks::SHAPES;
 use crate::numbers::Numbers;
 use crate::reconfigure::{cases, Question};
@@ -119,12 +119,8 @@ fn target(numbers: &mut Numbers, question: &Question) -> Target {
 
 /// So many questions, one in eight on a practice pedigree; the exit status is 0 only if there is no difference that has no name.
 pub fn run(count: usize, seed: u64) -> ExitCode {
-    if !port::AT_HAND {
-        println!("{}", port::MISSING);
+    if !port::ready() {
         return ExitCode::FAILURE;
-    }
-    if !rust::AT_HAND {
-        println!("{}", rust::MISSING);
     }
     let (mut numbers, mut comparison) = (Numbers::new(seed), Comparison::default());
     for (k, &shape) in SHAPES.iter().enumerate() {
@@ -144,9 +140,5 @@ pub fn run(count: usize, seed: u64) -> ExitCode {
     }
     comparison.tell("practice pedigrees", before);
     comparison.tell("all", Counts::default());
-    if comparison.counts.unnamed == 0 {
-        ExitCode::SUCCESS
-    } else {
-        ExitCode::FAILURE
-    }
+    port::verdict(comparison.counts.unnamed)
 }

@@ -3,7 +3,7 @@
 use super::call;
 use super::model::{is_close, slice, Sliced, Target};
 use crate::case::{Case, Network, Tree};
-use crate::greedy::call::Given;
+use crate::lent::Given;
 use crate::{port, rust};
 
 fn both(network: &Network, tree: &Tree, target: Target) -> Result<Sliced, u32> {
