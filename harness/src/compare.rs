@@ -3,6 +3,7 @@
 use crate::case::Case;
 use crate::listing::{sum_of_powers, Listing, Total, MOST};
 use crate::rust::{Answer, Cost, Validity};
+use crate::tally::{ensure, Tally};
 use crate::{memory, port, rust};
 use std::fmt::Write;
 
@@ -12,35 +13,15 @@ const INVALID_TREE: u32 = 8;
 const NO_ROOM: u32 = 7;
 /// What stands in the buffer before a call.
 const MARK: u8 = 0xa5;
-/// How many differences are told.
-const TOLD: usize = 10;
 
-#[derive(Clone, Copy, Default)]
-pub struct Counts {
-    pub cases: usize,
-    pub valid: usize,
-    pub invalid: usize,
-    /// Cases in which the Rust's `is_valid` panics. They are among the invalid ones.
-    pub panics: usize,
-    pub beyond: usize,
-    pub steps: usize,
-}
+/// What is counted. The cases in which the Rust's `is_valid` panics are among those that are not valid.
+const KINDS: [&str; 6] = ["cases", "valid", "steps", "totals beyond", "not valid", "panics of is_valid"];
 
-#[derive(Default)]
 pub struct Comparison {
-    pub counts: Counts,
-    pub differences: usize,
+    pub tally: Tally,
 }
 
 type Checked = Result<(), String>;
-
-fn ensure(holds: bool, what: impl FnOnce() -> String) -> Checked {
-    if holds {
-        Ok(())
-    } else {
-        Err(what())
-    }
-}
 
 fn close(name: &str, port: f64, rust: f64) -> Checked {
     ensure(port == rust || (port - rust).abs() <= TOLERANCE, || format!("{name}: port {port}, Rust {rust}"))
@@ -131,6 +112,10 @@ fn same_answer(case: &Case, port: &Result<Listing, u32>, answer: &Answer) -> Che
 }
 
 impl Comparison {
+    pub fn new() -> Self {
+        Self { tally: Tally::new(&KINDS) }
+    }
+
     /// Runs one case on the port and, if it is at hand, on the Rust.
     pub fn run(&mut self, case: &Case) {
         let file = case.file();
@@ -144,40 +129,23 @@ impl Comparison {
             memory::check(case, port, answer.as_ref().and_then(|answer| answer.cost.as_ref()))
         });
         if let Err(what) = result {
-            self.differences += 1;
-            if self.differences <= TOLD {
-                println!("DIFFERENCE: {what}\n  file {}", hex(&file));
-            }
+            self.tally.difference(what, hex(&file));
         }
         self.count(port.as_ref().ok(), answer.as_ref());
     }
 
     fn count(&mut self, port: Option<&Result<Listing, u32>>, answer: Option<&Answer>) {
-        let counts = &mut self.counts;
-        counts.cases += 1;
-        counts.panics += answer.is_some_and(|answer| answer.validity == Validity::Panics) as usize;
+        let tally = &mut self.tally;
+        tally.one("cases");
+        tally.add("panics of is_valid", answer.is_some_and(|answer| answer.validity == Validity::Panics) as u64);
         match port {
             Some(Ok(listing)) => {
-                counts.valid += 1;
-                counts.steps += listing.steps.len();
-                counts.beyond += (listing.total == Total::Beyond) as usize;
+                tally.one("valid");
+                tally.add("steps", listing.steps.len() as u64);
+                tally.add("totals beyond", (listing.total == Total::Beyond) as u64);
             }
-            _ => counts.invalid += 1,
+            _ => tally.one("not valid"),
         }
-    }
-
-    /// A line on what was compared since `before`.
-    pub fn tell(&self, name: &str, before: Counts) {
-        let now = self.counts;
-        println!(
-            "{name:<28} {:>8} cases: {:>7} valid ({} steps, {} totals beyond), {} not valid ({} panics of is_valid)",
-            now.cases - before.cases,
-            now.valid - before.valid,
-            now.steps - before.steps,
-            now.beyond - before.beyond,
-            now.invalid - before.invalid,
-            now.panics - before.panics,
-        );
     }
 }
 

@@ -44,11 +44,10 @@ pub fn cases() -> Vec<Case> {
 }
 
 pub fn run(comparison: &mut Comparison) {
-    let before = comparison.counts;
     for case in cases() {
         comparison.run(&case);
     }
-    comparison.tell("edges of totals", before);
+    comparison.tally.tell("edges of totals");
 }
 
 #[cfg(test)]

@@ -46,13 +46,12 @@ pub fn case_of(numbers: &mut Numbers, shape: Shape, leaf_count: usize) -> Case {
 pub fn run(comparison: &mut Comparison, count: usize, seed: u64) {
     let mut numbers = Numbers::new(seed);
     for (k, &shape) in SHAPES.iter().enumerate() {
-        let before = comparison.counts;
         for _ in 0..(count + k) / SHAPES.len() {
             let mut case = case(&mut numbers, shape);
             comparison.run(&case);
             case.tree = Some(trees::broken(&mut numbers, case.network.leaves.len()));
             comparison.run(&case);
         }
-        comparison.tell(&format!("{shape:?}, random"), before);
+        comparison.tally.tell(&format!("{shape:?}, random"));
     }
 }

@@ -26,6 +26,7 @@ mod record;
 mod rust;
 mod slice;
 mod small;
+mod tally;
 mod tree_record;
 mod trees;
 
@@ -54,13 +55,11 @@ fn compare(count: usize, seed: u64) -> ExitCode {
     if !port::ready() {
         return ExitCode::FAILURE;
     }
-    let mut comparison = compare::Comparison::default();
+    let mut comparison = compare::Comparison::new();
     small::run(&mut comparison, seed);
     edges::run(&mut comparison);
     large::run(&mut comparison, count, seed);
-    comparison.tell("all", compare::Counts::default());
-    println!("{} differences", comparison.differences);
-    port::verdict(comparison.differences)
+    comparison.tally.end()
 }
 
 /// What became of writing the input and output of a crate.

@@ -1,7 +1,5 @@
 //! The port, through its C functions. A slice crosses the boundary as a pointer and a length.
 
-use std::process::ExitCode;
-
 /// Whether the port is linked in.
 pub const AT_HAND: bool = cfg!(port);
 
@@ -63,13 +61,4 @@ pub fn ready() -> bool {
         println!("{}", crate::rust::MISSING);
     }
     AT_HAND
-}
-
-/// The exit status of a comparison with so many differences that have no name.
-pub fn verdict(unnamed: usize) -> ExitCode {
-    if unnamed == 0 {
-        ExitCode::SUCCESS
-    } else {
-        ExitCode::FAILURE
-    }
 }

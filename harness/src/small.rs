@@ -57,7 +57,6 @@ fn flags(bits: usize) -> Option<Vec<bool>> {
 
 /// Every network with every valid tree and, if asked, every set of flags.
 fn networks(comparison: &mut Comparison, leaf_count: usize, weights: &[u8], with_flags: bool) {
-    let before = comparison.counts;
     let trees = all_valid(leaf_count);
     let sets = if with_flags { 1 << weights.len() } else { 1 };
     for network in all_networks(leaf_count, weights) {
@@ -68,40 +67,37 @@ fn networks(comparison: &mut Comparison, leaf_count: usize, weights: &[u8], with
             }
         }
     }
-    comparison.tell(&format!("{leaf_count} leaves, weights {weights:?}"), before);
+    comparison.tally.tell(&format!("{leaf_count} leaves, weights {weights:?}"));
 }
 
 /// Every list of children, valid or not, over one network.
 fn lists(comparison: &mut Comparison, leaf_count: usize, end: u16) {
-    let before = comparison.counts;
     let leaves = (0..leaf_count as u16).map(|i| vec![i, i + 1]).collect();
     let network = Network { weights: vec![1; leaf_count + 1], leaves, outputs: vec![0] };
     for tree in all_lists(leaf_count, end) {
         comparison.run(&Case { network: network.clone(), tree: Some(tree), flags: None });
     }
-    comparison.tell(&format!("{leaf_count} leaves, every list"), before);
+    comparison.tally.tell(&format!("{leaf_count} leaves, every list"));
 }
 
 /// Every tree of so many leaves, up to the order of children and the numbers of nodes, each over a random network.
 fn every_shape(comparison: &mut Comparison, numbers: &mut Numbers, leaf_count: usize) {
-    let before = comparison.counts;
     for k in 0..shapes(leaf_count) {
         let mut case = large::case_of(numbers, SHAPES[k % SHAPES.len()], leaf_count);
         case.tree = Some(of_shape(numbers, leaf_count, k));
         comparison.run(&case);
     }
-    comparison.tell(&format!("{leaf_count} leaves, every shape"), before);
+    comparison.tally.tell(&format!("{leaf_count} leaves, every shape"));
 }
 
 /// Networks without a tree: none is due up to one leaf.
 fn without_tree(comparison: &mut Comparison) {
-    let before = comparison.counts;
     for leaf_count in 0..4 {
         for network in all_networks(leaf_count, &[3]) {
             comparison.run(&Case { network, tree: None, flags: Some(vec![true]) });
         }
     }
-    comparison.tell("no tree", before);
+    comparison.tally.tell("no tree");
 }
 
 pub fn run(comparison: &mut Comparison, seed: u64) {

@@ -12,13 +12,12 @@ pub mod record;
 
 use crate::lent::Given;
 use crate::numbers::Numbers;
+use crate::tally::{ensure, Tally};
 use crate::{port, rust};
 use call::Ask;
 use cases::Question;
 use std::process::ExitCode;
 
-/// How many differences are told.
-const TOLD: usize = 10;
 const TOO_WIDE: u32 = 12;
 const SPENT: u32 = 13;
 /// Words that suffice for most questions.
@@ -63,34 +62,15 @@ impl Settled {
     }
 }
 
-#[derive(Clone, Copy, Default)]
-struct Counts {
-    questions: usize,
-    /// The same children and the same number of words.
-    same: usize,
-    /// Of these, with a word taken.
-    drawn: usize,
-    /// Asked again with one word less, and refused 13.
-    spent: usize,
-    /// Refused 12 by the port, as the settled copy has it.
-    too_wide: usize,
-    /// The rest of a small end is in another order, for the empty sum's −0.0.
-    rest: usize,
-    unnamed: usize,
-}
+/// What is counted: questions; answers with the same children and number of words, and those of them with a word taken; questions asked again with one word less
+/// and refused 13; refusals 12 of the port, as the settled copy has it; small ends whose rest is in another order, for the empty sum's −0.0.
+const KINDS: [&str; 6] =
+    ["questions", "same", "of them with draws", "refused 13 one word short", "refused 12", "by the rest of size 0"];
 
 enum Outcome {
     Same(usize),
     TooWide,
     Rest,
-}
-
-fn ensure(holds: bool, what: impl FnOnce() -> String) -> Result<(), String> {
-    if holds {
-        Ok(())
-    } else {
-        Err(what())
-    }
 }
 
 /// The settled copy on as many of the question's words as suffice.
@@ -135,46 +115,27 @@ fn outcome(question: &Question, with_room: bool) -> Result<(Outcome, bool), Stri
     Ok((if rust.children == children { Outcome::Same(taken) } else { Outcome::Rest }, needed > 0))
 }
 
-#[derive(Default)]
 struct Comparison {
-    counts: Counts,
+    tally: Tally,
+    questions: usize,
 }
 
 impl Comparison {
     fn run(&mut self, question: &Question) {
-        let counts = &mut self.counts;
-        counts.questions += 1;
-        let result = outcome(question, counts.questions % ROOM == 0);
-        counts.spent += matches!(result, Ok((_, true))) as usize;
+        self.questions += 1;
+        let tally = &mut self.tally;
+        tally.one("questions");
+        let result = outcome(question, self.questions % ROOM == 0);
+        tally.add("refused 13 one word short", matches!(result, Ok((_, true))) as u64);
         match result {
             Ok((Outcome::Same(taken), _)) => {
-                counts.same += 1;
-                counts.drawn += (taken > 0) as usize;
+                tally.one("same");
+                tally.add("of them with draws", (taken > 0) as u64);
             }
-            Ok((Outcome::TooWide, _)) => counts.too_wide += 1,
-            Ok((Outcome::Rest, _)) => counts.rest += 1,
-            Err(what) => {
-                counts.unnamed += 1;
-                if counts.unnamed <= TOLD {
-                    println!("DIFFERENCE: {what}\n  {question:?}");
-                }
-            }
+            Ok((Outcome::TooWide, _)) => tally.one("refused 12"),
+            Ok((Outcome::Rest, _)) => tally.one("by the rest of size 0"),
+            Err(what) => tally.difference(what, question),
         }
-    }
-
-    /// A line on what was compared since `before`.
-    fn tell(&self, name: &str, before: Counts) {
-        let now = self.counts;
-        println!(
-            "{name:<22} {:>6} questions: {:>6} same, {:>6} of them with draws, {:>6} refused 13 one word short, {:>5} refused 12, {:>5} by the rest of size 0, {} unnamed",
-            now.questions - before.questions,
-            now.same - before.same,
-            now.drawn - before.drawn,
-            now.spent - before.spent,
-            now.too_wide - before.too_wide,
-            now.rest - before.rest,
-            now.unnamed - before.unnamed,
-        );
     }
 }
 
@@ -186,17 +147,14 @@ pub fn run(count: usize, seed: u64) -> ExitCode {
     if !rust::AT_HAND {
         return ExitCode::SUCCESS;
     }
-    let (mut numbers, mut comparison) = (Numbers::new(seed), Comparison::default());
+    let (mut numbers, mut comparison) = (Numbers::new(seed), Comparison { tally: Tally::new(&KINDS), questions: 0 });
     cases::wide(&mut numbers).iter().for_each(|question| comparison.run(question));
-    comparison.tell("about 40 bits", Counts::default());
+    comparison.tally.tell("about 40 bits");
     for (name, largest) in [("random, to 8 leaves", 8), ("random, to 40 leaves", 40), ("random, to 128 leaves", 128)] {
-        let before = comparison.counts;
         (0..count * 7 / 24).for_each(|k| comparison.run(&cases::mostly_light(&mut numbers, k, largest)));
-        comparison.tell(name, before);
+        comparison.tally.tell(name);
     }
-    let before = comparison.counts;
     (0..count.div_ceil(8)).for_each(|k| comparison.run(&cases::pedigree(&mut numbers, k)));
-    comparison.tell("practice pedigrees", before);
-    comparison.tell("all", Counts::default());
-    port::verdict(comparison.counts.unnamed)
+    comparison.tally.tell("practice pedigrees");
+    comparison.tally.end()
 }

@@ -22,7 +22,6 @@ fn every(leaf_count: usize, weights: &[u8]) -> impl Iterator<Item = Network> + '
 }
 
 fn small(comparison: &mut Comparison) {
-    let before = comparison.counts;
     for leaf_count in 0..4 {
         for weights in [&[][..], &[0], &[2], &[0, 0], &[0, 1], &[1, 2], &[0, 0, 1], &[0, 8, 3], &[1, 1, 1]] {
             every(leaf_count, weights).for_each(|network| comparison.run(&network));
@@ -32,7 +31,7 @@ fn small(comparison: &mut Comparison) {
         every(4, weights).for_each(|network| comparison.run(&network));
     }
     every(5, &[0, 1]).for_each(|network| comparison.run(&network));
-    comparison.tell("0 to 5 leaves, every network", before);
+    comparison.tally.tell("0 to 5 leaves, every network");
 }
 
 /// Weights that sum to so many bits.
@@ -96,7 +95,6 @@ fn light(numbers: &mut Numbers, mut network: Network) -> Network {
 
 /// Random networks of one shape, with any weights or with light ones.
 fn random(comparison: &mut Comparison, numbers: &mut Numbers, shape: Shape, count: usize, is_light: bool) {
-    let before = comparison.counts;
     for _ in 0..count {
         let mut network = large::case(numbers, shape).network;
         if is_light {
@@ -104,12 +102,11 @@ fn random(comparison: &mut Comparison, numbers: &mut Numbers, shape: Shape, coun
         }
         comparison.run(&network);
     }
-    comparison.tell(&format!("{shape:?}, random{}", if is_light { ", weights 0 and 1" } else { "" }), before);
+    comparison.tally.tell(&format!("{shape:?}, random{}", if is_light { ", weights 0 and 1" } else { "" }));
 }
 
 /// Pedigrees of 2 to 64 animals, with weights of 2 and with others.
 fn pedigrees(comparison: &mut Comparison, numbers: &mut Numbers, count: usize) {
-    let before = comparison.counts;
     for k in 0..count {
         let mut network = practice_pedigree(2 + k % 63, 1 + k as u64);
         if k % 2 == 1 {
@@ -121,12 +118,11 @@ fn pedigrees(comparison: &mut Comparison, numbers: &mut Numbers, count: usize) {
         }
         comparison.run(&network);
     }
-    comparison.tell("practice pedigrees", before);
+    comparison.tally.tell("practice pedigrees");
 }
 
 /// Leaves of 32 legs that all share: as many pairs as there can be.
 fn full(comparison: &mut Comparison, numbers: &mut Numbers) {
-    let before = comparison.counts;
     for k in 0..40 {
         let mut network = network(numbers, Shape::Dense, LEAVES);
         let most = (k % 4) as u8;
@@ -138,14 +134,13 @@ fn full(comparison: &mut Comparison, numbers: &mut Numbers) {
         }
         comparison.run(&network);
     }
-    comparison.tell("128 leaves, all pairs share", before);
+    comparison.tally.tell("128 leaves, all pairs share");
 }
 
 pub fn run(comparison: &mut Comparison, count: usize, seed: u64) {
     small(comparison);
-    let before = comparison.counts;
     wide().iter().for_each(|network| comparison.run(network));
-    comparison.tell("about 40 bits", before);
+    comparison.tally.tell("about 40 bits");
     let mut numbers = Numbers::new(seed);
     for is_light in [false, true] {
         for (k, &shape) in SHAPES.iter().enumerate() {

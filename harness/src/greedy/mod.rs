@@ -12,49 +12,39 @@ pub use cases::wide as wide_networks;
 
 use crate::case::{Case, Network, Tree};
 use crate::lent::Given;
+use crate::tally::{ensure, Tally};
 use crate::{port, rust};
 use model::{Rest, TooWide};
 use std::process::ExitCode;
 
-/// How many differences are told.
-const TOLD: usize = 10;
 const TOO_WIDE: u32 = 12;
-
-#[derive(Clone, Copy, Default)]
-struct Counts {
-    networks: usize,
-    /// Both trees are the same.
-    same: usize,
-    /// The port's tree is the second reading's; there is no Rust at hand.
-    alone: usize,
-    /// Refused 12 by the port, as the second reading has it. The Rust has no such refusal.
-    too_wide: usize,
-    /// The rest is in another order, for the empty sum's −0.0.
-    rest: usize,
-    /// Anything else.
-    unnamed: usize,
-}
 
 /// What becomes of a network.
 #[derive(Clone, Copy, Debug, PartialEq, Eq)]
 enum Outcome {
+    /// Both trees are the same.
     Same,
+    /// The port's tree is the second reading's; there is no Rust at hand.
     Alone,
+    /// Refused 12 by the port, as the second reading has it. The Rust has no such refusal.
     TooWide,
+    /// The rest is in another order, for the empty sum's −0.0.
     Rest,
 }
 
-#[derive(Default)]
-pub struct Comparison {
-    counts: Counts,
+impl Outcome {
+    fn words(self) -> &'static str {
+        match self {
+            Self::Same => "same",
+            Self::Alone => "without the Rust",
+            Self::TooWide => "refused 12",
+            Self::Rest => "by the rest of size 0",
+        }
+    }
 }
 
-fn ensure(holds: bool, what: impl FnOnce() -> String) -> Result<(), String> {
-    if holds {
-        Ok(())
-    } else {
-        Err(what())
-    }
+pub struct Comparison {
+    tally: Tally,
 }
 
 /// path.rs's greedy and what its `is_valid` says of the tree, if path.rs is at hand.
@@ -89,34 +79,11 @@ fn outcome(network: &Network) -> Result<Outcome, String> {
 
 impl Comparison {
     fn run(&mut self, network: &Network) {
-        let counts = &mut self.counts;
-        counts.networks += 1;
+        self.tally.one("networks");
         match outcome(network) {
-            Ok(Outcome::Same) => counts.same += 1,
-            Ok(Outcome::Alone) => counts.alone += 1,
-            Ok(Outcome::TooWide) => counts.too_wide += 1,
-            Ok(Outcome::Rest) => counts.rest += 1,
-            Err(what) => {
-                counts.unnamed += 1;
-                if counts.unnamed <= TOLD {
-                    println!("DIFFERENCE: {what}\n  {network:?}");
-                }
-            }
+            Ok(outcome) => self.tally.one(outcome.words()),
+            Err(what) => self.tally.difference(what, network),
         }
-    }
-
-    /// A line on what was compared since `before`.
-    fn tell(&self, name: &str, before: Counts) {
-        let now = self.counts;
-        println!(
-            "{name:<34} {:>7} networks: {:>7} same, {:>7} without the Rust, {:>6} refused 12, {:>6} by the rest of size 0, {} unnamed",
-            now.networks - before.networks,
-            now.same - before.same,
-            now.alone - before.alone,
-            now.too_wide - before.too_wide,
-            now.rest - before.rest,
-            now.unnamed - before.unnamed,
-        );
     }
 }
 
@@ -125,8 +92,8 @@ pub fn run(count: usize, seed: u64) -> ExitCode {
     if !port::ready() {
         return ExitCode::FAILURE;
     }
-    let mut comparison = Comparison::default();
+    let kinds = [Outcome::Same, Outcome::Alone, Outcome::TooWide, Outcome::Rest].map(Outcome::words);
+    let mut comparison = Comparison { tally: Tally::new(&[&["networks"], &kinds[..]].concat()) };
     cases::run(&mut comparison, count, seed);
-    comparison.tell("all", Counts::default());
-    port::verdict(comparison.counts.unnamed)
+    comparison.tally.end()
 }

@@ -136,15 +136,13 @@ pub fn wide(numbers: &mut Numbers, k: usize) -> Question {
 pub fn run(comparison: &mut Comparison, count: usize, seed: u64) {
     let mut numbers = Numbers::new(seed);
     for (k, &shape) in SHAPES.iter().enumerate() {
-        let before = comparison.counts;
         for _ in 0..(count * 7 / 8 + k) / SHAPES.len() {
             comparison.run(&random(&mut numbers, shape));
         }
-        comparison.tell(&format!("{shape:?}, random"), before);
+        comparison.tally.tell(&format!("{shape:?}, random"));
     }
-    let before = comparison.counts;
     for k in 0..count.div_ceil(8) {
         comparison.run(&pedigree(&mut numbers, k));
     }
-    comparison.tell("practice pedigrees", before);
+    comparison.tally.tell("practice pedigrees");
 }

@@ -10,13 +10,11 @@ mod tests;
 
 use crate::case::{Case, Network, Tree};
 use crate::lent::Given;
+use crate::tally::Tally;
 use crate::{port, rust};
 use call::Call;
 use model::{Ask, Improved};
 use std::process::ExitCode;
-
-/// How many differences are told.
-const TOLD: usize = 10;
 
 /// A network with a valid tree, flags, and what is asked.
 #[derive(Clone, Debug)]
@@ -27,24 +25,11 @@ pub struct Question {
     ask: Ask,
 }
 
-#[derive(Clone, Copy, Default)]
-struct Counts {
-    questions: usize,
-    /// The same children and counts.
-    same: usize,
-    /// Of these, with a tree that is changed.
-    rebuilt: usize,
-    /// Refused 10, and 11.
-    beyond: usize,
-    dangling: usize,
-    rebuilds: u64,
-    splits: u64,
-    unnamed: usize,
-}
+/// What is counted: questions; answers with the same children and counts, and those of them with a tree that is changed; refusals; and the counts' sums.
+const KINDS: [&str; 7] = ["questions", "same", "of them rebuilt", "refused 10", "refused 11", "rebuilds", "splits"];
 
-#[derive(Default)]
 pub struct Comparison {
-    counts: Counts,
+    tally: Tally,
 }
 
 impl Question {
@@ -85,40 +70,19 @@ fn outcome(question: &Question) -> Result<Result<Improved, u32>, String> {
 
 impl Comparison {
     fn run(&mut self, question: &Question) {
-        let counts = &mut self.counts;
-        counts.questions += 1;
+        let tally = &mut self.tally;
+        tally.one("questions");
         match outcome(question) {
             Ok(Ok(improved)) => {
-                counts.same += 1;
-                counts.rebuilt += (improved.rebuilt > 0) as usize;
-                counts.rebuilds += improved.rebuilt;
-                counts.splits += improved.tried;
+                tally.one("same");
+                tally.add("of them rebuilt", (improved.rebuilt > 0) as u64);
+                tally.add("rebuilds", improved.rebuilt);
+                tally.add("splits", improved.tried);
             }
-            Ok(Err(10)) => counts.beyond += 1,
-            Ok(Err(11)) => counts.dangling += 1,
-            other => {
-                counts.unnamed += 1;
-                if counts.unnamed <= TOLD {
-                    println!("DIFFERENCE: {other:?}\n  {question:?}");
-                }
-            }
+            Ok(Err(10)) => tally.one("refused 10"),
+            Ok(Err(11)) => tally.one("refused 11"),
+            other => tally.difference(other, question),
         }
-    }
-
-    /// A line on what was compared since `before`.
-    fn tell(&self, name: &str, before: Counts) {
-        let now = self.counts;
-        println!(
-            "{name:<22} {:>6} questions: {:>6} same, {:>6} of them rebuilt, {:>5} refused 10, {:>5} refused 11, {:>8} rebuilds, {:>11} splits, {} unnamed",
-            now.questions - before.questions,
-            now.same - before.same,
-            now.rebuilt - before.rebuilt,
-            now.beyond - before.beyond,
-            now.dangling - before.dangling,
-            now.rebuilds - before.rebuilds,
-            now.splits - before.splits,
-            now.unnamed - before.unnamed,
-        );
     }
 }
 
@@ -127,8 +91,7 @@ pub fn run(count: usize, seed: u64) -> ExitCode {
     if !port::ready() {
         return ExitCode::FAILURE;
     }
-    let mut comparison = Comparison::default();
+    let mut comparison = Comparison { tally: Tally::new(&KINDS) };
     cases::run(&mut comparison, count, seed);
-    comparison.tell("all", Counts::default());
-    port::verdict(comparison.counts.unnamed)
+    comparison.tally.end()
 }

@@ -11,28 +11,14 @@ use crate::lent::Given;
 use crate::networks::SHAPES;
 use crate::numbers::Numbers;
 use crate::reconfigure::{cases, Question};
+use crate::tally::Tally;
 use crate::{port, rust};
 use model::{Sliced, Target};
 use std::process::ExitCode;
 
-/// How many differences are told.
-const TOLD: usize = 10;
-
-#[derive(Clone, Copy, Default)]
-struct Counts {
-    questions: usize,
-    /// The same children, flags and counts.
-    same: usize,
-    /// Of these, with an index flagged, and with a tree that is changed.
-    sliced: usize,
-    rebuilt: usize,
-    /// Refused 10, and 11.
-    beyond: usize,
-    dangling: usize,
-    /// path.rs has another answer, to which choices that are close lead.
-    close: usize,
-    unnamed: usize,
-}
+/// What is counted: questions; answers with the same children, flags and counts, those of them with an index flagged, and with a tree that is changed; refusals;
+/// answers of path.rs that are others, to which choices that are close lead.
+const KINDS: [&str; 7] = ["questions", "same", "of them sliced", "rebuilt", "refused 10", "refused 11", "close"];
 
 enum Outcome {
     Same(Sliced),
@@ -62,50 +48,19 @@ fn outcome(question: &Question, target: Target) -> Result<Outcome, String> {
     }
 }
 
-#[derive(Default)]
-struct Comparison {
-    counts: Counts,
-}
-
-impl Comparison {
-    fn run(&mut self, question: &Question, target: Target) {
-        let counts = &mut self.counts;
-        counts.questions += 1;
-        match outcome(question, target) {
-            Ok(Outcome::Same(sliced)) => {
-                counts.same += 1;
-                counts.sliced += sliced.flags.contains(&true) as usize;
-                counts.rebuilt += (sliced.rebuilt > 0) as usize;
-            }
-            Ok(Outcome::Refused(10)) => counts.beyond += 1,
-            Ok(Outcome::Refused(11)) => counts.dangling += 1,
-            Ok(Outcome::Close) => counts.close += 1,
-            Ok(Outcome::Refused(number)) => self.unnamed(question, target, &format!("refused {number}")),
-            Err(error) => self.unnamed(question, target, &error),
+fn run_one(tally: &mut Tally, question: &Question, target: Target) {
+    tally.one("questions");
+    match outcome(question, target) {
+        Ok(Outcome::Same(sliced)) => {
+            tally.one("same");
+            tally.add("of them sliced", sliced.flags.contains(&true) as u64);
+            tally.add("rebuilt", (sliced.rebuilt > 0) as u64);
         }
-    }
-
-    fn unnamed(&mut self, question: &Question, target: Target, told: &str) {
-        self.counts.unnamed += 1;
-        if self.counts.unnamed <= TOLD {
-            println!("DIFFERENCE: {told}\n  {target:?} {question:?}");
-        }
-    }
-
-    /// A line on what was compared since `before`.
-    fn tell(&self, name: &str, before: Counts) {
-        let now = self.counts;
-        println!(
-            "{name:<22} {:>6} questions: {:>6} same, {:>6} of them sliced, {:>6} rebuilt, {:>5} refused 10, {:>5} refused 11, {} close, {} unnamed",
-            now.questions - before.questions,
-            now.same - before.same,
-            now.sliced - before.sliced,
-            now.rebuilt - before.rebuilt,
-            now.beyond - before.beyond,
-            now.dangling - before.dangling,
-            now.close - before.close,
-            now.unnamed - before.unnamed,
-        );
+        Ok(Outcome::Refused(10)) => tally.one("refused 10"),
+        Ok(Outcome::Refused(11)) => tally.one("refused 11"),
+        Ok(Outcome::Close) => tally.one("close"),
+        Ok(Outcome::Refused(number)) => tally.difference(format!("refused {number}"), (target, question)),
+        Err(error) => tally.difference(error, (target, question)),
     }
 }
 
@@ -122,23 +77,20 @@ pub fn run(count: usize, seed: u64) -> ExitCode {
     if !port::ready() {
         return ExitCode::FAILURE;
     }
-    let (mut numbers, mut comparison) = (Numbers::new(seed), Comparison::default());
+    let (mut numbers, mut tally) = (Numbers::new(seed), Tally::new(&KINDS));
     for (k, &shape) in SHAPES.iter().enumerate() {
-        let before = comparison.counts;
         for _ in 0..(count * 7 / 8 + k) / SHAPES.len() {
             let question = cases::random(&mut numbers, shape);
             let target = target(&mut numbers, &question);
-            comparison.run(&question, target);
+            run_one(&mut tally, &question, target);
         }
-        comparison.tell(&format!("{shape:?}, random"), before);
+        tally.tell(&format!("{shape:?}, random"));
     }
-    let before = comparison.counts;
     for k in 0..count.div_ceil(8) {
         let question = cases::pedigree(&mut numbers, k);
         let target = target(&mut numbers, &question);
-        comparison.run(&question, target);
+        run_one(&mut tally, &question, target);
     }
-    comparison.tell("practice pedigrees", before);
-    comparison.tell("all", Counts::default());
-    port::verdict(comparison.counts.unnamed)
+    tally.tell("practice pedigrees");
+    tally.end()
 }
