@@ -189,7 +189,7 @@ fn enter_nets(
     t
 }
 
-// After vertex `v` has moved: enters each pin of each of its nets again, unless it is in the slot `locked`. The list `own` is for its nets.
+// After vertex `v` has moved: enters each pin of each of its nets again, unless it is in the slot `locked`.
 pub fn enter_neighbours(
     words: &[u64],
     nets: usize,
@@ -198,21 +198,21 @@ pub fn enter_neighbours(
     m: usize,
     n: usize,
     weights: &[u8],
-    list: &mut [u16],
     draws: &[u64],
     at: usize,
     keys: &mut [f64],
     stamps: &mut [u64],
     waiting: &mut [u8],
     locked: usize,
-    pins: &mut [u16],
-    own: &mut [u16],
     v: usize,
 ) -> usize
-    requires { do ⌜ (256 ≤ (← ⟦list.len()⟧)) × (locked < 32768) × (v < n) × (128 ≤ (← ⟦pins.len()⟧)) × (256 ≤ (← ⟦own.len()⟧)) × Placed (now words) (place nets vertices sides m n) × Stamped 1073741824 (now stamps) ⌝ }
+    requires { ⌜ (locked < 32768) × (v < n) × Placed (now words) (place nets vertices sides m n) × Stamped 1073741824 (now stamps) ⌝ }
     ensures { λ r. ⌜ NeighboursAgain (now (words .entry)) (place nets vertices sides m n) (now (weights .entry)) locked v (queueOf (now (keys .entry)) (now (stamps .entry)) (now (waiting .entry)) (wordsAt (now (draws .entry)) at)) (queueOf (now (keys .exit)) (now (stamps .exit)) (now (waiting .exit)) (wordsAt (now (draws .entry)) r)) ⌝ }
 {
-    let count = slots::members(words, 4, vertices + v, own, 0);
+    let mut list = [0u16; 256];
+    let mut pins = [0u16; 128];
+    let mut own = [0u16; 256];
+    let count = slots::members(words, 4, vertices + v, &mut own, 0);
     enter_nets(
         words,
         nets,
@@ -221,15 +221,15 @@ pub fn enter_neighbours(
         m,
         n,
         weights,
-        list,
+        &mut list,
         draws,
         at,
         keys,
         stamps,
         waiting,
         locked,
-        pins,
-        own,
+        &mut pins,
+        &own,
         count,
     )
 }

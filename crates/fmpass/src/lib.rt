@@ -1,7 +1,7 @@
 // A pass of refinement: turn after turn, the vertex of the first entry moves, if the other side can take it.
 ghost use mathlib.Core.Bool.{false};
 ghost use mathlib.Core.Path.{_≡_};
-ghost use Prim.Native.Nat.{_<_, _≤_};
+ghost use Prim.Native.Nat.{_<_};
 ghost use lib.Dec.{eqb};
 ghost use lib.ListN.{length, getD};
 ghost use Rattle.spec.specs.Lists.{memb};
@@ -28,13 +28,10 @@ fn make_move(
     stamps: &mut [u64],
     waiting: &mut [u8],
     moves: &mut [u16],
-    list: &mut [u16],
-    pins: &mut [u16],
-    own: &mut [u16],
     pass: Pass,
     v: usize,
 ) -> Pass
-    requires { do ⌜ (256 ≤ (← ⟦list.len()⟧)) × (128 ≤ (← ⟦pins.len()⟧)) × (256 ≤ (← ⟦own.len()⟧)) × (v < length (now vw)) × (memb v (movesIn (lists (now graph) (now part) (now loads) (now keys) (now stamps) (now waiting) (now moves)) (run (pass .count) (pass .sum) (pass .best) (pass .peak) (pass .at) (pass .over))) ≡ false) × (eqb (getD (now waiting) v 0) 1 ≡ false) × Stands (place nets vertices sides m (length (now vw))) (lists (now graph) (now part) (now loads) (now keys) (now stamps) (now waiting) (now moves)) (run (pass .count) (pass .sum) (pass .best) (pass .peak) (pass .at) (pass .over)) ⌝ }
+    requires { ⌜ (v < length (now vw)) × (memb v (movesIn (lists (now graph) (now part) (now loads) (now keys) (now stamps) (now waiting) (now moves)) (run (pass .count) (pass .sum) (pass .best) (pass .peak) (pass .at) (pass .over))) ≡ false) × (eqb (getD (now waiting) v 0) 1 ≡ false) × Stands (place nets vertices sides m (length (now vw))) (lists (now graph) (now part) (now loads) (now keys) (now stamps) (now waiting) (now moves)) (run (pass .count) (pass .sum) (pass .best) (pass .peak) (pass .at) (pass .over)) ⌝ }
     ensures { λ r. ⌜ Brings (now (weights .entry)) (now (vw .entry)) (now (draws .entry)) (place nets vertices sides m (length (now (vw .entry)))) (madeMove maxw v) (lists (now (graph .entry)) (now (part .entry)) (now (loads .entry)) (now (keys .entry)) (now (stamps .entry)) (now (waiting .entry)) (now (moves .entry))) (lists (now (graph .exit)) (now (part .exit)) (now (loads .exit)) (now (keys .exit)) (now (stamps .exit)) (now (waiting .exit)) (now (moves .exit))) (run (pass .count) (pass .sum) (pass .best) (pass .peak) (pass .at) (pass .over)) (run (r .count) (r .sum) (r .best) (r .peak) (r .at) (r .over)) ⌝ }
 {
     let n = vw.len();
@@ -61,15 +58,12 @@ fn make_move(
         m,
         n,
         weights,
-        list,
         draws,
         g.at,
         keys,
         stamps,
         waiting,
         sides + 2,
-        pins,
-        own,
         v,
     );
     Pass {
@@ -99,12 +93,9 @@ fn turn(
     stamps: &mut [u64],
     waiting: &mut [u8],
     moves: &mut [u16],
-    list: &mut [u16],
-    pins: &mut [u16],
-    own: &mut [u16],
     pass: Pass,
 ) -> Pass
-    requires { do ⌜ (256 ≤ (← ⟦list.len()⟧)) × (128 ≤ (← ⟦pins.len()⟧)) × (256 ≤ (← ⟦own.len()⟧)) × Stands (place nets vertices sides m (length (now vw))) (lists (now graph) (now part) (now loads) (now keys) (now stamps) (now waiting) (now moves)) (run (pass .count) (pass .sum) (pass .best) (pass .peak) (pass .at) (pass .over)) ⌝ }
+    requires { ⌜ Stands (place nets vertices sides m (length (now vw))) (lists (now graph) (now part) (now loads) (now keys) (now stamps) (now waiting) (now moves)) (run (pass .count) (pass .sum) (pass .best) (pass .peak) (pass .at) (pass .over)) ⌝ }
     ensures { λ r. ⌜ Brings (now (weights .entry)) (now (vw .entry)) (now (draws .entry)) (place nets vertices sides m (length (now (vw .entry)))) (λ H p. passTurn H maxw p) (lists (now (graph .entry)) (now (part .entry)) (now (loads .entry)) (now (keys .entry)) (now (stamps .entry)) (now (waiting .entry)) (now (moves .entry))) (lists (now (graph .exit)) (now (part .exit)) (now (loads .exit)) (now (keys .exit)) (now (stamps .exit)) (now (waiting .exit)) (now (moves .exit))) (run (pass .count) (pass .sum) (pass .best) (pass .peak) (pass .at) (pass .over)) (run (r .count) (r .sum) (r .best) (r .peak) (r .at) (r .over)) ⌝ }
 {
     let n = vw.len();
@@ -137,9 +128,6 @@ fn turn(
             stamps,
             waiting,
             moves,
-            list,
-            pins,
-            own,
             pass,
             v,
         );
@@ -171,12 +159,9 @@ pub fn run_pass(
     stamps: &mut [u64],
     waiting: &mut [u8],
     moves: &mut [u16],
-    list: &mut [u16],
-    pins: &mut [u16],
-    own: &mut [u16],
     pass: Pass,
 ) -> Pass
-    requires { do ⌜ (256 ≤ (← ⟦list.len()⟧)) × (128 ≤ (← ⟦pins.len()⟧)) × (256 ≤ (← ⟦own.len()⟧)) × Stands (place nets vertices sides m (length (now vw))) (lists (now graph) (now part) (now loads) (now keys) (now stamps) (now waiting) (now moves)) (run (pass .count) (pass .sum) (pass .best) (pass .peak) (pass .at) (pass .over)) ⌝ }
+    requires { ⌜ Stands (place nets vertices sides m (length (now vw))) (lists (now graph) (now part) (now loads) (now keys) (now stamps) (now waiting) (now moves)) (run (pass .count) (pass .sum) (pass .best) (pass .peak) (pass .at) (pass .over)) ⌝ }
     ensures { λ r. ⌜ Brings (now (weights .entry)) (now (vw .entry)) (now (draws .entry)) (place nets vertices sides m (length (now (vw .entry)))) (λ H p. runPass H maxw p) (lists (now (graph .entry)) (now (part .entry)) (now (loads .entry)) (now (keys .entry)) (now (stamps .entry)) (now (waiting .entry)) (now (moves .entry))) (lists (now (graph .exit)) (now (part .exit)) (now (loads .exit)) (now (keys .exit)) (now (stamps .exit)) (now (waiting .exit)) (now (moves .exit))) (run (pass .count) (pass .sum) (pass .best) (pass .peak) (pass .at) (pass .over)) (run (r .count) (r .sum) (r .best) (r .peak) (r .at) (r .over)) ⌝ }
 {
     let n = vw.len();
@@ -202,9 +187,6 @@ pub fn run_pass(
             stamps,
             waiting,
             moves,
-            list,
-            pins,
-            own,
             p,
         );
     }

@@ -90,14 +90,13 @@ module _ (G : Hypergraph) where
 
 module _ (ws : List ℕ) (nets m : ℕ) (weights : List ℕ) (vw : List Float) where
   -- A GROWTH FROM ITS DRAW
-  pub grown-is : (words part part′ part″ : List ℕ) (links links′ links″ : List Float) (at at′ at″ v : ℕ) (w : Float) (next : Option ℕ)
-      → length part ≡ length vw → length links ≡ length vw → part′ ≡ filled (length part) 0 → links′ ≡ filled (length links) zeroFloat
+  pub grown-is : (words part part′ part″ : List ℕ) (links links′ : List Float) (at at′ at″ v : ℕ) (w : Float) (next : Option ℕ)
+      → length part ≡ length vw → part′ ≡ filled (length part) 0 → links ≡ filled (length vw) zeroFloat
       → v ≡ indexDraw (length vw) (wordsAt words at) .value → wordsAt words at′ ≡ draw (wordsAt words at) .words
-      → growthOf part″ w links″ next (wordsAt words at″) ≡ grownFrom (graphIn ws nets weights m vw) (length vw + 1) (growthOf part′ zeroFloat links′ (some v) (wordsAt words at′))
+      → growthOf part″ w links′ next (wordsAt words at″) ≡ grownFrom (graphIn ws nets weights m vw) (length vw + 1) (growthOf part′ zeroFloat links (some v) (wordsAt words at′))
       → drawn part″ (wordsAt words at″) ≡ partGrown (graphIn ws nets weights m vw) (wordsAt words at)
   unfolding graphIn filled
-  grown-is words part part′ part″ links links′ links″ at at′ at″ v w next ep el e₁ e₂ ev ew e =
+  grown-is words part part′ part″ links links′ at at′ at″ v w next ep e₁ e₂ ev ew e =
       let p : part′ ≡ replicate (length vw) 0 = e₁ ∙ ap (λ (k : ℕ). replicate k 0) ep in
-      let l : links′ ≡ replicate (length vw) zeroFloat = e₂ ∙ ap (λ (k : ℕ). replicate k zeroFloat) el in
       ap (λ (g : Growth). drawn (g .part) (g .words))
-      (e ∙ (λ i. grownFrom (graphIn ws nets weights m vw) (add-one (length vw) i) (growthOf (p i) zeroFloat (l i) (some (ev i)) (ew i))))
+      (e ∙ (λ i. grownFrom (graphIn ws nets weights m vw) (add-one (length vw) i) (growthOf (p i) zeroFloat (e₂ i) (some (ev i)) (ew i))))

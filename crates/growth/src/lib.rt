@@ -110,16 +110,16 @@ pub fn link_nets(
     graph: &[u64],
     nets: usize,
     weights: &[u8],
-    pins: &mut [u16],
     links: &mut [f64],
     list: &[u16],
     len: usize,
 )
-    requires { ⌜ (nets < 65536) × (len ≤ length (now list)) × (128 ≤ length (now pins)) ⌝ }
-    ensures { λ _. ⌜ (now (links .exit) ≡ linkedNets (now (graph .entry)) nets (now (weights .entry)) (take len (now (list .entry))) (now (links .entry))) × (length (now (links .exit)) ≡ length (now (links .entry))) × (length (now (pins .exit)) ≡ length (now (pins .entry))) ⌝ }
+    requires { ⌜ (nets < 65536) × (len ≤ length (now list)) ⌝ }
+    ensures { λ _. ⌜ (now (links .exit) ≡ linkedNets (now (graph .entry)) nets (now (weights .entry)) (take len (now (list .entry))) (now (links .entry))) × (length (now (links .exit)) ≡ length (now (links .entry))) ⌝ }
 {
+    let mut pins = [0u16; 128];
     for k in 0..len {
-        link_net(graph, nets, weights, pins, links, cells::at16(list, k));
+        link_net(graph, nets, weights, &mut pins, links, cells::at16(list, k));
     }
 }
 
@@ -131,7 +131,7 @@ pub struct Growth {
     pub at: usize,
 }
 
-// The next vertex comes to side 1. Growth ends at `goal`, half of the weight. The lists are for pins and nets.
+// The next vertex comes to side 1. Growth ends at `goal`, half of the weight.
 fn grow(
     graph: &[u64],
     nets: usize,
@@ -143,12 +143,10 @@ fn grow(
     words: &[u64],
     part: &mut [u8],
     links: &mut [f64],
-    pins: &mut [u16],
-    list: &mut [u16],
     growth: Growth,
 ) -> Growth
-    requires { ⌜ (nets < 32768) × (vertices < 32768) × (growth .next < length (now vw)) × (length (now links) ≡ length (now vw)) × (128 ≤ length (now pins)) × (256 ≤ length (now list)) × Meshed (now graph) nets vertices m (length (now vw)) × (goal ≡ half (graphIn (now graph) nets (now weights) m (now vw))) ⌝ }
-    ensures { λ r. ⌜ (growthOf (now (part .exit)) (r .weight) (now (links .exit)) (mateIf (r .found) (r .next)) (wordsAt (now (words .entry)) (r .at)) ≡ growthTurn (graphIn (now (graph .entry)) nets (now (weights .entry)) m (now (vw .entry))) (some (growth .next)) (growthOf (now (part .entry)) (growth .weight) (now (links .entry)) (some (growth .next)) (wordsAt (now (words .entry)) (growth .at)))) × (r .next < length (now (vw .entry))) × (length (now (part .exit)) ≡ length (now (part .entry))) × (length (now (links .exit)) ≡ length (now (links .entry))) × (length (now (pins .exit)) ≡ length (now (pins .entry))) × (length (now (list .exit)) ≡ length (now (list .entry))) ⌝ }
+    requires { ⌜ (nets < 32768) × (vertices < 32768) × (growth .next < length (now vw)) × (length (now links) ≡ length (now vw)) × Meshed (now graph) nets vertices m (length (now vw)) × (goal ≡ half (graphIn (now graph) nets (now weights) m (now vw))) ⌝ }
+    ensures { λ r. ⌜ (growthOf (now (part .exit)) (r .weight) (now (links .exit)) (mateIf (r .found) (r .next)) (wordsAt (now (words .entry)) (r .at)) ≡ growthTurn (graphIn (now (graph .entry)) nets (now (weights .entry)) m (now (vw .entry))) (some (growth .next)) (growthOf (now (part .entry)) (growth .weight) (now (links .entry)) (some (growth .next)) (wordsAt (now (words .entry)) (growth .at)))) × (r .next < length (now (vw .entry))) × (length (now (part .exit)) ≡ length (now (part .entry))) × (length (now (links .exit)) ≡ length (now (links .entry))) ⌝ }
 {
     let v = growth.next;
     cells::put8(part, v, 1);
@@ -161,8 +159,9 @@ fn grow(
             at: growth.at,
         };
     }
-    let len = slots::members(graph, 4, vertices + v, list, 0);
-    link_nets(graph, nets, weights, pins, links, list, len);
+    let mut list = [0u16; 256];
+    let len = slots::members(graph, 4, vertices + v, &mut list, 0);
+    link_nets(graph, nets, weights, links, &list, len);
     let s = strongest(part, links, words, growth.at);
     Growth {
         weight,
@@ -184,12 +183,10 @@ fn grow_on(
     words: &[u64],
     part: &mut [u8],
     links: &mut [f64],
-    pins: &mut [u16],
-    list: &mut [u16],
     growth: Growth,
 ) -> Growth
-    requires { ⌜ (nets < 32768) × (vertices < 32768) × (growth .next < length (now vw)) × (length (now links) ≡ length (now vw)) × (128 ≤ length (now pins)) × (256 ≤ length (now list)) × Meshed (now graph) nets vertices m (length (now vw)) × (goal ≡ half (graphIn (now graph) nets (now weights) m (now vw))) ⌝ }
-    ensures { λ r. ⌜ (growthOf (now (part .exit)) (r .weight) (now (links .exit)) (mateIf (r .found) (r .next)) (wordsAt (now (words .entry)) (r .at)) ≡ growthTurn (graphIn (now (graph .entry)) nets (now (weights .entry)) m (now (vw .entry))) (mateIf (growth .found) (growth .next)) (growthOf (now (part .entry)) (growth .weight) (now (links .entry)) (mateIf (growth .found) (growth .next)) (wordsAt (now (words .entry)) (growth .at)))) × (r .next < length (now (vw .entry))) × (length (now (part .exit)) ≡ length (now (part .entry))) × (length (now (links .exit)) ≡ length (now (links .entry))) × (length (now (pins .exit)) ≡ length (now (pins .entry))) × (length (now (list .exit)) ≡ length (now (list .entry))) ⌝ }
+    requires { ⌜ (nets < 32768) × (vertices < 32768) × (growth .next < length (now vw)) × (length (now links) ≡ length (now vw)) × Meshed (now graph) nets vertices m (length (now vw)) × (goal ≡ half (graphIn (now graph) nets (now weights) m (now vw))) ⌝ }
+    ensures { λ r. ⌜ (growthOf (now (part .exit)) (r .weight) (now (links .exit)) (mateIf (r .found) (r .next)) (wordsAt (now (words .entry)) (r .at)) ≡ growthTurn (graphIn (now (graph .entry)) nets (now (weights .entry)) m (now (vw .entry))) (mateIf (growth .found) (growth .next)) (growthOf (now (part .entry)) (growth .weight) (now (links .entry)) (mateIf (growth .found) (growth .next)) (wordsAt (now (words .entry)) (growth .at)))) × (r .next < length (now (vw .entry))) × (length (now (part .exit)) ≡ length (now (part .entry))) × (length (now (links .exit)) ≡ length (now (links .entry))) ⌝ }
 {
     if growth.found {
         let g = Growth {
@@ -209,8 +206,6 @@ fn grow_on(
             words,
             part,
             links,
-            pins,
-            list,
             g,
         );
     }
@@ -234,11 +229,9 @@ pub fn grow_turns(
     words: &[u64],
     part: &mut [u8],
     links: &mut [f64],
-    pins: &mut [u16],
-    list: &mut [u16],
     growth: Growth,
 ) -> Growth
-    requires { ⌜ (nets < 32768) × (vertices < 32768) × (growth .next < length (now vw)) × (length (now links) ≡ length (now vw)) × (128 ≤ length (now pins)) × (256 ≤ length (now list)) × Meshed (now graph) nets vertices m (length (now vw)) × (goal ≡ half (graphIn (now graph) nets (now weights) m (now vw))) ⌝ }
+    requires { ⌜ (nets < 32768) × (vertices < 32768) × (growth .next < length (now vw)) × (length (now links) ≡ length (now vw)) × Meshed (now graph) nets vertices m (length (now vw)) × (goal ≡ half (graphIn (now graph) nets (now weights) m (now vw))) ⌝ }
     ensures { λ r. ⌜ (growthOf (now (part .exit)) (r .weight) (now (links .exit)) (mateIf (r .found) (r .next)) (wordsAt (now (words .entry)) (r .at)) ≡ grownFrom (graphIn (now (graph .entry)) nets (now (weights .entry)) m (now (vw .entry))) (length (now (vw .entry)) + 1) (growthOf (now (part .entry)) (growth .weight) (now (links .entry)) (mateIf (growth .found) (growth .next)) (wordsAt (now (words .entry)) (growth .at)))) × (length (now (part .exit)) ≡ length (now (part .entry))) ⌝ }
 {
     let mut g = growth;
@@ -254,8 +247,6 @@ pub fn grow_turns(
             words,
             part,
             links,
-            pins,
-            list,
             g,
         );
     }
@@ -274,16 +265,14 @@ pub fn grown(
     words: &[u64],
     at: usize,
     part: &mut [u8],
-    links: &mut [f64],
-    pins: &mut [u16],
-    list: &mut [u16],
 ) -> usize
-    requires { ⌜ (nets < 32768) × (vertices < 32768) × (0 < length (now vw)) × (length (now links) ≡ length (now vw)) × (length (now part) ≡ length (now vw)) × (128 ≤ length (now pins)) × (256 ≤ length (now list)) × Meshed (now graph) nets vertices m (length (now vw)) × (goal ≡ half (graphIn (now graph) nets (now weights) m (now vw))) ⌝ }
+    requires { ⌜ (nets < 32768) × (vertices < 32768) × (0 < length (now vw)) × (length (now part) ≡ length (now vw)) × Meshed (now graph) nets vertices m (length (now vw)) × (goal ≡ half (graphIn (now graph) nets (now weights) m (now vw))) ⌝ }
     ensures { λ r. ⌜ drawn (now (part .exit)) (wordsAt (now (words .entry)) r) ≡ partGrown (graphIn (now (graph .entry)) nets (now (weights .entry)) m (now (vw .entry))) (wordsAt (now (words .entry)) at) ⌝ }
 {
+    let n = vw.len();
+    let mut links = [0.0f64; 128];
     cells::fill8(part, 0);
-    cells::fillf(links, 0.0);
-    let next = draws::index(words, at, vw.len());
+    let next = draws::index(words, at, n);
     let first = Growth {
         weight: 0.0,
         next,
@@ -300,9 +289,7 @@ pub fn grown(
         goal,
         words,
         part,
-        links,
-        pins,
-        list,
+        &mut links[..n],
         first,
     );
     g.at

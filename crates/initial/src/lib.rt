@@ -2,7 +2,7 @@
 ghost use mathlib.Core.Bool.{true};
 ghost use mathlib.Core.Option.{some};
 ghost use mathlib.Core.Path.{_≡_};
-ghost use Prim.Native.Nat.{_<_, _≤_};
+ghost use Prim.Native.Nat.{_<_};
 ghost use lib.ListN.{length};
 ghost use Rattle.spec.specs.Bisection.{half, better};
 ghost use Rattle.partition.specs.Layout.{graphIn};
@@ -32,16 +32,8 @@ fn try_once(
     draws: &[u64],
     at: usize,
     trial: &mut [u8],
-    links: &mut [f64],
-    keys: &mut [f64],
-    stamps: &mut [u64],
-    waiting: &mut [u8],
-    moves: &mut [u16],
-    list: &mut [u16],
-    pins: &mut [u16],
-    own: &mut [u16],
 ) -> Best
-    requires { do ⌜ (256 ≤ (← ⟦list.len()⟧)) × (128 ≤ (← ⟦pins.len()⟧)) × (256 ≤ (← ⟦own.len()⟧)) × (length (now keys) ≡ length (now vw)) × (length (now stamps) ≡ length (now vw)) × (length (now waiting) ≡ length (now vw)) × (length (now vw) ≤ length (now moves)) × (length (now links) ≡ length (now vw)) × (length (now trial) ≡ length (now vw)) × (0 < length (now vw)) × Site (now graph) (place nets vertices sides m (length (now vw))) × (goal ≡ half (graphIn (now graph) nets (now weights) m (now vw))) ⌝ }
+    requires { ⌜ (length (now trial) ≡ length (now vw)) × (0 < length (now vw)) × Site (now graph) (place nets vertices sides m (length (now vw))) × (goal ≡ half (graphIn (now graph) nets (now weights) m (now vw))) ⌝ }
     ensures { λ r. ⌜ Tried (now (weights .entry)) (now (vw .entry)) (place nets vertices sides m (length (now (vw .entry)))) maxw (now (draws .entry)) (now (graph .entry)) (now (graph .exit)) (now (trial .exit)) at (r .at) (r .cut) ⌝ }
 {
     let a = growth::grown(
@@ -55,9 +47,6 @@ fn try_once(
         draws,
         at,
         trial,
-        links,
-        pins,
-        list,
     );
     let b = refine::fm(
         graph,
@@ -72,13 +61,6 @@ fn try_once(
         draws,
         a,
         trial,
-        keys,
-        stamps,
-        waiting,
-        moves,
-        list,
-        pins,
-        own,
     );
     let cut = partition::cut(graph, nets, vertices, sides, m, vw.len(), weights);
     Best {
@@ -132,16 +114,8 @@ pub fn initial(
     at: usize,
     part: &mut [u8],
     trial: &mut [u8],
-    links: &mut [f64],
-    keys: &mut [f64],
-    stamps: &mut [u64],
-    waiting: &mut [u8],
-    moves: &mut [u16],
-    list: &mut [u16],
-    pins: &mut [u16],
-    own: &mut [u16],
 ) -> usize
-    requires { do ⌜ (256 ≤ (← ⟦list.len()⟧)) × (128 ≤ (← ⟦pins.len()⟧)) × (256 ≤ (← ⟦own.len()⟧)) × (length (now keys) ≡ length (now vw)) × (length (now stamps) ≡ length (now vw)) × (length (now waiting) ≡ length (now vw)) × (length (now vw) ≤ length (now moves)) × (length (now links) ≡ length (now vw)) × (length (now trial) ≡ length (now vw)) × (0 < length (now vw)) × Site (now graph) (place nets vertices sides m (length (now vw))) × (goal ≡ half (graphIn (now graph) nets (now weights) m (now vw))) × (length (now part) ≡ length (now vw)) ⌝ }
+    requires { ⌜ (length (now trial) ≡ length (now vw)) × (0 < length (now vw)) × Site (now graph) (place nets vertices sides m (length (now vw))) × (goal ≡ half (graphIn (now graph) nets (now weights) m (now vw))) × (length (now part) ≡ length (now vw)) ⌝ }
     ensures { λ r. ⌜ Initial (now (weights .entry)) (now (vw .entry)) nets vertices sides m maxw (now (draws .entry)) (now (graph .entry)) at (now (graph .exit)) (now (part .exit)) r ⌝ }
 {
     let mut best = Best {
@@ -163,14 +137,6 @@ pub fn initial(
             draws,
             best.at,
             trial,
-            links,
-            keys,
-            stamps,
-            waiting,
-            moves,
-            list,
-            pins,
-            own,
         );
         best = keep_better(part, trial, best, t.cut, t.at);
     }

@@ -4,9 +4,10 @@ use mathlib.Core.List.{List, [], _∷_, _++_, map}
 use Prim.Native.Nat.{ℕ, zero, suc, _+_, _≤_, _<_}
 use native.Mathlib.Omega.{arith}
 use native.Mathlib.Numerals.{add-one}
-use lib.ListN.{length, getD, take, drop}
+use lib.ListN.{length, getD, take, drop, replicate}
 use lib.Seq.{sets, sets-eq, take-suc, take-at}
 use Rattle.spec.specs.Lists.{from, range}
+use Rattle.spec.specs.Memory.{filled}
 use Rattle.spec.specs.Hypergraph.{foldOver}
 
 pub fold-append : {A S : Type 0} (f : A → S → S) (k l : List A) (s : S) → foldOver f (k ++ l) s ≡ foldOver f l (foldOver f k s)
@@ -26,6 +27,13 @@ fold-next f l s g r k h p q =
 -- what was put at a list's front stands there
 pub take-sets : (l vs : List ℕ) → length vs ≤ length l → take (length vs) (sets l 0 vs) ≡ vs
 take-sets l vs h = ap (take (length vs)) (sets-eq vs l 0 (omega arith)) ∙ take-at vs (drop (0 + length vs) l) (length vs) refl
+
+-- the front of a list of one value
+pub front-filled : {A : Type 0} (n k : ℕ) (x : A) → n ≤ k → take n (replicate k x) ≡ filled n x
+unfolding filled
+front-filled zero k x h = refl
+front-filled (suc n) zero x h = absurd (omega arith)
+front-filled (suc n) (suc k) x h = ap (λ l. x ∷ l) (front-filled n k x (omega arith))
 
 -- ---- folds over a range ----
 

@@ -102,16 +102,16 @@ pub fn enter_all(
     m: usize,
     n: usize,
     weights: &[u8],
-    list: &mut [u16],
     draws: &[u64],
     at: usize,
     keys: &mut [f64],
     stamps: &mut [u64],
     waiting: &mut [u8],
 ) -> usize
-    requires { do ⌜ (256 ≤ (← ⟦list.len()⟧)) × Placed (now words) (place nets vertices sides m n) ⌝ }
+    requires { ⌜ Placed (now words) (place nets vertices sides m n) ⌝ }
     ensures { λ r. ⌜ AllEntered (now (words .entry)) (place nets vertices sides m n) (now (weights .entry)) n (queueOf (now (keys .entry)) (now (stamps .entry)) (now (waiting .entry)) (wordsAt (now (draws .entry)) at)) (queueOf (now (keys .exit)) (now (stamps .exit)) (now (waiting .exit)) (wordsAt (now (draws .entry)) r)) ⌝ }
 {
+    let mut list = [0u16; 256];
     let mut t = at;
     for v in 0..n {
         t = enter(
@@ -122,7 +122,7 @@ pub fn enter_all(
             m,
             n,
             weights,
-            list,
+            &mut list,
             draws,
             t,
             keys,

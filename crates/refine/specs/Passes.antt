@@ -5,7 +5,7 @@ use mathlib.Core.List.{List, [], _∷_}
 use Prim.Native.Nat.{ℕ, _+_, _-_, _*_, _≤_, _<_}
 use native.Mathlib.Omega.{arith}
 use lib.Ieee.{Float, le}
-use lib.ListN.{length, set, take}
+use lib.ListN.{length, take}
 use Rattle.spec.specs.Floats.{zeroFloat, nano}
 use Rattle.spec.specs.Draws.{Words, drawn}
 use Rattle.spec.specs.Hypergraph.{Hypergraph, foldOver, moved}
@@ -115,13 +115,6 @@ pub record Halves (weights : List ℕ) (vw : List Float) (o : Place) (maxw : Flo
 
 pub split-as : (ws : List ℕ) (sides k n : ℕ) (part : List ℕ) → k ≡ n → Split ws sides k part → Split ws sides n part
 split-as ws sides k n part e h = subst (λ (z : ℕ). Split ws sides z part) e h
-
--- the weights of two sides, put into a list of two places
-pub two-loads : (l l₁ l₂ : List Float) (a b a′ b′ : Float) → length l ≡ 2 → l₁ ≡ set l 0 a → l₂ ≡ set l₁ 1 b → a ≡ a′ → b ≡ b′ → l₂ ≡ a′ ∷ b′ ∷ []
-two-loads [] l₁ l₂ a b a′ b′ n e f p q = absurd (omega arith)
-two-loads (x ∷ []) l₁ l₂ a b a′ b′ n e f p q = absurd (omega arith)
-two-loads (x ∷ y ∷ []) l₁ l₂ a b a′ b′ n e f p q = f ∙ (λ i. set (e i) 1 (q i)) ∙ ap (λ z. z ∷ b′ ∷ []) p
-two-loads (x ∷ y ∷ z ∷ l) l₁ l₂ a b a′ b′ n e f p q = absurd (omega arith)
 
 pub halves : (weights : List ℕ) (vw : List Float) (nets vertices sides m : ℕ) (maxw : Float) (n : ℕ) (draws ws ws₁ ws₂ part part′ : List ℕ) (loads loads′ : List Float) (at at′ : ℕ) (better : Bool)
     → Site ws (place nets vertices sides m (length vw)) → Kept (sides * 2) ws ws₁

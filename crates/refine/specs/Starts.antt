@@ -1,13 +1,13 @@
 -- The start of a pass: every vertex is entered, and none has moved. Assumes nothing.
 use mathlib.Core.Bool.{false}
 use mathlib.Core.Path.{_≡_, refl, sym, ap, _∙_, subst}
-use mathlib.Core.List.{List, [], _∷_}
+use mathlib.Core.List.{List, [], _∷_, _++_}
 use Prim.Native.Nat.{ℕ, zero, suc, _+_, _*_, _≤_}
 use native.Mathlib.Omega.{arith}
 use native.Mathlib.Decide.{ℕ-discrete, decLe}
 use lib.Ieee.{Float}
-use lib.ListN.{length, getD, set, replicate, length-set, List·getD-eq-default}
-use lib.Seq.{getD-set-same, getD-set-other}
+use lib.ListN.{length, getD, set, take, replicate, length-set, length-append, List·getD-eq-default}
+use lib.Seq.{getD-set-same, getD-set-other, take-at}
 use Rattle.spec.specs.Lists.{range}
 use Rattle.spec.specs.Floats.{zeroFloat}
 use Rattle.spec.specs.Memory.{filled}
@@ -74,19 +74,15 @@ module _ (ws ws₁ : List ℕ) (weights : List ℕ) (vw : List Float) (nets vert
   pub first-placed : Placed ws₁ o
   first-placed = site-placed ws₁ o part first-site first-split
 
-  module _ (keys₀ keys₁ keys : List Float) (stamps₀ stamps₁ stamps waiting₀ waiting₁ waiting : List ℕ) (at at′ : ℕ)
-      (long : (length keys₀ ≡ length vw) × (length stamps₀ ≡ length vw) × (length waiting₀ ≡ length vw))
-      (e₁ : keys₁ ≡ filled (length keys₀) zeroFloat) (e₂ : stamps₁ ≡ filled (length stamps₀) 0) (e₃ : waiting₁ ≡ filled (length waiting₀) 0)
-      (long′ : (length keys ≡ length keys₁) × (length stamps ≡ length stamps₁) × (length waiting ≡ length waiting₁))
+  module _ (keys₁ keys : List Float) (stamps₁ stamps waiting₁ waiting : List ℕ) (at at′ : ℕ)
+      (e₁ : keys₁ ≡ filled (length vw) zeroFloat) (e₂ : stamps₁ ≡ filled (length vw) 0) (e₃ : waiting₁ ≡ filled (length vw) 0)
+      (long : (length keys ≡ length keys₁) × (length stamps ≡ length stamps₁) × (length waiting ≡ length waiting₁))
       (q : AllEntered ws₁ o weights (length vw) (queueOf keys₁ stamps₁ waiting₁ (wordsAt draws at)) (queueOf keys stamps waiting (wordsAt draws at′))) where
     all-entered : queueOf keys stamps waiting (wordsAt draws at′) ≡ firstQueue (graphIn ws nets weights m vw) part (wordsAt draws at)
     unfolding graphIn filled
     all-entered =
         let g : graphIn ws₁ nets weights m vw ≡ graphIn ws nets weights m vw = graph-kept (sides * 2) ws ws₁ first-kept nets m weights vw (omega (arith, h .behind .0)) in
-        let k : keys₁ ≡ replicate (length vw) zeroFloat = e₁ ∙ ap (λ (n : ℕ). replicate n zeroFloat) (long .0) in
-        let t : stamps₁ ≡ replicate (length vw) 0 = e₂ ∙ ap (λ (n : ℕ). replicate n 0) (long .1) in
-        let w : waiting₁ ≡ replicate (length vw) 0 = e₃ ∙ ap (λ (n : ℕ). replicate n 0) (long .2) in
-        q vw ∙ (λ i. foldOver (enteredAs (g i) (split-sides ws₁ sides (length vw) part first-split i) 0) (range (length vw)) (queueOf (k i) (t i) (w i) (wordsAt draws at)))
+        q vw ∙ (λ i. foldOver (enteredAs (g i) (split-sides ws₁ sides (length vw) part first-split i) 0) (range (length vw)) (queueOf (e₁ i) (e₂ i) (e₃ i) (wordsAt draws at)))
 
     -- EVERY VERTEX IS ENTERED
     pub starts : Starts ws ws₁ weights vw o part draws at at′ keys stamps waiting
@@ -101,14 +97,27 @@ module _ (ws ws₁ : List ℕ) (weights : List ℕ) (vw : List Float) (nets vert
             once = ap length (keep-none-from (λ u. false) 0 (length vw) (λ j lo hi. refl));
             low = subst (λ (x : Queue). Stamped 0 (x .stamps)) (sym (q vw))
                 (zero-all (graphIn ws₁ nets weights m vw) (sidesIn ws₁ sides (length vw)) (range (length vw)) (queueOf keys₁ stamps₁ waiting₁ (wordsAt draws at))
-                (subst (Stamped 0) (sym e₂) (zero-filled (length stamps₀))));
+                (subst (Stamped 0) (sym e₂) (zero-filled (length vw))));
             under = λ k b. absurd (omega arith);
             long = (
-              long′ .0 ∙ ap length e₁ ∙ filled-length (length keys₀) zeroFloat ∙ long .0,
-              long′ .1 ∙ ap length e₂ ∙ filled-length (length stamps₀) 0 ∙ long .1,
-              long′ .2 ∙ ap length e₃ ∙ filled-length (length waiting₀) 0 ∙ long .2,
+              long .0 ∙ ap length e₁ ∙ filled-length (length vw) zeroFloat,
+              long .1 ∙ ap length e₂ ∙ filled-length (length vw) 0,
+              long .2 ∙ ap length e₃ ∙ filled-length (length vw) 0,
               r,
             );
           };
           kept = first-kept;
         }
+
+-- a list whose front was lent has room for it again
+pub front-room : {A : Type 0} (n : ℕ) (l r : List A) → length l ≡ n → n ≤ length (l ++ r)
+front-room n l r e = omega (arith, length-append l r, e)
+
+-- the same of lists whose fronts were lent, and are lent again
+pub starts-in : (ws ws′ weights : List ℕ) (vw : List Float) (o : Place) (part draws : List ℕ) (at at′ : ℕ) (keys keys₁ : List Float) (stamps stamps₁ waiting waiting₁ : List ℕ)
+    → Starts ws ws′ weights vw o part draws at at′ keys stamps waiting → length keys ≡ length vw → length stamps ≡ length vw → length waiting ≡ length vw
+    → Starts ws ws′ weights vw o part draws at at′ (take (length vw) (keys ++ keys₁)) (take (length vw) (stamps ++ stamps₁)) (take (length vw) (waiting ++ waiting₁))
+starts-in ws ws′ weights vw o part draws at at′ keys keys₁ stamps stamps₁ waiting waiting₁ h k s w =
+    subst (λ x. Starts ws ws′ weights vw o part draws at at′ x (take (length vw) (stamps ++ stamps₁)) (take (length vw) (waiting ++ waiting₁))) (sym (take-at keys keys₁ (length vw) k))
+    (subst (λ x. Starts ws ws′ weights vw o part draws at at′ keys x (take (length vw) (waiting ++ waiting₁))) (sym (take-at stamps stamps₁ (length vw) s))
+    (subst (λ x. Starts ws ws′ weights vw o part draws at at′ keys stamps x) (sym (take-at waiting waiting₁ (length vw) w)) h))

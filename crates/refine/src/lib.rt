@@ -1,8 +1,9 @@
 // Refinement of a partition by moves of single vertices (Fiduccia and Mattheyses): pass after pass, while they bring something.
 ghost use mathlib.Core.Bool.{true, not};
 ghost use mathlib.Core.Path.{_≡_};
-ghost use Prim.Native.Nat.{_≤_};
 ghost use lib.ListN.{length};
+ghost use Rattle.spec.specs.Floats.{zeroFloat};
+ghost use Rattle.spec.specs.Memory.{filled};
 ghost use Rattle.spec.specs.Fm.{passes};
 ghost use Rattle.draws.specs.Cursor.{wordsAt};
 ghost use Rattle.queue.specs.Enters.{place};
@@ -13,7 +14,7 @@ ghost use Rattle.refine.specs.Starts.{Starts};
 ghost use Rattle.refine.specs.Passes.{refinedAs, onePass, Leads, Halves};
 use moves::Pass;
 
-// The start of a pass: enters every vertex, and empties the slot of those that have moved. Returns the cursor after the draws.
+// The start of a pass, in lists of zeros: enters every vertex, and empties the slot of those that have moved. Returns the cursor after the draws.
 fn start_pass(
     graph: &mut [u64],
     nets: usize,
@@ -28,14 +29,10 @@ fn start_pass(
     keys: &mut [f64],
     stamps: &mut [u64],
     waiting: &mut [u8],
-    list: &mut [u16],
 ) -> usize
-    requires { do ⌜ (256 ≤ (← ⟦list.len()⟧)) × (length (now keys) ≡ length (now vw)) × (length (now stamps) ≡ length (now vw)) × (length (now waiting) ≡ length (now vw)) × Site (now graph) (place nets vertices sides m (length (now vw))) × Split (now graph) sides (length (now vw)) (now part) ⌝ }
+    requires { ⌜ (now keys ≡ filled (length (now vw)) zeroFloat) × (now stamps ≡ filled (length (now vw)) 0) × (now waiting ≡ filled (length (now vw)) 0) × Site (now graph) (place nets vertices sides m (length (now vw))) × Split (now graph) sides (length (now vw)) (now part) ⌝ }
     ensures { λ r. ⌜ Starts (now (graph .entry)) (now (graph .exit)) (now (weights .entry)) (now (vw .entry)) (place nets vertices sides m (length (now (vw .entry)))) (now (part .entry)) (now (draws .entry)) at r (now (keys .exit)) (now (stamps .exit)) (now (waiting .exit)) ⌝ }
 {
-    cells::fillf(keys, 0.0);
-    cells::fill64(stamps, 0);
-    cells::fill8(waiting, 0);
     slots::empty(graph, 2, sides + 2);
     queue::enter_all(
         graph,
@@ -45,7 +42,6 @@ fn start_pass(
         m,
         vw.len(),
         weights,
-        list,
         draws,
         at,
         keys,
@@ -74,17 +70,15 @@ fn one_pass(
     at: usize,
     part: &mut [u8],
     loads: &mut [f64],
-    keys: &mut [f64],
-    stamps: &mut [u64],
-    waiting: &mut [u8],
-    moves: &mut [u16],
-    list: &mut [u16],
-    pins: &mut [u16],
-    own: &mut [u16],
 ) -> Refined
-    requires { do ⌜ (256 ≤ (← ⟦list.len()⟧)) × (128 ≤ (← ⟦pins.len()⟧)) × (256 ≤ (← ⟦own.len()⟧)) × (length (now keys) ≡ length (now vw)) × (length (now stamps) ≡ length (now vw)) × (length (now waiting) ≡ length (now vw)) × (length (now vw) ≤ length (now moves)) × Site (now graph) (place nets vertices sides m (length (now vw))) × Split (now graph) sides (length (now vw)) (now part) ⌝ }
+    requires { ⌜ Site (now graph) (place nets vertices sides m (length (now vw))) × Split (now graph) sides (length (now vw)) (now part) ⌝ }
     ensures { λ r. ⌜ Leads (now (weights .entry)) (now (vw .entry)) (place nets vertices sides m (length (now (vw .entry)))) (onePass maxw) (now (graph .entry)) (now (graph .exit)) (refinedAs (now (part .entry)) (now (loads .entry)) true (wordsAt (now (draws .entry)) at)) (refinedAs (now (part .exit)) (now (loads .exit)) (not (r .done)) (wordsAt (now (draws .entry)) (r .at))) ⌝ }
 {
+    let n = vw.len();
+    let mut keys = [0.0f64; 128];
+    let mut stamps = [0u64; 128];
+    let mut waiting = [0u8; 128];
+    let mut moves = [0u16; 128];
     let start = start_pass(
         graph,
         nets,
@@ -96,10 +90,9 @@ fn one_pass(
         draws,
         at,
         part,
-        keys,
-        stamps,
-        waiting,
-        list,
+        &mut keys[..n],
+        &mut stamps[..n],
+        &mut waiting[..n],
     );
     let first = Pass {
         count: 0,
@@ -121,16 +114,13 @@ fn one_pass(
         draws,
         part,
         loads,
-        keys,
-        stamps,
-        waiting,
-        moves,
-        list,
-        pins,
-        own,
+        &mut keys[..n],
+        &mut stamps[..n],
+        &mut waiting[..n],
+        &mut moves,
         first,
     );
-    moves::roll_back(graph, sides, vw, part, loads, moves, p.count, p.peak);
+    moves::roll_back(graph, sides, vw, part, loads, &moves, p.count, p.peak);
     Refined {
         done: p.best <= 1e-9,
         at: p.at,
@@ -152,15 +142,8 @@ fn all_passes(
     at: usize,
     part: &mut [u8],
     loads: &mut [f64],
-    keys: &mut [f64],
-    stamps: &mut [u64],
-    waiting: &mut [u8],
-    moves: &mut [u16],
-    list: &mut [u16],
-    pins: &mut [u16],
-    own: &mut [u16],
 ) -> Refined
-    requires { do ⌜ (256 ≤ (← ⟦list.len()⟧)) × (128 ≤ (← ⟦pins.len()⟧)) × (256 ≤ (← ⟦own.len()⟧)) × (length (now keys) ≡ length (now vw)) × (length (now stamps) ≡ length (now vw)) × (length (now waiting) ≡ length (now vw)) × (length (now vw) ≤ length (now moves)) × Site (now graph) (place nets vertices sides m (length (now vw))) × Split (now graph) sides (length (now vw)) (now part) ⌝ }
+    requires { ⌜ Site (now graph) (place nets vertices sides m (length (now vw))) × Split (now graph) sides (length (now vw)) (now part) ⌝ }
     ensures { λ r. ⌜ Leads (now (weights .entry)) (now (vw .entry)) (place nets vertices sides m (length (now (vw .entry)))) (λ H z. passes H maxw most z) (now (graph .entry)) (now (graph .exit)) (refinedAs (now (part .entry)) (now (loads .entry)) true (wordsAt (now (draws .entry)) at)) (refinedAs (now (part .exit)) (now (loads .exit)) (not (r .done)) (wordsAt (now (draws .entry)) (r .at))) ⌝ }
 {
     let mut r = Refined { done: false, at };
@@ -181,13 +164,6 @@ fn all_passes(
             r.at,
             part,
             loads,
-            keys,
-            stamps,
-            waiting,
-            moves,
-            list,
-            pins,
-            own,
         );
     }
     r
@@ -208,21 +184,14 @@ pub fn fm(
     draws: &[u64],
     at: usize,
     part: &mut [u8],
-    keys: &mut [f64],
-    stamps: &mut [u64],
-    waiting: &mut [u8],
-    moves: &mut [u16],
-    list: &mut [u16],
-    pins: &mut [u16],
-    own: &mut [u16],
 ) -> usize
-    requires { do ⌜ (256 ≤ (← ⟦list.len()⟧)) × (128 ≤ (← ⟦pins.len()⟧)) × (256 ≤ (← ⟦own.len()⟧)) × (length (now keys) ≡ length (now vw)) × (length (now stamps) ≡ length (now vw)) × (length (now waiting) ≡ length (now vw)) × (length (now vw) ≤ length (now moves)) × Site (now graph) (place nets vertices sides m (length (now vw))) × (length (now part) ≡ length (now vw)) × Bits (now part) ⌝ }
+    requires { ⌜ Site (now graph) (place nets vertices sides m (length (now vw))) × (length (now part) ≡ length (now vw)) × Bits (now part) ⌝ }
     ensures { λ r. ⌜ Halves (now (weights .entry)) (now (vw .entry)) (place nets vertices sides m (length (now (vw .entry)))) maxw most (now (draws .entry)) (now (graph .entry)) (now (graph .exit)) (now (part .entry)) (now (part .exit)) at r ⌝ }
 {
     moves::lay_sides(graph, sides, part);
-    let mut loads = [0.0; 2];
-    cells::putf(&mut loads, 0, moves::weight_on(part, vw, 0));
-    cells::putf(&mut loads, 1, moves::weight_on(part, vw, 1));
+    let left = moves::weight_on(part, vw, 0);
+    let right = moves::weight_on(part, vw, 1);
+    let mut loads = [left, right];
     let r = all_passes(
         graph,
         nets,
@@ -237,13 +206,6 @@ pub fn fm(
         at,
         part,
         &mut loads,
-        keys,
-        stamps,
-        waiting,
-        moves,
-        list,
-        pins,
-        own,
     );
     r.at
 }
