@@ -15,6 +15,7 @@ use Rattle.spec.specs.Hypergraph.{foldOver, Net, Hypergraph, vertexCount, sideO
 use Rattle.spec.specs.Fm.{fm}
 use Rattle.spec.specs.Coarsen.{Level, coarsen}
 use Rattle.spec.specs.Bisection.{initial, sideLimit, throughLevel, refinedFrom, multilevel, bisect}
+use Rattle.laws.specs.Booleans.{clash}
 use Rattle.network.specs.Layouts.{map-range-ext}
 use Rattle.draws.specs.Cursor.{wordsAt}
 use Rattle.partition.specs.Layout.{netIn, graphIn}
@@ -24,7 +25,7 @@ use Rattle.coarsen.specs.Level.{enough, levelIf}
 use Rattle.levels.specs.Spans.{summed, span, span-length}
 use Rattle.levels.specs.Shrinks.{three-fewer, found-fewer}
 use Rattle.levels.specs.Stage.{front-none, front-span, Stage, graphAt, placesAt, Keeps, level-kept, stage-kept, keeps-then, keeps-graph, Gives}
-use Rattle.levels.specs.Deeper.{Deeper}
+use Rattle.levels.specs.Deeper.{Deeper, Tried, isFew, isMore}
 
 -- The front of the list is the partition of level l, whatever number of levels the definition may go down, if it is at least that of the vertices.
 pub record Through (l m n : ℕ) (maxw : Float) (draws : List ℕ) (at at′ : ℕ) (ws weights : List ℕ) (vw : List Float) (places ws′ weights′ : List ℕ) (vw′ : List Float)
@@ -199,6 +200,53 @@ module _ {l m n : ℕ} {limit : Float} {draws : List ℕ} {at at₁ : ℕ} {ws w
         deeper (suc fuel) b =
             ap (refinedFrom here maxw next) (t .same fuel (omega (arith, fewer-there f)))
             ∙ one-deeper maxw here (wordsAt draws at) (wordsAt draws at₁) next found fuel (omega (arith, count-here)) f (level-is maxw third)
+
+-- ---- a level that may be left as it is ----
+
+record Held : Type 0 where
+  ws : List ℕ
+  weights : List ℕ
+  vw : List Float
+  places : List ℕ
+  at : ℕ
+
+module _ {l m n : ℕ} {limit : Float} {draws : List ℕ} {at at₁ : ℕ} {ws weights : List ℕ} {vw : List Float} {places ws₁ weights₁ : List ℕ} {vw₁ : List Float} {places₁ : List ℕ}
+    {found : Bool} {m₁ n₁ : ℕ} (t : Tried l m n limit draws at at₁ ws weights vw places ws₁ weights₁ vw₁ places₁ found m₁ n₁)
+    (h : Stage ws (length weights) (length vw) (length places) l m n) where
+  abbrev Here : Type 0
+  Here = Tried l m n limit draws at at₁ ws weights vw places ws₁ weights₁ vw₁ places₁ found m₁ n₁
+
+  all-same : at₁ ≡ at → ws₁ ≡ ws → weights₁ ≡ weights → vw₁ ≡ vw → places₁ ≡ places
+      → _≡_ {A = Held} (record { ws = ws₁; weights = weights₁; vw = vw₁; places = places₁; at = at₁ }) (record { ws = ws; weights = weights; vw = vw; places = places; at = at })
+  all-same ea e₁ e₂ e₃ e₄ i = record { ws = e₁ i; weights = e₂ i; vw = e₃ i; places = e₄ i; at = ea i }
+
+  pub tried-stage : Stage ws₁ (length weights₁) (length vw₁) (length places₁) l m n
+  tried-stage = go t
+    where
+      go : Here → Stage ws₁ (length weights₁) (length vw₁) (length places₁) l m n
+      go (isFew b f ea e₁ e₂ e₃ e₄) =
+          subst (λ (x : Held). Stage (x .ws) (length (x .weights)) (length (x .vw)) (length (x .places)) l m n) (sym (all-same ea e₁ e₂ e₃ e₄)) h
+      go (isMore b d) = stage-after d h b
+
+  -- a level was found
+  pub tried-more : found ≡ true → (48 < n) × Deeper l m n limit draws at at₁ ws weights vw places ws₁ weights₁ vw₁ places₁ found m₁ n₁
+  tried-more e = go t
+    where
+      go : Here → (48 < n) × Deeper l m n limit draws at at₁ ws weights vw places ws₁ weights₁ vw₁ places₁ found m₁ n₁
+      go (isFew b f ea e₁ e₂ e₃ e₄) = clash e f
+      go (isMore b d) = (b, d)
+
+  -- none was
+  pub tried-none : (maxw : Float) → limit ≡ div binary64 maxw (wholeFloat 3) → {ws₂ part′ : List ℕ} {at₂ : ℕ} → found ≡ false
+      → Gives n draws (initial (graphAt ws₁ weights₁ vw₁ l m n) maxw (wordsAt draws at₁)) ws₁ ws₂ part′ at₂
+      → Through l m n maxw draws at at₂ ws weights vw places ws₂ weights₁ vw₁ places₁ part′
+  tried-none maxw third {ws₂} {part′} {at₂} f g = go t
+    where
+      go : Here → Through l m n maxw draws at at₂ ws weights vw places ws₂ weights₁ vw₁ places₁ part′
+      go (isFew b f′ ea e₁ e₂ e₃ e₄) =
+          subst (λ (x : Held). Through l m n maxw draws (x .at) at₂ (x .ws) (x .weights) (x .vw) (x .places) ws₂ weights₁ vw₁ places₁ part′) (all-same ea e₁ e₂ e₃ e₄)
+          (through-small l m n maxw draws at₁ ws₁ weights₁ vw₁ places₁ tried-stage ws₂ part′ at₂ b g)
+      go (isMore b d) = through-none d h b maxw third f g
 
 -- ---- level 0 ----
 

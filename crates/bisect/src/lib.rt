@@ -10,8 +10,8 @@ ghost use Rattle.moves.specs.Laying.{Bits};
 ghost use Rattle.levels.specs.Stage.{Stage};
 ghost use Rattle.bisect.specs.Through.{Through};
 
-// A partition of level `level`, at the front of the list, through coarser levels and back. It falls with the number of vertices. The list `touched` is for
-// ratings. Returns the cursor.
+// A partition of level `level`, at the front of the list, through coarser levels and back. It falls with the number of vertices.
+// Returns the cursor.
 fn multilevel(
     graph: &mut [u64],
     level: usize,
@@ -24,26 +24,10 @@ fn multilevel(
     at: usize,
     part: &mut [u8],
     places: &mut [u16],
-    touched: &mut [u16],
 ) -> usize
-    requires { ⌜ Stage (now graph) (length (now weights)) (length (now vw)) (length (now places)) level m n × (16384 ≤ length (now touched)) × (n ≤ length (now part)) ⌝ }
+    requires { ⌜ Stage (now graph) (length (now weights)) (length (now vw)) (length (now places)) level m n × (n ≤ length (now part)) ⌝ }
     ensures { λ r. ⌜ Through level m n maxw (now (draws .entry)) at r (now (graph .entry)) (now (weights .entry)) (now (vw .entry)) (now (places .entry)) (now (graph .exit)) (now (weights .exit)) (now (vw .exit)) (now (places .exit)) (now (part .exit)) ⌝ }
 {
-    if n <= 48 {
-        return levels::initial_at(
-            graph,
-            level,
-            m,
-            n,
-            weights,
-            vw,
-            maxw,
-            draws,
-            at,
-            part,
-            places.len(),
-        );
-    }
     let c = levels::coarsen_at(
         graph,
         level,
@@ -55,7 +39,6 @@ fn multilevel(
         draws,
         at,
         places,
-        touched,
     );
     let cursor = c.at;
     if !c.found {
@@ -86,7 +69,6 @@ fn multilevel(
         cursor,
         part,
         places,
-        touched,
     );
     levels::project_at(part, level, n, coarse, places);
     levels::refine_at(
@@ -104,7 +86,7 @@ fn multilevel(
     )
 }
 
-// Halves the hypergraph of level 0. The list `touched` is for ratings. Returns the cursor.
+// Halves the hypergraph of level 0. Returns the cursor.
 pub fn bisect(
     graph: &mut [u64],
     m: usize,
@@ -116,25 +98,11 @@ pub fn bisect(
     at: usize,
     part: &mut [u8],
     places: &mut [u16],
-    touched: &mut [u16],
 ) -> usize
-    requires { ⌜ Stage (now graph) (length (now weights)) (length (now vw)) (length (now places)) 0 m n × (16384 ≤ length (now touched)) × (length (now part) ≡ n) ⌝ }
+    requires { ⌜ Stage (now graph) (length (now weights)) (length (now vw)) (length (now places)) 0 m n × (length (now part) ≡ n) ⌝ }
     ensures { λ r. ⌜ (drawn (now (part .exit)) (wordsAt (now (draws .entry)) r) ≡ bisect (graphIn (now (graph .entry)) 0 (now (weights .entry)) m (take n (now (vw .entry)))) eps (wordsAt (now (draws .entry)) at)) × Bits (now (part .exit)) ⌝ }
 {
     let total = levels::total_weight(&vw[..n]);
     let maxw = levels::side_limit(total, eps);
-    multilevel(
-        graph,
-        0,
-        m,
-        n,
-        weights,
-        vw,
-        maxw,
-        draws,
-        at,
-        part,
-        places,
-        touched,
-    )
+    multilevel(graph, 0, m, n, weights, vw, maxw, draws, at, part, places)
 }

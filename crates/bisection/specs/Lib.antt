@@ -1,5 +1,4 @@
 -- Bisection: what its calls ask, a partition, over all leaves, what it answers and leaves behind. Assumes nothing.
-pub mod Spare
 pub mod Calls
 pub mod Named
 pub mod Parting

@@ -1,10 +1,10 @@
 -- A partition of the leaves' hypergraph, from that hypergraph in slots. Assumes nothing.
 use mathlib.Core.Path.{_≡_, refl, sym, ap, _∙_}
 use mathlib.Core.List.{List, _++_}
-use Prim.Native.Nat.{ℕ, _≤_, _<_}
+use Prim.Native.Nat.{ℕ, _+_, _≤_, _<_}
 use native.Mathlib.Omega.{arith}
 use lib.Ieee.{Float}
-use lib.ListN.{length, take, drop}
+use lib.ListN.{length, take, drop, replicate, length-append, length-replicate, take-append-drop}
 use lib.Seq.{take-at, length-take-le}
 use Rattle.spec.specs.Network.{Network}
 use Rattle.spec.specs.Draws.{drawn}
@@ -15,6 +15,15 @@ use Rattle.partition.specs.Layout.{graphIn}
 use Rattle.hypergraph.specs.Whole.{IsOf}
 use Rattle.halving.specs.Cuts.{Partitioned}
 use Rattle.levels.specs.Stage.{Stage}
+
+-- an array of k places, once its front is back
+pub put-back : {A : Type 0} (x : A) (k n : ℕ) (y : List A) → length y ≡ length (take n (replicate k x)) → length (y ++ drop n (replicate k x)) ≡ k
+put-back x k n y e =
+    length-append y (drop n (replicate k x))
+    ∙ ap (λ (j : ℕ). j + length (drop n (replicate k x))) e
+    ∙ sym (length-append (take n (replicate k x)) (drop n (replicate k x)))
+    ∙ ap length (take-append-drop n (replicate k x))
+    ∙ length-replicate k x
 
 -- the front of a list, lent and back
 front-back : {A : Type 0} (l y : List A) (n : ℕ) → n ≤ length l → length y ≡ length (take n l) → take n (y ++ drop n l) ≡ y

@@ -4,7 +4,6 @@ ghost use lib.ListN.{length};
 ghost use Rattle.spec.specs.Network.{Network as Net};
 ghost use Rattle.hypergraph.specs.Whole.{Names};
 ghost use Rattle.halving.specs.Cuts.{Partitioned, CutBy};
-ghost use Rattle.bisection.specs.Spare.{Spare};
 ghost use Rattle.bisection.specs.Named.{Named};
 
 // How many leaves go left, 0 where they are not halved; and the cursor.
@@ -13,7 +12,8 @@ pub struct Cut {
     pub at: usize,
 }
 
-// A partition of the leaves, to the front of `part`. Returns the cursor.
+// A partition of the leaves, to the front of `part`. The local lists hold the weights of nets and of vertices and the map to the next level, of each level.
+// Returns the cursor.
 fn partition_of(
     ws: &mut [u64],
     weights: &[u8],
@@ -23,18 +23,15 @@ fn partition_of(
     eps: f64,
     draws: &[u64],
     at: usize,
-    netw: &mut [u8],
-    vw: &mut [f64],
     part: &mut [u8],
-    places: &mut [u16],
-    touched: &mut [u16],
 ) -> usize
-    requires { ⌜ (length (now weights) ≤ 256) × (2 < length (now leaves)) × (length (now leaves) ≤ 128) × Named (now weights) (now counts) (now legs) (now leaves) ⌝ }
-    requires { ⌜ Spare (now ws) (now netw) (now vw) (now part) (now places) (now touched) ⌝ }
+    requires { ⌜ (length (now weights) ≤ 256) × (2 < length (now leaves)) × (length (now leaves) ≤ 128) × Named (now weights) (now counts) (now legs) (now leaves) × (32768 ≤ length (now ws)) × (128 ≤ length (now part)) ⌝ }
     ensures { λ r. ⌜ ((N : Net) → Names N (now (weights .entry)) (now (counts .entry)) (now (legs .entry)) (now (leaves .entry)) → Partitioned N (now (leaves .entry)) eps (now (draws .entry)) at (now (part .exit)) r) ⌝ }
 {
+    let mut netw = [0u8; 7168];
+    let mut vw = [0.0f64; 3584];
+    let mut places = [0u16; 3584];
     let n = leaves.len();
-    let mut pins = [0u16; 128];
     let m = hypergraph::hypergraph_of(
         ws,
         0,
@@ -43,22 +40,20 @@ fn partition_of(
         counts,
         legs,
         leaves,
-        netw,
+        &mut netw,
         &mut vw[..n],
-        &mut pins,
     );
     bisect::bisect(
         ws,
         m,
         n,
-        netw,
-        vw,
+        &mut netw,
+        &mut vw,
         eps,
         draws,
         at,
         &mut part[..n],
-        places,
-        touched,
+        &mut places,
     )
 }
 
@@ -72,37 +67,19 @@ pub(crate) fn cut_leaves(
     eps: f64,
     draws: &[u64],
     at: usize,
-    netw: &mut [u8],
-    vw: &mut [f64],
-    part: &mut [u8],
-    places: &mut [u16],
-    touched: &mut [u16],
 ) -> Cut
-    requires { ⌜ (length (now weights) ≤ 256) × (2 < length (now leaves)) × (length (now leaves) ≤ 128) × Named (now weights) (now counts) (now legs) (now leaves) ⌝ }
-    requires { ⌜ Spare (now ws) (now netw) (now vw) (now part) (now places) (now touched) ⌝ }
+    requires { ⌜ (length (now weights) ≤ 256) × (2 < length (now leaves)) × (length (now leaves) ≤ 128) × Named (now weights) (now counts) (now legs) (now leaves) × (32768 ≤ length (now ws)) ⌝ }
     ensures { λ r. ⌜ r .left < length (now (leaves .entry)) ⌝ }
     ensures { λ r. ⌜ ((N : Net) → Names N (now (weights .entry)) (now (counts .entry)) (now (legs .entry)) (now (leaves .entry)) → CutBy N (now (leaves .entry)) eps (now (draws .entry)) at (now (leaves .exit)) (r .left) (r .at)) ⌝ }
 {
-    let next = partition_of(
-        ws,
-        weights,
-        counts,
-        legs,
-        leaves,
-        eps,
-        draws,
-        at,
-        netw,
-        vw,
-        part,
-        places,
-        touched,
-    );
+    let mut part = [0u8; 128];
+    let next = partition_of(ws, weights, counts, legs, leaves, eps, draws, at, &mut part);
     if draws::is_spent(draws, next) {
         return Cut { left: 0, at: next };
     }
     let n = leaves.len();
-    let left = halves::halve(leaves, &part[..n], touched);
+    let mut others = [0u16; 128];
+    let left = halves::halve(leaves, &part[..n], &mut others);
     if left == n {
         return Cut { left: 0, at: next };
     }

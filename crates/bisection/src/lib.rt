@@ -13,14 +13,12 @@ ghost use Rattle.network.specs.Codes.{Facts};
 ghost use Rattle.slots.specs.Weigh.{Light};
 ghost use Rattle.greedynodes.specs.Begin.{Fits, Asks};
 ghost use Rattle.halving.specs.Cases.{Halves};
-ghost use Rattle.bisection.specs.Spare.{Spare};
 ghost use Rattle.bisection.specs.Named.{Named};
 ghost use Rattle.bisection.specs.Whole.{Whole};
 ghost use Rattle.bisection.specs.Answers.{answerOf, Answers};
 use halving::Half;
 use merging::REFUSED;
 use network::Network;
-use network::checks;
 use network::refusal;
 
 pub mod cuts; // cuts.rt: leaves halved by a partition
@@ -32,7 +30,7 @@ pub enum Bisected {
 }
 
 // Bisection of some leaves, onto the array of `count` nodes whose children stand at the front of `kids`: the new nodes' children are put after them.
-// It falls with the number of leaves. The lists from `netw` on are for a partition.
+// It falls with the number of leaves.
 fn bisect_rec(
     leaves: &mut [u16],
     ws: &mut [u64],
@@ -47,14 +45,8 @@ fn bisect_rec(
     at: usize,
     kids: &mut [u16],
     count: usize,
-    netw: &mut [u8],
-    vw: &mut [f64],
-    part: &mut [u8],
-    places: &mut [u16],
-    touched: &mut [u16],
 ) -> Half
-    requires { ⌜ Fits 4 n count (now weights) (now outputs) (now leaves) (now ws) × Light (now weights) × (count + length (now leaves) ≤ 4096) × Named (now weights) (now counts) (now legs) (now leaves) ⌝ }
-    requires { ⌜ Spare (now ws) (now netw) (now vw) (now part) (now places) (now touched) ⌝ }
+    requires { ⌜ Fits 4 n count (now weights) (now outputs) (now leaves) (now ws) × Light (now weights) × (count + length (now leaves) ≤ 4096) × Named (now weights) (now counts) (now legs) (now leaves) × (32768 ≤ length (now ws)) ⌝ }
     ensures { λ r. ⌜ ((N : Net) (a : List Pair) → Asks N a n count (now (weights .entry)) (now (counts .entry)) (now (legs .entry)) (now (outputs .entry)) (now (leaves .entry)) (now (kids .entry)) → Halves N eps cutoff a (now (leaves .entry)) (now (draws .entry)) at (now (kids .entry)) (now (kids .exit)) (r .top) (r .at)) ⌝ }
 {
     let most = halving::small(cutoff);
@@ -74,21 +66,7 @@ fn bisect_rec(
         );
         return Half { top, at };
     }
-    let cut = cuts::cut_leaves(
-        leaves,
-        ws,
-        weights,
-        counts,
-        legs,
-        eps,
-        draws,
-        at,
-        netw,
-        vw,
-        part,
-        places,
-        touched,
-    );
+    let cut = cuts::cut_leaves(leaves, ws, weights, counts, legs, eps, draws, at);
     let left = cut.left;
     let next = cut.at;
     if left == 0 {
@@ -120,11 +98,6 @@ fn bisect_rec(
         next,
         kids,
         count,
-        netw,
-        vw,
-        part,
-        places,
-        touched,
     );
     if REFUSED <= first.top {
         return first;
@@ -145,11 +118,6 @@ fn bisect_rec(
         next2,
         kids,
         count + (left - 1),
-        netw,
-        vw,
-        part,
-        places,
-        touched,
     );
     halving::join_halves(n, kids, count + (all - 2), top, second)
 }
@@ -173,11 +141,6 @@ fn bisect_all<'a>(
     ensures { λ r. ⌜ Whole (networkOf m n o (now (weights .entry)) (now (counts .entry)) (now (legs .entry)) (now (outputs .entry))) imbalance cutoff (now (draws .entry)) (now (kids .entry)) (now (kids .exit)) (r .top) (r .at) ⌝ }
 {
     let mut numbers = [0u16; 128];
-    let mut netw = [0u8; 7168];
-    let mut vw = [0.0f64; 3584];
-    let mut part = [0u8; 128];
-    let mut places = [0u16; 3584];
-    let mut touched = [0u16; 16384];
     start::count_up(&mut numbers, n);
     let eps = halving::imbalance(imbalance);
     bisect_rec(
@@ -194,11 +157,6 @@ fn bisect_all<'a>(
         0,
         kids,
         0,
-        &mut netw,
-        &mut vw,
-        &mut part,
-        &mut places,
-        &mut touched,
     )
 }
 
@@ -278,21 +236,13 @@ pub fn bisection(
     if 1000 < imbalance {
         return Bisected::Refused(refusal::TOO_LARGE);
     }
-    let m = network.index_count;
-    let n = network.leaf_count;
-    let o = network.output_count;
-    let k = checks::number(
-        m,
-        n,
-        o,
-        &network.weights,
-        &network.leg_counts,
-        &network.legs,
-        &network.outputs,
-    );
+    let k = network::number(network);
     if k != refusal::NONE {
         return Bisected::Refused(k);
     }
+    let m = network.index_count;
+    let n = network.leaf_count;
+    let o = network.output_count;
     bisection_in(
         m,
         n,

@@ -75,37 +75,24 @@ fn put_coarse(graph: &mut [u64], s: usize, places: &[u16], pins: &[u16], len: us
     }
 }
 
-// The pins of net `e`, mapped, go to slot `coarse` + `e`. The list is for pins.
-fn map_net(
-    graph: &mut [u64],
-    nets: usize,
-    coarse: usize,
-    places: &[u16],
-    pins: &mut [u16],
-    e: usize,
-)
-    requires { ⌜ (nets < 32768) × (coarse < 32768) × (e < 256) × (128 ≤ length (now pins)) ⌝ }
-    ensures { λ _. ⌜ (now (graph .exit) ≡ mappedNet nets coarse (now (places .entry)) e (now (graph .entry))) × (length (now (pins .exit)) ≡ length (now (pins .entry))) ⌝ }
+// The pins of net `e`, mapped, go to slot `coarse` + `e`.
+fn map_net(graph: &mut [u64], nets: usize, coarse: usize, places: &[u16], e: usize)
+    requires { ⌜ (nets < 32768) × (coarse < 32768) × (e < 256) ⌝ }
+    ensures { λ _. ⌜ now (graph .exit) ≡ mappedNet nets coarse (now (places .entry)) e (now (graph .entry)) ⌝ }
 {
-    let len = slots::members(graph, 2, nets + e, pins, 0);
+    let mut pins = [0u16; 128];
+    let len = slots::members(graph, 2, nets + e, &mut pins, 0);
     slots::empty(graph, 2, coarse + e);
-    put_coarse(graph, coarse + e, places, pins, len);
+    put_coarse(graph, coarse + e, places, &pins, len);
 }
 
 // The same for each of `m` nets.
-fn map_nets(
-    graph: &mut [u64],
-    nets: usize,
-    coarse: usize,
-    m: usize,
-    places: &[u16],
-    pins: &mut [u16],
-)
-    requires { ⌜ (nets < 32768) × (coarse < 32768) × (m ≤ 256) × (128 ≤ length (now pins)) ⌝ }
-    ensures { λ _. ⌜ (now (graph .exit) ≡ mapped nets coarse (now (places .entry)) (now (graph .entry)) m) × (length (now (pins .exit)) ≡ length (now (pins .entry))) ⌝ }
+fn map_nets(graph: &mut [u64], nets: usize, coarse: usize, m: usize, places: &[u16])
+    requires { ⌜ (nets < 32768) × (coarse < 32768) × (m ≤ 256) ⌝ }
+    ensures { λ _. ⌜ now (graph .exit) ≡ mapped nets coarse (now (places .entry)) (now (graph .entry)) m ⌝ }
 {
     for e in 0..m {
-        map_net(graph, nets, coarse, places, pins, e);
+        map_net(graph, nets, coarse, places, e);
     }
 }
 
@@ -115,7 +102,7 @@ pub struct Size {
     pub vertices: usize,
 }
 
-// The coarser hypergraph of a matching, at `nets2` and `vertices2`, with `weights2` and `vw2`, and the coarse vertex of each vertex in `places`. The list is for pins.
+// The coarser hypergraph of a matching, at `nets2` and `vertices2`, with `weights2` and `vw2`, and the coarse vertex of each vertex in `places`.
 fn level(
     graph: &mut [u64],
     nets: usize,
@@ -128,14 +115,13 @@ fn level(
     weights2: &mut [u8],
     vw2: &mut [f64],
     places: &mut [u16],
-    pins: &mut [u16],
 ) -> Size
-    requires { ⌜ (m ≤ 256) × (length (now vw) ≤ 128) × Within (now graph) nets m (length (now vw)) × Paired (length (now vw)) (now mates) × (length (now vw) ≤ length (now places)) × (length (now vw) ≤ length (now vw2)) × (m ≤ length (now weights2)) × (nets + 256 ≤ nets2) × (nets2 + 256 ≤ vertices2 * 2) × ((vertices2 + 128) * 4 ≤ length (now graph)) × (nets2 < 32768) × (vertices2 < 32768) × (128 ≤ length (now pins)) ⌝ }
+    requires { ⌜ (m ≤ 256) × (length (now vw) ≤ 128) × Within (now graph) nets m (length (now vw)) × Paired (length (now vw)) (now mates) × (length (now vw) ≤ length (now places)) × (length (now vw) ≤ length (now vw2)) × (m ≤ length (now weights2)) × (nets + 256 ≤ nets2) × (nets2 + 256 ≤ vertices2 * 2) × ((vertices2 + 128) * 4 ≤ length (now graph)) × (nets2 < 32768) × (vertices2 < 32768) ⌝ }
     ensures { λ r. ⌜ Coarser (now (graph .entry)) nets (now (weights .entry)) m (now (vw .entry)) (now (mates .entry)) nets2 vertices2 (now (graph .exit)) (now (weights2 .exit)) (r .nets) (now (vw2 .exit)) (r .vertices) (now (places .exit)) × (length (take (r .vertices) (now (vw2 .exit))) ≡ r .vertices) ⌝ }
 {
     let n = join_all(vw, mates, places, vw2);
-    map_nets(graph, nets, nets2, m, places, pins);
-    let k = mesh::mesh(graph, nets2, vertices2, m, n, weights, weights2, pins);
+    map_nets(graph, nets, nets2, m, places);
+    let k = mesh::mesh(graph, nets2, vertices2, m, n, weights, weights2);
     Size {
         nets: k,
         vertices: n,
@@ -161,7 +147,7 @@ pub struct Coarse {
     pub at: usize,
 }
 
-// A coarser hypergraph, by a matching in a drawn order, at `nets2` and `vertices2`. The lists from `order` on are for the matching.
+// A coarser hypergraph, by a matching in a drawn order, at `nets2` and `vertices2`. The list `mates` is for the matching.
 pub fn coarsen(
     graph: &mut [u64],
     nets: usize,
@@ -177,14 +163,9 @@ pub fn coarsen(
     weights2: &mut [u8],
     vw2: &mut [f64],
     places: &mut [u16],
-    order: &mut [u16],
     mates: &mut [u16],
-    rating: &mut [f64],
-    touched: &mut [u16],
-    pins: &mut [u16],
-    list: &mut [u16],
 ) -> Coarse
-    requires { ⌜ (nets < 32768) × (vertices < 32768) × (0 < length (now vw)) × (length (now rating) ≡ length (now vw)) × (16384 ≤ length (now touched)) × (128 ≤ length (now pins)) × (256 ≤ length (now list)) × Meshed (now graph) nets vertices m (length (now vw)) × (length (now order) ≡ length (now vw)) × (length (now mates) ≡ length (now vw)) × Within (now graph) nets m (length (now vw)) × (length (now vw) ≤ length (now places)) × (length (now vw) ≤ length (now vw2)) × (m ≤ length (now weights2)) × (nets + 256 ≤ nets2) × (nets2 + 256 ≤ vertices2 * 2) × ((vertices2 + 128) * 4 ≤ length (now graph)) × (nets2 < 32768) × (vertices2 < 32768) ⌝ }
+    requires { ⌜ (nets < 32768) × (vertices < 32768) × (0 < length (now vw)) × Meshed (now graph) nets vertices m (length (now vw)) × (length (now mates) ≡ length (now vw)) × Within (now graph) nets m (length (now vw)) × (length (now vw) ≤ length (now places)) × (length (now vw) ≤ length (now vw2)) × (m ≤ length (now weights2)) × (nets + 256 ≤ nets2) × (nets2 + 256 ≤ vertices2 * 2) × ((vertices2 + 128) * 4 ≤ length (now graph)) × (nets2 < 32768) × (vertices2 < 32768) ⌝ }
     ensures same { λ r. ⌜ drawn (levelIf (r .found) (levelIn (now (graph .exit)) nets2 (now (weights2 .exit)) (r .nets) (now (vw2 .exit)) (r .vertices) (now (places .exit)) (length (now (vw .entry))))) (wordsAt (now (words .entry)) (r .at)) ≡ coarsen (graphIn (now (graph .entry)) nets (now (weights .entry)) m (now (vw .entry))) limit (wordsAt (now (words .entry)) at) ⌝ }
     ensures level { λ r. ⌜ Coarser (now (graph .entry)) nets (now (weights .entry)) m (now (vw .entry)) (now (mates .exit)) nets2 vertices2 (now (graph .exit)) (now (weights2 .exit)) (r .nets) (now (vw2 .exit)) (r .vertices) (now (places .exit)) ⌝ }
 {
@@ -198,12 +179,7 @@ pub fn coarsen(
         limit,
         words,
         at,
-        order,
         mates,
-        rating,
-        touched,
-        pins,
-        list,
     );
     let size = level(
         graph,
@@ -217,7 +193,6 @@ pub fn coarsen(
         weights2,
         vw2,
         places,
-        pins,
     );
     Coarse {
         nets: size.nets,

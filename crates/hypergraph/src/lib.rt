@@ -25,7 +25,7 @@ fn put_leaves(graph: &mut [u64], nets: usize, counts: &[u8], legs: &[u16], leave
     }
 }
 
-// The hypergraph of `leaves`, at `nets` and `vertices`, with `weights2` and `vw`. Returns how many nets it has. The list is for pins.
+// The hypergraph of `leaves`, at `nets` and `vertices`, with `weights2` and `vw`. Returns how many nets it has.
 pub fn hypergraph_of(
     graph: &mut [u64],
     nets: usize,
@@ -36,9 +36,8 @@ pub fn hypergraph_of(
     leaves: &[u16],
     weights2: &mut [u8],
     vw: &mut [f64],
-    pins: &mut [u16],
 ) -> usize
-    requires { ⌜ (length (now weights) ≤ 256) × (length (now leaves) ≤ 128) × (length (now vw) ≡ length (now leaves)) × (length (now weights) ≤ length (now weights2)) × (nets + 256 ≤ vertices * 2) × ((vertices + 128) * 4 ≤ length (now graph)) × (nets < 32768) × (vertices < 32768) × (128 ≤ length (now pins)) ⌝ }
+    requires { ⌜ (length (now weights) ≤ 256) × (length (now leaves) ≤ 128) × (length (now vw) ≡ length (now leaves)) × (length (now weights) ≤ length (now weights2)) × (nets + 256 ≤ vertices * 2) × ((vertices + 128) * 4 ≤ length (now graph)) × (nets < 32768) × (vertices < 32768) ⌝ }
     ensures { λ r. ⌜ ((N : Network) → Names N (now (weights .entry)) (now (counts .entry)) (now (legs .entry)) (now (leaves .entry)) → IsOf N (now (leaves .entry)) (now (graph .entry)) nets vertices (length (now (weights .entry))) (now (graph .exit)) (now (weights2 .exit)) r (now (vw .exit))) ⌝ }
 {
     put_leaves(graph, nets, counts, legs, leaves);
@@ -51,6 +50,5 @@ pub fn hypergraph_of(
         leaves.len(),
         weights,
         weights2,
-        pins,
     )
 }

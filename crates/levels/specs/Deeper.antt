@@ -1,5 +1,5 @@
 -- A level is made coarser: the next level, its weights and the map to it. Assumes nothing.
-use mathlib.Core.Bool.{Bool, true}
+use mathlib.Core.Bool.{Bool, true, false}
 use mathlib.Core.Path.{_≡_, refl, sym, ap, _∙_, subst}
 use mathlib.Core.List.{List, _++_}
 use Prim.Native.Nat.{ℕ, _+_, _-_, _*_, _≤_, _<_}
@@ -57,6 +57,14 @@ pub record Deeper (l m n : ℕ) (limit : Float) (draws : List ℕ) (at at′ : �
   pub stage : found ≡ true → Stage ws′ (length weights′) (length vw′) (length places′) (l + 1) m′ n′
   pub fewer : n′ ≤ n
   pub kept : Keeps l ws weights vw places ws′ weights′ vw′ places′
+
+-- a level of at most 48 vertices is left as it is
+pub data Tried (l m n : ℕ) (limit : Float) (draws : List ℕ) (at at′ : ℕ) (ws weights : List ℕ) (vw : List Float) (places ws′ weights′ : List ℕ) (vw′ : List Float) (places′ : List ℕ)
+    (found : Bool) (m′ n′ : ℕ) : Type 0 where
+  isFew : n ≤ 48 → found ≡ false → at′ ≡ at → ws′ ≡ ws → weights′ ≡ weights → vw′ ≡ vw → places′ ≡ places
+      → Tried l m n limit draws at at′ ws weights vw places ws′ weights′ vw′ places′ found m′ n′
+  isMore : 48 < n → Deeper l m n limit draws at at′ ws weights vw places ws′ weights′ vw′ places′ found m′ n′
+      → Tried l m n limit draws at at′ ws weights vw places ws′ weights′ vw′ places′ found m′ n′
 
 module _ (l m n : ℕ) (limit : Float) (draws : List ℕ) (at at′ : ℕ) (ws weights : List ℕ) (vw : List Float) (places ws′ weights′ : List ℕ) (vw′ : List Float) (places′ : List ℕ)
     (found : Bool) (m′ n′ : ℕ) (w₂ : List ℕ) (v₂ : List Float) (p₂ mates : List ℕ)

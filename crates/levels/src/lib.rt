@@ -13,7 +13,7 @@ ghost use Rattle.draws.specs.Cursor.{wordsAt};
 ghost use Rattle.moves.specs.Laying.{Bits};
 ghost use Rattle.levels.specs.Spans.{summed, span};
 ghost use Rattle.levels.specs.Stage.{Stage, graphAt, Gives};
-ghost use Rattle.levels.specs.Deeper.{Deeper};
+ghost use Rattle.levels.specs.Deeper.{Tried};
 use coarsen::Coarse;
 
 // The sum of the vertices' weights.
@@ -114,13 +114,6 @@ pub fn refine_at(
     requires { ⌜ Stage (now graph) (length (now weights)) (length (now vw)) places level m n × (n ≤ length (now part)) × Bits (take n (now part)) ⌝ }
     ensures { λ r. ⌜ Gives n (now (draws .entry)) (fm (graphAt (now (graph .entry)) (now (weights .entry)) (now (vw .entry)) level m n) maxw 4 (take n (now (part .entry))) (wordsAt (now (draws .entry)) at)) (now (graph .entry)) (now (graph .exit)) (now (part .exit)) r ⌝ }
 {
-    let mut keys = [0.0f64; 128];
-    let mut stamps = [0u64; 128];
-    let mut waiting = [0u8; 128];
-    let mut moves = [0u16; 128];
-    let mut list = [0u16; 256];
-    let mut pins = [0u16; 128];
-    let mut own = [0u16; 256];
     let net = level * 256;
     let nets = net + 256;
     let first = level * 128;
@@ -138,13 +131,6 @@ pub fn refine_at(
         draws,
         at,
         &mut part[..n],
-        &mut keys[..n],
-        &mut stamps[..n],
-        &mut waiting[..n],
-        &mut moves,
-        &mut list,
-        &mut pins,
-        &mut own,
     )
 }
 
@@ -166,14 +152,6 @@ pub fn initial_at(
     ensures { λ r. ⌜ Gives n (now (draws .entry)) (initial (graphAt (now (graph .entry)) (now (weights .entry)) (now (vw .entry)) level m n) maxw (wordsAt (now (draws .entry)) at)) (now (graph .entry)) (now (graph .exit)) (now (part .exit)) r ⌝ }
 {
     let mut trial = [0u8; 128];
-    let mut links = [0.0f64; 128];
-    let mut keys = [0.0f64; 128];
-    let mut stamps = [0u64; 128];
-    let mut waiting = [0u8; 128];
-    let mut moves = [0u16; 128];
-    let mut list = [0u16; 256];
-    let mut pins = [0u16; 128];
-    let mut own = [0u16; 256];
     let net = level * 256;
     let nets = net + 256;
     let first = level * 128;
@@ -193,18 +171,10 @@ pub fn initial_at(
         at,
         &mut part[..n],
         &mut trial[..n],
-        &mut links[..n],
-        &mut keys[..n],
-        &mut stamps[..n],
-        &mut waiting[..n],
-        &mut moves,
-        &mut list,
-        &mut pins,
-        &mut own,
     )
 }
 
-// The coarser hypergraph of level `level`, at the next level, with its weights and the map to it. The list `touched` is for ratings.
+// The coarser hypergraph of level `level`, at the next level, with its weights and the map to it. One of at most 48 vertices is left as it is.
 pub fn coarsen_at(
     graph: &mut [u64],
     level: usize,
@@ -216,18 +186,21 @@ pub fn coarsen_at(
     draws: &[u64],
     at: usize,
     places: &mut [u16],
-    touched: &mut [u16],
 ) -> Coarse
-    requires { ⌜ Stage (now graph) (length (now weights)) (length (now vw)) (length (now places)) level m n × (48 < n) × (16384 ≤ length (now touched)) ⌝ }
-    ensures { λ r. ⌜ Deeper level m n limit (now (draws .entry)) at (r .at) (now (graph .entry)) (now (weights .entry)) (now (vw .entry)) (now (places .entry)) (now (graph .exit)) (now (weights .exit)) (now (vw .exit)) (now (places .exit)) (r .found) (r .nets) (r .vertices) ⌝ }
+    requires { ⌜ Stage (now graph) (length (now weights)) (length (now vw)) (length (now places)) level m n ⌝ }
+    ensures { λ r. ⌜ Tried level m n limit (now (draws .entry)) at (r .at) (now (graph .entry)) (now (weights .entry)) (now (vw .entry)) (now (places .entry)) (now (graph .exit)) (now (weights .exit)) (now (vw .exit)) (now (places .exit)) (r .found) (r .nets) (r .vertices) ⌝ }
 {
+    if n <= 48 {
+        return Coarse {
+            nets: 0,
+            vertices: 0,
+            found: false,
+            at,
+        };
+    }
     let mut weights2 = [0u8; 256];
     let mut vw2 = [0.0f64; 128];
-    let mut order = [0u16; 128];
     let mut mates = [0u16; 128];
-    let mut rating = [0.0f64; 128];
-    let mut pins = [0u16; 128];
-    let mut list = [0u16; 256];
     let net = level * 256;
     let nets = net + 256;
     let first = level * 128;
@@ -248,12 +221,7 @@ pub fn coarsen_at(
         &mut weights2,
         &mut vw2,
         &mut places[first..end],
-        &mut order[..n],
         &mut mates[..n],
-        &mut rating[..n],
-        touched,
-        &mut pins,
-        &mut list,
     );
     cells::place8(weights, next * 256, &weights2);
     placef(vw, next * 128, &vw2);

@@ -8,7 +8,7 @@ use native.Mathlib.Omega.{arith}
 use lib.Dec.{eqb, ltb}
 use lib.Ieee.{Float}
 use lib.ListN.{length, getD, set, take, replicate}
-use lib.Seq.{sets, length-sets}
+use lib.Seq.{sets, length-sets, length-take-le}
 use borrow.Author.Tests.{lt-ltb, le-ltb, eq-eqb, ne-eqb}
 use Rattle.spec.specs.Lists.{memb, keep, from, range}
 use Rattle.spec.specs.Memory.{filled}
@@ -57,6 +57,17 @@ keep-length p (u ∷ l) = by-cases (p u) (λ e. rw e (omega (arith, keep-length 
 
 kept-few : (p : ℕ → Bool) (n : ℕ) → length (keep p (range n)) ≤ n
 kept-few p n = omega (arith, keep-length p (range n), range-length 0 n)
+
+-- the front of a list that holds one value
+pub front-filled : {A : Type 0} (x : A) (n m : ℕ) → n ≤ m → take n (replicate m x) ≡ filled n x
+unfolding filled
+front-filled x zero m h = refl
+front-filled x (suc n) zero h = absurd (omega arith)
+front-filled x (suc n) (suc m) h = ap (λ l. x ∷ l) (front-filled x n m (omega arith))
+
+-- how long the front of an array of 128 places is
+pub front-long : (n : ℕ) → n ≤ 128 → length {A = ℕ} (take n (replicate 128 0)) ≡ n
+front-long n h = length-take-le {A = ℕ} n (replicate 128 0) (omega arith)
 
 rising-few : (ws : List ℕ) (s : ℕ) → length (risingOf ws 4 s) ≤ 256
 unfolding risingOf
@@ -109,20 +120,20 @@ module _ (ws : List ℕ) (nets vertices m n : ℕ) (weights : List ℕ) (vw : Li
       ∙ ap (λ (k : ℕ). ratedNets ws nets weights mates k v (risingOf ws 4 (vertices + v)) (start k)) e
 
   -- MATCHED BY THE SLOTS
-  pub matched-laid : (v : ℕ) (words mates mates′ list list′ touched touched′ : List ℕ) (rating rating′ rating″ : List Float) (len count at at′ u : ℕ) (found : Bool) (best : Float)
-      → v < n → length vw ≡ n → getD mates v 0 ≡ n → length rating ≡ n
+  pub matched-laid : (v : ℕ) (words mates mates′ list′ touched touched′ : List ℕ) (rating′ rating″ : List Float) (len count at at′ u : ℕ) (found : Bool) (best : Float)
+      → v < n → length vw ≡ n → getD mates v 0 ≡ n
       → take len list′ ≡ risingOf ws 4 (vertices + v)
-      → rating′ ≡ filled (length rating) zeroFloat
+      → rating′ ≡ filled n zeroFloat
       → ratingsIn rating″ touched′ count ≡ ratedNets ws nets weights mates n v (take len list′) (ratingsIn rating′ touched 0)
       → (rating‴ : List Float)
       → choiceOf best (mateIf found u) rating‴ (wordsAt words at′) ≡ foldOver (looked vw maxw v) (take count touched′) (choiceOf zeroFloat (mateIf false 0) rating″ (wordsAt words at))
       → mates′ ≡ matedIn v found u mates
       → drawn mates′ (wordsAt words at′) ≡ matched G maxw v (drawn mates (wordsAt words at))
   unfolding graphIn filled
-  matched-laid v words mates mates′ list list′ touched touched′ rating rating′ rating″ len count at at′ u found best b ev em er el ef et rating‴ ec ep =
+  matched-laid v words mates mates′ list′ touched touched′ rating′ rating″ len count at at′ u found best b ev em el ef et rating‴ ec ep =
       let t : ratingsIn rating″ touched′ count ≡ ratings G maxw mates v =
       et ∙ ap (λ l. ratedNets ws nets weights mates n v l (ratingsIn rating′ touched 0)) el
-      ∙ ap (λ l. ratedNets ws nets weights mates n v (risingOf ws 4 (vertices + v)) (ratingsIn l touched 0)) (ef ∙ ap (λ (k : ℕ). replicate k zeroFloat) er)
+      ∙ ap (λ l. ratedNets ws nets weights mates n v (risingOf ws 4 (vertices + v)) (ratingsIn l touched 0)) ef
       ∙ sym (ratings-laid mates v b ev) in
       let k : choiceOf best (mateIf found u) rating‴ (wordsAt words at′) ≡ chosen (ratings G maxw mates v) =
       ec ∙ ap chosen t in

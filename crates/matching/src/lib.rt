@@ -16,7 +16,7 @@ ghost use Rattle.matching.specs.Choices.{mateIf, choiceOf, looked, mated
 
 // Makes a list 0, 1, 2, ..
 fn count_up(order: &mut [u16])
-    requires { do ⌜ (← ⟦order.len()⟧) ≤ 65536 ⌝ }
+    requires { ⌜ length (now order) ≤ 65536 ⌝ }
     ensures { λ _. ⌜ now (order .exit) ≡ range (length (now (order .entry))) ⌝ }
 {
     for k in 0..order.len() {
@@ -39,7 +39,7 @@ fn swap_drawn(order: &mut [u16], words: &[u64], at: usize, i: usize) -> usize
 
 // Shuffles a list by draws.
 fn shuffle(order: &mut [u16], words: &[u64], at: usize) -> usize
-    requires { do ⌜ (← ⟦order.len()⟧) ≤ 65536 ⌝ }
+    requires { ⌜ length (now order) ≤ 65536 ⌝ }
     ensures { λ r. ⌜ (drawn (now (order .exit)) (wordsAt (now (words .entry)) r) ≡ shuffled (length (now (order .entry)) - 1) (drawn (now (order .entry)) (wordsAt (now (words .entry)) at))) × (length (now (order .exit)) ≡ length (now (order .entry))) ⌝ }
 {
     let mut i = order.len();
@@ -105,7 +105,7 @@ fn choose(
     touched: &[u16],
     count: usize,
 ) -> Best
-    requires { do ⌜ count ≤ (← ⟦touched.len()⟧) ⌝ }
+    requires { ⌜ count ≤ length (now touched) ⌝ }
     ensures { λ r. ⌜ (choiceOf (r .rating) (mateIf (r .found) (r .mate)) (now (rating .exit)) (wordsAt (now (words .entry)) (r .at)) ≡ foldOver (looked (now (vw .entry)) limit v) (take count (now (touched .entry))) (choiceOf zeroFloat (mateIf false 0) (now (rating .entry)) (wordsAt (now (words .entry)) at))) × (r .mate < 65536) × (length (now (rating .exit)) ≡ length (now (rating .entry))) ⌝ }
 {
     let mut best = Best {
@@ -133,7 +133,7 @@ fn pair(mates: &mut [u16], v: usize, found: bool, u: usize)
     }
 }
 
-// `v` is matched, unless it has a mate already: `n`, the number of vertices, stands for none. The lists are for ratings, the vertices rated, pins and nets.
+// `v` is matched, unless it has a mate already: `n`, the number of vertices, stands for none. The list is for the vertices rated.
 fn match_vertex(
     graph: &[u64],
     nets: usize,
@@ -145,30 +145,28 @@ fn match_vertex(
     words: &[u64],
     at: usize,
     mates: &mut [u16],
-    rating: &mut [f64],
     touched: &mut [u16],
-    pins: &mut [u16],
-    list: &mut [u16],
     v: usize,
 ) -> usize
-    requires { ⌜ (nets < 32768) × (vertices < 32768) × (v < length (now vw)) × (length (now rating) ≡ length (now vw)) × (16384 ≤ length (now touched)) × (128 ≤ length (now pins)) × (256 ≤ length (now list)) × Meshed (now graph) nets vertices m (length (now vw)) ⌝ }
-    ensures { λ r. ⌜ (drawn (now (mates .exit)) (wordsAt (now (words .entry)) r) ≡ matched (graphIn (now (graph .entry)) nets (now (weights .entry)) m (now (vw .entry))) limit v (drawn (now (mates .entry)) (wordsAt (now (words .entry)) at))) × (length (now (mates .exit)) ≡ length (now (mates .entry))) × (length (now (rating .exit)) ≡ length (now (rating .entry))) × (length (now (touched .exit)) ≡ length (now (touched .entry))) × (length (now (pins .exit)) ≡ length (now (pins .entry))) × (length (now (list .exit)) ≡ length (now (list .entry))) ⌝ }
+    requires { ⌜ (nets < 32768) × (vertices < 32768) × (v < length (now vw)) × (16384 ≤ length (now touched)) × Meshed (now graph) nets vertices m (length (now vw)) ⌝ }
+    ensures { λ r. ⌜ (drawn (now (mates .exit)) (wordsAt (now (words .entry)) r) ≡ matched (graphIn (now (graph .entry)) nets (now (weights .entry)) m (now (vw .entry))) limit v (drawn (now (mates .entry)) (wordsAt (now (words .entry)) at))) × (length (now (mates .exit)) ≡ length (now (mates .entry))) × (length (now (touched .exit)) ≡ length (now (touched .entry))) ⌝ }
 {
     let n = vw.len();
     if cells::at16(mates, v) == n {
-        cells::fillf(rating, 0.0);
-        let len = slots::members(graph, 4, vertices + v, list, 0);
+        let mut floats = [0.0f64; 128];
+        let rating = &mut floats[..n];
+        let mut list = [0u16; 256];
+        let len = slots::members(graph, 4, vertices + v, &mut list, 0);
         let count = ratings::rate_nets(
             graph,
             nets,
             weights,
-            pins,
             mates,
             n,
             v,
             rating,
             touched,
-            list,
+            &list,
             len,
         );
         let best = choose(vw, limit, words, at, rating, v, touched, count);
@@ -191,12 +189,9 @@ fn match_in_order(
     at: usize,
     order: &[u16],
     mates: &mut [u16],
-    rating: &mut [f64],
     touched: &mut [u16],
-    pins: &mut [u16],
-    list: &mut [u16],
 ) -> usize
-    requires { ⌜ (nets < 32768) × (vertices < 32768) × (0 < length (now vw)) × (length (now rating) ≡ length (now vw)) × (16384 ≤ length (now touched)) × (128 ≤ length (now pins)) × (256 ≤ length (now list)) × Meshed (now graph) nets vertices m (length (now vw)) × (length (now order) ≡ length (now vw)) × Below (length (now vw)) (now order) ⌝ }
+    requires { ⌜ (nets < 32768) × (vertices < 32768) × (0 < length (now vw)) × (16384 ≤ length (now touched)) × Meshed (now graph) nets vertices m (length (now vw)) × (length (now order) ≡ length (now vw)) × Below (length (now vw)) (now order) ⌝ }
     ensures { λ r. ⌜ (drawn (now (mates .exit)) (wordsAt (now (words .entry)) r) ≡ foldOver (matched (graphIn (now (graph .entry)) nets (now (weights .entry)) m (now (vw .entry))) limit) (now (order .entry)) (drawn (now (mates .entry)) (wordsAt (now (words .entry)) at))) × (length (now (mates .exit)) ≡ length (now (mates .entry))) ⌝ }
 {
     let mut cursor = at;
@@ -213,10 +208,7 @@ fn match_in_order(
             words,
             cursor,
             mates,
-            rating,
             touched,
-            pins,
-            list,
             v,
         );
     }
@@ -234,17 +226,15 @@ pub fn match_all(
     limit: f64,
     words: &[u64],
     at: usize,
-    order: &mut [u16],
     mates: &mut [u16],
-    rating: &mut [f64],
-    touched: &mut [u16],
-    pins: &mut [u16],
-    list: &mut [u16],
 ) -> usize
-    requires { ⌜ (nets < 32768) × (vertices < 32768) × (0 < length (now vw)) × (length (now rating) ≡ length (now vw)) × (16384 ≤ length (now touched)) × (128 ≤ length (now pins)) × (256 ≤ length (now list)) × Meshed (now graph) nets vertices m (length (now vw)) × (length (now order) ≡ length (now vw)) × (length (now mates) ≡ length (now vw)) ⌝ }
+    requires { ⌜ (nets < 32768) × (vertices < 32768) × (0 < length (now vw)) × Meshed (now graph) nets vertices m (length (now vw)) × (length (now mates) ≡ length (now vw)) ⌝ }
     ensures { λ r. ⌜ drawn (now (mates .exit)) (wordsAt (now (words .entry)) r) ≡ matching (graphIn (now (graph .entry)) nets (now (weights .entry)) m (now (vw .entry))) limit (wordsAt (now (words .entry)) at) ⌝ }
 {
     let n = vw.len();
+    let mut numbers = [0u16; 128];
+    let mut touched = [0u16; 16384];
+    let order = &mut numbers[..n];
     count_up(order);
     let cursor = shuffle(order, words, at);
     cells::fill16(mates, n as u16);
@@ -260,9 +250,6 @@ pub fn match_all(
         cursor,
         order,
         mates,
-        rating,
-        touched,
-        pins,
-        list,
+        &mut touched,
     )
 }

@@ -35,23 +35,24 @@ pub fn put_into(
     }
 }
 
-// Enters net `e` at each of its pins. The list is for these.
-fn cross_net(graph: &mut [u64], nets: usize, vertices: usize, pins: &mut [u16], e: usize)
-    requires { ⌜ (nets < 32768) × (vertices < 32768) × (e < 256) × (128 ≤ length (now pins)) ⌝ }
-    ensures { λ _. ⌜ (now (graph .exit) ≡ crossedNet nets vertices e (now (graph .entry))) × (length (now (pins .exit)) ≡ length (now (pins .entry))) ⌝ }
+// Enters net `e` at each of its pins.
+fn cross_net(graph: &mut [u64], nets: usize, vertices: usize, e: usize)
+    requires { ⌜ (nets < 32768) × (vertices < 32768) × (e < 256) ⌝ }
+    ensures { λ _. ⌜ now (graph .exit) ≡ crossedNet nets vertices e (now (graph .entry)) ⌝ }
 {
-    let len = slots::members(graph, 2, nets + e, pins, 0);
-    put_into(graph, 4, vertices, pins, 0, len, e);
+    let mut pins = [0u16; 128];
+    let len = slots::members(graph, 2, nets + e, &mut pins, 0);
+    put_into(graph, 4, vertices, &pins, 0, len, e);
 }
 
 // The nets of each of `n` vertices, from the pins of `m` nets.
-fn cross(graph: &mut [u64], nets: usize, vertices: usize, m: usize, n: usize, pins: &mut [u16])
-    requires { ⌜ (nets < 32768) × (vertices < 32768) × (m ≤ 256) × (n ≤ 128) × (128 ≤ length (now pins)) ⌝ }
-    ensures { λ _. ⌜ (now (graph .exit) ≡ crossed nets vertices n (now (graph .entry)) m) × (length (now (pins .exit)) ≡ length (now (pins .entry))) ⌝ }
+fn cross(graph: &mut [u64], nets: usize, vertices: usize, m: usize, n: usize)
+    requires { ⌜ (nets < 32768) × (vertices < 32768) × (m ≤ 256) × (n ≤ 128) ⌝ }
+    ensures { λ _. ⌜ now (graph .exit) ≡ crossed nets vertices n (now (graph .entry)) m ⌝ }
 {
     empty_all(graph, 4, vertices, n);
     for e in 0..m {
-        cross_net(graph, nets, vertices, pins, e);
+        cross_net(graph, nets, vertices, e);
     }
 }
 
@@ -88,7 +89,7 @@ fn compact(graph: &mut [u64], nets: usize, m: usize, weights: &[u8], kept: &mut 
 }
 
 // The hypergraph of `n` vertices whose raw nets, `m` of them, stand in the nets' slots: those of two pins or more, with their weights, and
-// the nets of each vertex. Returns how many nets there are. The list is for pins.
+// the nets of each vertex. Returns how many nets there are.
 pub fn mesh(
     graph: &mut [u64],
     nets: usize,
@@ -97,12 +98,11 @@ pub fn mesh(
     n: usize,
     weights: &[u8],
     kept: &mut [u8],
-    pins: &mut [u16],
 ) -> usize
-    requires { ⌜ (vertices < 32768) × (m ≤ 256) × (n ≤ 128) × (m ≤ length (now kept)) × (nets + 256 ≤ vertices * 2) × ((vertices + 128) * 4 ≤ length (now graph)) × (nets < 32768) × (128 ≤ length (now pins)) ⌝ }
-    ensures { λ r. ⌜ Built (now (graph .entry)) nets vertices (now (weights .entry)) m n (now (graph .exit)) (now (kept .exit)) r × (length (now (kept .exit)) ≡ length (now (kept .entry))) × (length (now (pins .exit)) ≡ length (now (pins .entry))) ⌝ }
+    requires { ⌜ (vertices < 32768) × (m ≤ 256) × (n ≤ 128) × (m ≤ length (now kept)) × (nets + 256 ≤ vertices * 2) × ((vertices + 128) * 4 ≤ length (now graph)) × (nets < 32768) ⌝ }
+    ensures { λ r. ⌜ Built (now (graph .entry)) nets vertices (now (weights .entry)) m n (now (graph .exit)) (now (kept .exit)) r × (length (now (kept .exit)) ≡ length (now (kept .entry))) ⌝ }
 {
     let r = compact(graph, nets, m, weights, kept);
-    cross(graph, nets, vertices, r, n, pins);
+    cross(graph, nets, vertices, r, n);
     r
 }

@@ -7,7 +7,7 @@ ghost use Rattle.ratings.specs.Rated.{ratingsIn, ratedPin, share, ratedO
 
 // Pin `u` of a net rated `r`: a vertex whose rating is 0 is listed, so one that is rated 0 is listed again. Returns how many are listed.
 fn rate(rating: &mut [f64], touched: &mut [u16], count: usize, r: f64, u: usize) -> usize
-    requires { do ⌜ (u < 65536) × (count < (← ⟦touched.len()⟧)) ⌝ }
+    requires { ⌜ (u < 65536) × (count < length (now touched)) ⌝ }
     ensures { λ k. ⌜ (ratingsIn (now (rating .exit)) (now (touched .exit)) k ≡ ratedPin r u (ratingsIn (now (rating .entry)) (now (touched .entry)) count)) × (k ≤ count + 1) × (length (now (touched .exit)) ≡ length (now (touched .entry))) × (length (now (rating .exit)) ≡ length (now (rating .entry))) ⌝ }
 {
     let x = cells::getf(rating, u);
@@ -41,7 +41,7 @@ fn rate_open(
     r: f64,
     u: usize,
 ) -> usize
-    requires { do ⌜ (u < 65536) × (count < (← ⟦touched.len()⟧)) ⌝ }
+    requires { ⌜ (u < 65536) × (count < length (now touched)) ⌝ }
     ensures { λ k. ⌜ (ratingsIn (now (rating .exit)) (now (touched .exit)) k ≡ ratedOpen (now (mates .entry)) n v r u (ratingsIn (now (rating .entry)) (now (touched .entry)) count)) × (k ≤ count + 1) × (length (now (touched .exit)) ≡ length (now (touched .entry))) × (length (now (rating .exit)) ≡ length (now (rating .entry))) ⌝ }
 {
     if u == v {
@@ -65,7 +65,7 @@ fn rate_pins(
     pins: &[u16],
     len: usize,
 ) -> usize
-    requires { do ⌜ (len ≤ (← ⟦pins.len()⟧)) × (count + len ≤ (← ⟦touched.len()⟧)) ⌝ }
+    requires { ⌜ (len ≤ length (now pins)) × (count + len ≤ length (now touched)) ⌝ }
     ensures { λ k. ⌜ (ratingsIn (now (rating .exit)) (now (touched .exit)) k ≡ ratedPins (now (mates .entry)) n v r (take len (now (pins .entry))) (ratingsIn (now (rating .entry)) (now (touched .entry)) count)) × (k ≤ count + len) × (length (now (touched .exit)) ≡ length (now (touched .entry))) × (length (now (rating .exit)) ≡ length (now (rating .entry))) ⌝ }
 {
     let mut at = count;
@@ -75,12 +75,11 @@ fn rate_pins(
     at
 }
 
-// Net `e`, whose weight is in `weights`; nets of over 64 pins are passed over. The list is for its pins.
+// Net `e`, whose weight is in `weights`; nets of over 64 pins are passed over.
 fn rate_net(
     words: &[u64],
     nets: usize,
     weights: &[u8],
-    pins: &mut [u16],
     mates: &[u16],
     n: usize,
     v: usize,
@@ -89,13 +88,14 @@ fn rate_net(
     count: usize,
     e: usize,
 ) -> usize
-    requires { do ⌜ (nets < 65536) × (e < 65536) × (128 ≤ (← ⟦pins.len()⟧)) × (count + 64 ≤ (← ⟦touched.len()⟧)) ⌝ }
-    ensures { λ k. ⌜ (ratingsIn (now (rating .exit)) (now (touched .exit)) k ≡ ratedNet (now (mates .entry)) n v (getD (now (weights .entry)) e 0) (risingOf (now (words .entry)) 2 (nets + e)) (ratingsIn (now (rating .entry)) (now (touched .entry)) count)) × (k ≤ count + 64) × (length (now (touched .exit)) ≡ length (now (touched .entry))) × (length (now (pins .exit)) ≡ length (now (pins .entry))) × (length (now (rating .exit)) ≡ length (now (rating .entry))) ⌝ }
+    requires { ⌜ (nets < 65536) × (e < 65536) × (count + 64 ≤ length (now touched)) ⌝ }
+    ensures { λ k. ⌜ (ratingsIn (now (rating .exit)) (now (touched .exit)) k ≡ ratedNet (now (mates .entry)) n v (getD (now (weights .entry)) e 0) (risingOf (now (words .entry)) 2 (nets + e)) (ratingsIn (now (rating .entry)) (now (touched .entry)) count)) × (k ≤ count + 64) × (length (now (touched .exit)) ≡ length (now (touched .entry))) × (length (now (rating .exit)) ≡ length (now (rating .entry))) ⌝ }
 {
-    let len = slots::members(words, 2, nets + e, pins, 0);
+    let mut pins = [0u16; 128];
+    let len = slots::members(words, 2, nets + e, &mut pins, 0);
     if len <= 64 {
         let r = rate_of(cells::get8(weights, e), len);
-        return rate_pins(mates, n, v, rating, touched, count, r, pins, len);
+        return rate_pins(mates, n, v, rating, touched, count, r, &pins, len);
     }
     count
 }
@@ -105,7 +105,6 @@ pub fn rate_nets(
     words: &[u64],
     nets: usize,
     weights: &[u8],
-    pins: &mut [u16],
     mates: &[u16],
     n: usize,
     v: usize,
@@ -114,8 +113,8 @@ pub fn rate_nets(
     list: &[u16],
     len: usize,
 ) -> usize
-    requires { do ⌜ (nets < 65536) × (len ≤ 256) × (len ≤ (← ⟦list.len()⟧)) × (128 ≤ (← ⟦pins.len()⟧)) × (16384 ≤ (← ⟦touched.len()⟧)) ⌝ }
-    ensures { λ k. ⌜ (ratingsIn (now (rating .exit)) (now (touched .exit)) k ≡ ratedNets (now (words .entry)) nets (now (weights .entry)) (now (mates .entry)) n v (take len (now (list .entry))) (ratingsIn (now (rating .entry)) (now (touched .entry)) 0)) × (k ≤ 16384) × (length (now (touched .exit)) ≡ length (now (touched .entry))) × (length (now (pins .exit)) ≡ length (now (pins .entry))) × (length (now (rating .exit)) ≡ length (now (rating .entry))) ⌝ }
+    requires { ⌜ (nets < 65536) × (len ≤ 256) × (len ≤ length (now list)) × (16384 ≤ length (now touched)) ⌝ }
+    ensures { λ k. ⌜ (ratingsIn (now (rating .exit)) (now (touched .exit)) k ≡ ratedNets (now (words .entry)) nets (now (weights .entry)) (now (mates .entry)) n v (take len (now (list .entry))) (ratingsIn (now (rating .entry)) (now (touched .entry)) 0)) × (k ≤ 16384) × (length (now (touched .exit)) ≡ length (now (touched .entry))) × (length (now (rating .exit)) ≡ length (now (rating .entry))) ⌝ }
 {
     let mut at: usize = 0;
     for k in 0..len {
@@ -123,7 +122,6 @@ pub fn rate_nets(
             words,
             nets,
             weights,
-            pins,
             mates,
             n,
             v,

@@ -1,6 +1,5 @@
 -- Assumes nothing.
 use borrow.Author.Needs.{needs}
-use Rattle.bisection.specs.Spare.{Spare}
 use Rattle.bisection.specs.Whole.{whole-fits, whole-light, whole-few, whole-named, whole-answer}
 use lib.Seq.{length-take-le}
 use lib.ListN.{take}
@@ -32,43 +31,26 @@ slice-aggregate-bisect-rec-2 c = let d = c .before .before .before .before .befo
 slice-aggregate-bisect-rec-3 : tie.Need-slice-aggregate-bisect-rec-3
 slice-aggregate-bisect-rec-3 c = let d = c .before .before .before .before .before .before .before .before .before .before .before .before .before .before .before in sym (length-take-le (d .args .o) (d .args .outputs .now) (omega (arith, d .pre .1 .fewOutputs, d .pre .0 .outputPlaces)))
 
-slice-aggregate-bisect-rec-4 : tie.Need-slice-aggregate-bisect-rec-4
-slice-aggregate-bisect-rec-4 c = refl
-
-slice-aggregate-bisect-rec-5 : tie.Need-slice-aggregate-bisect-rec-5
-slice-aggregate-bisect-rec-5 c = refl
-
-slice-aggregate-bisect-rec-6 : tie.Need-slice-aggregate-bisect-rec-6
-slice-aggregate-bisect-rec-6 c = refl
-
-slice-aggregate-bisect-rec-7 : tie.Need-slice-aggregate-bisect-rec-7
-slice-aggregate-bisect-rec-7 c = refl
-
-slice-aggregate-bisect-rec-8 : tie.Need-slice-aggregate-bisect-rec-8
-slice-aggregate-bisect-rec-8 c = refl
-
 bisect-rec-requires : tie.Need-bisect-rec-requires
-bisect-rec-requires c κs = let d = c .before .before .before .before .before .before .before .before .before .before .before .before .before .before .before .before .before .before .before .before .before in
+bisect-rec-requires c κs = let d = c .before .before .before .before .before .before .before .before .before .before .before .before .before .before .before .before in
     let a = d .args in (
-      (
-        whole-fits (a .m) (a .n) (a .o) (a .weights .now) (a .counts .now) (a .legs .now) (a .outputs .now) (d .pre .0) (d .pre .1) _ (omega arith) _ (ap (take (a .n)) (c .before .before .before .before .before .before .before .before .before .before .before .before .count-up .ensures)) (a .ws .now) (d .pre .2),
-        whole-light (a .m) (a .n) (a .o) (a .weights .now) (a .counts .now) (a .legs .now) (a .outputs .now) (d .pre .0) (d .pre .1) _ (omega arith) _ (ap (take (a .n)) (c .before .before .before .before .before .before .before .before .before .before .before .before .count-up .ensures)),
-        whole-few (a .m) (a .n) (a .o) (a .weights .now) (a .counts .now) (a .legs .now) (a .outputs .now) (d .pre .0) (d .pre .1) _ (omega arith) _ (ap (take (a .n)) (c .before .before .before .before .before .before .before .before .before .before .before .before .count-up .ensures)),
-        whole-named (a .m) (a .n) (a .o) (a .weights .now) (a .counts .now) (a .legs .now) (a .outputs .now) (d .pre .0) (d .pre .1) _ (omega arith) _ (ap (take (a .n)) (c .before .before .before .before .before .before .before .before .before .before .before .before .count-up .ensures)) (a .kids .now),
-      ),
-      record { words = d .pre .2; netWeights = omega arith; vertexWeights = omega arith; sides = omega arith; maps = omega arith; rated = omega arith },
+      whole-fits (a .m) (a .n) (a .o) (a .weights .now) (a .counts .now) (a .legs .now) (a .outputs .now) (d .pre .0) (d .pre .1) _ (omega arith) _ (ap (take (a .n)) (c .before .before .before .before .before .before .before .count-up .ensures)) (a .ws .now) (d .pre .2),
+      whole-light (a .m) (a .n) (a .o) (a .weights .now) (a .counts .now) (a .legs .now) (a .outputs .now) (d .pre .0) (d .pre .1) _ (omega arith) _ (ap (take (a .n)) (c .before .before .before .before .before .before .before .count-up .ensures)),
+      whole-few (a .m) (a .n) (a .o) (a .weights .now) (a .counts .now) (a .legs .now) (a .outputs .now) (d .pre .0) (d .pre .1) _ (omega arith) _ (ap (take (a .n)) (c .before .before .before .before .before .before .before .count-up .ensures)),
+      whole-named (a .m) (a .n) (a .o) (a .weights .now) (a .counts .now) (a .legs .now) (a .outputs .now) (d .pre .0) (d .pre .1) _ (omega arith) _ (ap (take (a .n)) (c .before .before .before .before .before .before .before .count-up .ensures)) (a .kids .now),
+      d .pre .2,
     )
 
 same-length : tie.Need-same-length
-same-length c = c .before .before .before .before .before .before .before .before .ws .given
+same-length c = c .before .before .before .ws .given
 
 same-length-2 : tie.Need-same-length-2
-same-length-2 c = c .before .before .before .before .before .before .kids .given
+same-length-2 c = c .before .kids .given
 
 returns : tie.Need-returns
-returns c = let d = c .before .before .before .before .before .before .before .before .before .before .before .before .before .before .before .before .before .before .before .before .before .before .before .before .before .before .before .before .before .before .before .before in
+returns c = let d = c .before .before .before .before .before .before .before .before .before .before .before .before .before .before .before .before .before .before .before .before .before .before in
     let a = d .args in
-    whole-answer (a .m) (a .n) (a .o) (a .weights .now) (a .counts .now) (a .legs .now) (a .outputs .now) (d .pre .0) (d .pre .1) _ (omega arith) _ (ap (take (a .n)) (c .before .before .before .before .before .before .before .before .before .before .before .before .before .before .before .before .before .before .before .before .before .before .before .count-up .ensures)) (a .imbalance) (a .cutoff) (a .draws .now) _ (c .before .before .before .before .before .before .before .before .before .before .before .before .before .before .before .before .before .before .before .before .before .imbalance .ensures) (a .kids .now) _ _ _ (c .before .before .before .before .before .before .before .before .before .before .bisect-rec .ensures)
+    whole-answer (a .m) (a .n) (a .o) (a .weights .now) (a .counts .now) (a .legs .now) (a .outputs .now) (d .pre .0) (d .pre .1) _ (omega arith) _ (ap (take (a .n)) (c .before .before .before .before .before .before .before .before .before .before .before .before .before .count-up .ensures)) (a .imbalance) (a .cutoff) (a .draws .now) _ (c .before .before .before .before .before .before .before .before .before .before .before .imbalance .ensures) (a .kids .now) _ _ _ (c .before .before .before .before .before .bisect-rec .ensures)
 
 pub bisect-all-spec : {M : Type 1} → statement M
 bisect-all-spec =
@@ -81,11 +63,6 @@ bisect-all-spec =
     slice-aggregate-bisect-rec
     slice-aggregate-bisect-rec-2
     slice-aggregate-bisect-rec-3
-    slice-aggregate-bisect-rec-4
-    slice-aggregate-bisect-rec-5
-    slice-aggregate-bisect-rec-6
-    slice-aggregate-bisect-rec-7
-    slice-aggregate-bisect-rec-8
     bisect-rec-requires
     same-length
     same-length-2

@@ -7,13 +7,13 @@ use Rattle.coarsen.proofs.coarsen.Statement.{statement}
 use Rattle.coarsen.proofs.coarsen.Tie as tie
 
 match-all-requires : tie.Need-match-all-requires
-match-all-requires c κs = let p = c .before .before .before .before .before .before .before .before .before .before .before .before .before .before .before .before .before .before .before .before .pre in (p .0, p .1, p .2, p .3, p .4, p .5, p .6, p .7, p .8, p .9)
+match-all-requires c κs = let p = c .before .before .before .before .before .before .before .before .before .before .pre in (p .0, p .1, p .2, p .3, p .4)
 
 level-requires : tie.Need-level-requires
-level-requires c κs = let d = c .before .before .before .before .before .before .before .before .before .before .before .before .before .before .before .before .before .before .before .before .before .before .before .before .before .before .before .before .before .before .before .before .before .before .before .before .before .before .before in let p = d .pre in let a = d .args in let o = c .before .before .before .before .before .before .before .before .before .before .before .before .before .before .before .before .before .before .match-all in (p .7 .few .0, p .7 .few .1, p .10, drawn-paired (a .graph .now) (a .nets) (a .weights .now) (a .m) (a .vw .now) (a .limit) (a .words .now) _ (a .at) (o .result) (o .ensures) (p .2), p .11, p .12, p .13, p .14, p .15, p .16, p .17, p .18, omega (arith, p .5, c .before .before .before .before .before .before .before .before .before .pins .given))
+level-requires c κs = let d = c .before .before .before .before .before .before .before .before .before .before .before .before .before .before .before .before .before .before in let p = d .pre in let a = d .args in let o = c .before .before .before .before .before .before .before .match-all in (p .3 .few .0, p .3 .few .1, p .5, drawn-paired (a .graph .now) (a .nets) (a .weights .now) (a .m) (a .vw .now) (a .limit) (a .words .now) _ (a .at) (o .result) (o .ensures) (p .2), p .6, p .7, p .8, p .9, p .10, p .11, p .12, p .13)
 
 is-worthwhile-requires : tie.Need-is-worthwhile-requires
-is-worthwhile-requires c κs = let p = c .before .before .before .before .before .before .before .before .before .before .before .before .before .before .before .before .before .before .before .before .before .before .before .before .before .before .before .before .before .before .before .before .before .before .before .before .before .before .before .before .before .before .before .before .before .before .before .before .before .before .pre in (p .7 .few .1, omega (arith, c .before .before .before .before .before .before .before .before .before .before .level .ensures .0 .few .1, p .7 .few .1))
+is-worthwhile-requires c κs = let p = c .before .before .before .before .before .before .before .before .before .before .before .before .before .before .before .before .before .before .before .before .before .before .before .before .before .before .before .pre in (p .3 .few .1, omega (arith, c .before .before .before .before .before .before .before .before .level .ensures .0 .few .1, p .3 .few .1))
 
 same-length : tie.Need-same-length
 same-length c = search needs
@@ -30,23 +30,8 @@ same-length-4 c = search needs
 same-length-5 : tie.Need-same-length-5
 same-length-5 c = search needs
 
-same-length-6 : tie.Need-same-length-6
-same-length-6 c = search needs
-
-same-length-7 : tie.Need-same-length-7
-same-length-7 c = search needs
-
-same-length-8 : tie.Need-same-length-8
-same-length-8 c = search needs
-
-same-length-9 : tie.Need-same-length-9
-same-length-9 c = search needs
-
-same-length-10 : tie.Need-same-length-10
-same-length-10 c = search needs
-
 returns : tie.Need-returns
-returns c = let d = c .before .before .before .before .before .before .before .before .before .before .before .before .before .before .before .before .before .before .before .before .before .before .before .before .before .before .before .before .before .before .before .before .before .before .before .before .before .before .before .before .before .before .before .before .before .before .before .before .before .before .before in let a = d .args in let o = c .before .before .before .before .before .before .before .before .before .before .before .before .before .before .before .before .before .before .before .before .before .before .before .before .before .before .before .before .before .before .match-all in let l = c .before .before .before .before .before .before .before .before .before .before .before .level in (coarsened (a .graph .now) (a .nets) (a .weights .now) (a .m) (a .vw .now) (a .limit) (a .words .now) _ (a .at) (o .result) (o .ensures) _ (a .nets2) _ (l .result .nets) _ (l .result .vertices) _ (c .is-worthwhile .result) (l .ensures .0 .level-is (a .limit)) (l .ensures .1) (c .is-worthwhile .ensures), l .ensures .0)
+returns c = let d = c .before .before .before .before .before .before .before .before .before .before .before .before .before .before .before .before .before .before .before .before .before .before .before .before .before .before .before .before in let a = d .args in let o = c .before .before .before .before .before .before .before .before .before .before .before .before .before .before .before .before .before .match-all in let l = c .before .before .before .before .before .before .before .before .before .level in (coarsened (a .graph .now) (a .nets) (a .weights .now) (a .m) (a .vw .now) (a .limit) (a .words .now) _ (a .at) (o .result) (o .ensures) _ (a .nets2) _ (l .result .nets) _ (l .result .vertices) _ (c .is-worthwhile .result) (l .ensures .0 .level-is (a .limit)) (l .ensures .1) (c .is-worthwhile .ensures), l .ensures .0)
 
 pub coarsen-spec : {M : Type 1} → statement M
 coarsen-spec =
@@ -60,9 +45,4 @@ coarsen-spec =
     same-length-3
     same-length-4
     same-length-5
-    same-length-6
-    same-length-7
-    same-length-8
-    same-length-9
-    same-length-10
     returns)

@@ -4,6 +4,7 @@ use Rattle.coarsen.specs.Mapped.{images-put}
 use Rattle.ratings.specs.Rated.{listed-pins, listed-room}
 use native.Mathlib.Omega.{arith}
 use Prim.Native.Nat.{_+_, _-_}
+use mathlib.Core.Path.{refl}
 use Rattle.coarsen.proofs.map_net.Statement.{statement}
 use Rattle.coarsen.proofs.map_net.Tie as tie
 
@@ -23,27 +24,31 @@ add-put-coarse : tie.Need-add-put-coarse
 add-put-coarse c = search needs
 
 put-coarse-requires : tie.Need-put-coarse-requires
-put-coarse-requires c κs = let d = c .before .before .before .before .before .before .before .before .before .before .before .before .before .before in let a = d .args in let o = c .before .before .before .before .before .before .before .before .members in (omega (arith, d .pre .1, d .pre .2), listed-room (a .graph .now) (a .pins .now) _ (a .nets + a .e) (o .result) (o .ensures .0) (o .ensures .1) (d .pre .3))
+put-coarse-requires c κs = let d = c .before .before .before .before .before .before .before .before .before .before .before .before in let a = d .args in let o = c .before .before .before .before .before .before .before .members in (omega (arith, d .pre .1, d .pre .2), listed-room (a .graph .now) _ _ (a .nets + a .e) (o .result) (o .ensures .0) (o .ensures .1) (omega arith))
 
 same-length : tie.Need-same-length
 same-length c = search needs
 
-same-length-2 : tie.Need-same-length-2
-same-length-2 c = search needs
-
 returns : tie.Need-returns
-returns c = let d = c .before .before .before .before .before .before .before .before .before .before .before .before .before .before .before .before .before in let a = d .args in let o = c .before .before .before .before .before .before .before .before .before .before .before .members in (images-put (a .graph .now) _ _ (a .places .now) _ _ (a .coarse + a .e) (o .result) (o .ensures .0) (listed-pins (a .graph .now) (a .pins .now) _ (a .nets + a .e) (o .result) (o .ensures .0) (o .ensures .1) (d .pre .3)) (c .before .before .before .before .before .before .before .empty .ensures) (c .before .before .put-coarse .ensures), search needs)
+returns c = let d = c .before .before .before .before .before .before .before .before .before .before .before .before .before .before .before in let a = d .args in let o = c .before .before .before .before .before .before .before .before .before .before .members in images-put (a .graph .now) _ _ (a .places .now) _ _ (a .coarse + a .e) (o .result) (o .ensures .0) (listed-pins (a .graph .now) _ _ (a .nets + a .e) (o .result) (o .ensures .0) (o .ensures .1) (omega arith)) (c .before .before .before .before .before .before .before .empty .ensures) (c .before .before .put-coarse .ensures)
+
+slice-aggregate-put-coarse : tie.Need-slice-aggregate-put-coarse
+slice-aggregate-put-coarse c = omega (arith, c .before .before .before .before .before .before .pins2 .given)
+
+slice-aggregate-members : tie.Need-slice-aggregate-members
+slice-aggregate-members c = refl
 
 pub map-net-spec : {M : Type 1} → statement M
 map-net-spec =
     tie.close
     (tie.spec
     add-members
+    slice-aggregate-members
     members-requires
     add-empty
     empty-requires
     add-put-coarse
+    slice-aggregate-put-coarse
     put-coarse-requires
     same-length
-    same-length-2
     returns)

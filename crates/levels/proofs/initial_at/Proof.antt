@@ -85,66 +85,14 @@ slice-aggregate-initial-2 c =
     let d = c .before .before .before .before .before .before .before .before .before .before .before .before in
     sym (length-take-le (d .args .n) _ (omega (arith, d .pre .0 .room)))
 
-array-borrow-prefix-links : tie.Need-array-borrow-prefix-links
-array-borrow-prefix-links c = omega (arith, c .before .before .before .before .before .before .before .before .before .before .before .before .pre .0 .room)
-
-slice-aggregate-initial-3 : tie.Need-slice-aggregate-initial-3
-slice-aggregate-initial-3 c =
-    let d = c .before .before .before .before .before .before .before .before .before .before .before .before .before in
-    sym (length-take-le (d .args .n) _ (omega (arith, d .pre .0 .room)))
-
-array-borrow-prefix-keys : tie.Need-array-borrow-prefix-keys
-array-borrow-prefix-keys c = omega (arith, c .before .before .before .before .before .before .before .before .before .before .before .before .before .pre .0 .room)
-
-slice-aggregate-initial-4 : tie.Need-slice-aggregate-initial-4
-slice-aggregate-initial-4 c =
-    let d = c .before .before .before .before .before .before .before .before .before .before .before .before .before .before in
-    sym (length-take-le (d .args .n) _ (omega (arith, d .pre .0 .room)))
-
-array-borrow-prefix-stamps : tie.Need-array-borrow-prefix-stamps
-array-borrow-prefix-stamps c = omega (arith, c .before .before .before .before .before .before .before .before .before .before .before .before .before .before .pre .0 .room)
-
-slice-aggregate-initial-5 : tie.Need-slice-aggregate-initial-5
-slice-aggregate-initial-5 c =
-    let d = c .before .before .before .before .before .before .before .before .before .before .before .before .before .before .before in
-    sym (length-take-le (d .args .n) _ (omega (arith, d .pre .0 .room)))
-
-array-borrow-prefix-waiting : tie.Need-array-borrow-prefix-waiting
-array-borrow-prefix-waiting c = omega (arith, c .before .before .before .before .before .before .before .before .before .before .before .before .before .before .before .pre .0 .room)
-
-slice-aggregate-initial-6 : tie.Need-slice-aggregate-initial-6
-slice-aggregate-initial-6 c =
-    let d = c .before .before .before .before .before .before .before .before .before .before .before .before .before .before .before .before in
-    sym (length-take-le (d .args .n) _ (omega (arith, d .pre .0 .room)))
-
-slice-aggregate-initial-7 : tie.Need-slice-aggregate-initial-7
-slice-aggregate-initial-7 c = refl
-
-slice-aggregate-initial-8 : tie.Need-slice-aggregate-initial-8
-slice-aggregate-initial-8 c = refl
-
-slice-aggregate-initial-9 : tie.Need-slice-aggregate-initial-9
-slice-aggregate-initial-9 c = refl
-
-slice-aggregate-initial-10 : tie.Need-slice-aggregate-initial-10
-slice-aggregate-initial-10 c = refl
-
 initial-requires : tie.Need-initial-requires
 unfolding graphIn ofBits ofInt round
 initial-requires c κs =
-    let c-total-weight = c .before .before .before .before .before .before .before .before .before .before .before .before .before in
+    let c-total-weight = c .before .before .before .before .before in
     let d = c-total-weight .before .before .before .before .before .before .before in
     let a = d .args in
     let s = d .pre .0 in
     let e = span-length (a .level * 128) (a .n) (a .vw .now) (omega (arith, s .low, s .room, s .vertices-fit)) in (
-      omega arith,
-      omega arith,
-      omega arith,
-      front-as (a .n) _ (omega (arith, s .room)) e,
-      front-as (a .n) _ (omega (arith, s .room)) e,
-      front-as (a .n) _ (omega (arith, s .room)) e,
-      omega (arith, e, s .room),
-      front-as (a .n) _ (omega (arith, s .room)) e,
       front-as (a .n) _ (omega (arith, s .room)) e,
       omega (arith, e, s .some-left),
       stage-site (a .graph .now) (length (a .weights .now)) (length (a .vw .now)) (a .places) (a .level) (a .m) (a .n) _ s e,
@@ -153,16 +101,16 @@ initial-requires c κs =
     )
 
 same-length : tie.Need-same-length
-same-length c = c .before .before .before .before .before .before .before .before .before .before .before .before .graph .given
+same-length c = c .before .before .before .before .graph .given
 
 same-length-2 : tie.Need-same-length-2
-same-length-2 c = c .before .before .before .before .before .before .before .before .before .before .part .given .1
+same-length-2 c = c .before .before .part .given .1
 
 returns : tie.Need-returns
 returns c =
-    let c-part = c .before .before .before .before .before .before .before .before .before .before in
+    let c-part = c .before .before in
     let c-initial = c-part .before .before .before in
-    let d = c-initial .before .before .before .before .before .before .before .before .before .before .before .before .before .before .before .before .before .before .before .before .before in
+    let d = c-initial .before .before .before .before .before .before .before .before .before .before .before .before .before in
     let a = d .args in
     let f = c-initial .initial .ensures in
     gives (a .n) (a .draws .now) _ (a .graph .now) _ _ _ _
@@ -195,18 +143,6 @@ initial-at-spec =
     slice-aggregate-initial
     array-borrow-prefix-trial
     slice-aggregate-initial-2
-    array-borrow-prefix-links
-    slice-aggregate-initial-3
-    array-borrow-prefix-keys
-    slice-aggregate-initial-4
-    array-borrow-prefix-stamps
-    slice-aggregate-initial-5
-    array-borrow-prefix-waiting
-    slice-aggregate-initial-6
-    slice-aggregate-initial-7
-    slice-aggregate-initial-8
-    slice-aggregate-initial-9
-    slice-aggregate-initial-10
     initial-requires
     same-length
     same-length-2

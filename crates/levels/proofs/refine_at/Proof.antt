@@ -59,71 +59,28 @@ slice-aggregate-fm c =
     let d = c .before .before .before .before .before .before .before .before .before in
     sym (length-take-le (d .args .n) (d .args .part .now) (d .pre .1))
 
-array-borrow-prefix-keys : tie.Need-array-borrow-prefix-keys
-array-borrow-prefix-keys c = omega (arith, c .before .before .before .before .before .before .before .before .before .pre .0 .room)
-
-slice-aggregate-fm-2 : tie.Need-slice-aggregate-fm-2
-slice-aggregate-fm-2 c =
-    let d = c .before .before .before .before .before .before .before .before .before .before in
-    sym (length-take-le (d .args .n) _ (omega (arith, d .pre .0 .room)))
-
-array-borrow-prefix-stamps : tie.Need-array-borrow-prefix-stamps
-array-borrow-prefix-stamps c = omega (arith, c .before .before .before .before .before .before .before .before .before .before .pre .0 .room)
-
-slice-aggregate-fm-3 : tie.Need-slice-aggregate-fm-3
-slice-aggregate-fm-3 c =
-    let d = c .before .before .before .before .before .before .before .before .before .before .before in
-    sym (length-take-le (d .args .n) _ (omega (arith, d .pre .0 .room)))
-
-array-borrow-prefix-waiting : tie.Need-array-borrow-prefix-waiting
-array-borrow-prefix-waiting c = omega (arith, c .before .before .before .before .before .before .before .before .before .before .before .pre .0 .room)
-
-slice-aggregate-fm-4 : tie.Need-slice-aggregate-fm-4
-slice-aggregate-fm-4 c =
-    let d = c .before .before .before .before .before .before .before .before .before .before .before .before in
-    sym (length-take-le (d .args .n) _ (omega (arith, d .pre .0 .room)))
-
-slice-aggregate-fm-5 : tie.Need-slice-aggregate-fm-5
-slice-aggregate-fm-5 c = refl
-
-slice-aggregate-fm-6 : tie.Need-slice-aggregate-fm-6
-slice-aggregate-fm-6 c = refl
-
-slice-aggregate-fm-7 : tie.Need-slice-aggregate-fm-7
-slice-aggregate-fm-7 c = refl
-
-slice-aggregate-fm-8 : tie.Need-slice-aggregate-fm-8
-slice-aggregate-fm-8 c = refl
-
 fm-requires : tie.Need-fm-requires
 fm-requires c κs =
-    let d = c .before .before .before .before .before .before .before .before .before .before .before .before .before .before .before .before in
+    let d = c .before .before .before .before .before .before .before .before .before in
     let a = d .args in
     let s = d .pre .0 in
     let e = span-length (a .level * 128) (a .n) (a .vw .now) (omega (arith, s .low, s .room, s .vertices-fit)) in (
-      omega arith,
-      omega arith,
-      omega arith,
-      front-as (a .n) _ (omega (arith, s .room)) e,
-      front-as (a .n) _ (omega (arith, s .room)) e,
-      front-as (a .n) _ (omega (arith, s .room)) e,
-      omega (arith, e, s .room),
       stage-site (a .graph .now) (length (a .weights .now)) (length (a .vw .now)) (a .places) (a .level) (a .m) (a .n) _ s e,
       front-as (a .n) _ (d .pre .1) e,
       d .pre .2,
     )
 
 same-length : tie.Need-same-length
-same-length c = c .before .before .before .before .before .before .before .before .before .before .graph .given
+same-length c = c .before .before .before .graph .given
 
 same-length-2 : tie.Need-same-length-2
-same-length-2 c = c .before .before .before .before .before .before .before .before .part .given .1
+same-length-2 c = c .before .part .given .1
 
 returns : tie.Need-returns
 returns c =
-    let c-part = c .before .before .before .before .before .before .before .before in
+    let c-part = c .before in
     let c-fm = c-part .before .before .before in
-    let d = c-fm .before .before .before .before .before .before .before .before .before .before .before .before .before .before .before .before .before in
+    let d = c-fm .before .before .before .before .before .before .before .before .before .before in
     let a = d .args in
     let f = c-fm .fm .ensures in
     gives (a .n) (a .draws .now) _ (a .graph .now) _ _ _ _
@@ -149,16 +106,6 @@ refine-at-spec =
     part-fm-end-2
     slice-relend-prefix-fm
     slice-aggregate-fm
-    array-borrow-prefix-keys
-    slice-aggregate-fm-2
-    array-borrow-prefix-stamps
-    slice-aggregate-fm-3
-    array-borrow-prefix-waiting
-    slice-aggregate-fm-4
-    slice-aggregate-fm-5
-    slice-aggregate-fm-6
-    slice-aggregate-fm-7
-    slice-aggregate-fm-8
     fm-requires
     same-length
     same-length-2

@@ -16,38 +16,35 @@ use Rattle.matching.proofs.match_in_order.Statement.{statement}
 use Rattle.matching.proofs.match_in_order.Tie as tie
 
 abbrev Inv-loop : tie.InvT-loop
-Inv-loop graph nets vertices m weights vw limit words at order mates₀ rating₀ touched₀ pins₀ list₀ cursor₀ k₀ k-end mates rating touched pins list cursor k =
-    (k ≤ k-end) × (k-end ≡ length vw) × (drawn mates (wordsAt words cursor) ≡ foldOver (matched (graphIn graph nets weights m vw) limit) (take k order) (drawn mates₀ (wordsAt words at))) × (length mates ≡ length mates₀) × (length rating ≡ length rating₀) × (length touched ≡ length touched₀) × (length pins ≡ length pins₀) × (length list ≡ length list₀)
+Inv-loop graph nets vertices m weights vw limit words at order mates₀ touched₀ cursor₀ k₀ k-end mates touched cursor k =
+    (k ≤ k-end) × (k-end ≡ length vw) × (drawn mates (wordsAt words cursor) ≡ foldOver (matched (graphIn graph nets weights m vw) limit) (take k order) (drawn mates₀ (wordsAt words at))) × (length mates ≡ length mates₀) × (length touched ≡ length touched₀)
 
 abbrev μ-loop : tie.MeasureT-loop
-μ-loop graph nets vertices m weights vw limit words at order mates₀ rating₀ touched₀ pins₀ list₀ cursor₀ k₀ k-end mates rating touched pins list cursor k =
+μ-loop graph nets vertices m weights vw limit words at order mates₀ touched₀ cursor₀ k₀ k-end mates touched cursor k =
     k-end - k
 
 loop-holds : tie.Need-loop-holds Inv-loop μ-loop
-loop-holds c = (omega arith, refl, refl, refl, refl, refl, refl, refl)
+loop-holds c = (omega arith, refl, refl, refl, refl)
 
 at16-requires : tie.Need-at16-requires Inv-loop μ-loop
 at16-requires c κs = search needs
 
 match-vertex-requires : tie.Need-match-vertex-requires Inv-loop μ-loop
-match-vertex-requires c κs = let d = c .before .before .before .before .before .before .before .before .before .before .before .before .before .before .before .before .before .before in let p = d .pre in let l = c .before .before .before .before .before .before .before .loop in let g : c .before .before .before .before .before .at16 .result < length (d .args .vw .now) = subst (λ (x : ℕ). x < length (d .args .vw .now)) (sym (c .before .before .before .before .before .at16 .ensures .0)) (p .9 (l .k)) in (p .0, p .1, g, l .inv .4 ∙ p .3, omega (arith, l .inv .5, p .4), omega (arith, l .inv .6, p .5), omega (arith, l .inv .7, p .6), p .7)
+match-vertex-requires c κs = let d = c .before .before .before .before .before .before .before .before .before .before .before .before in let p = d .pre in let l = c .before .before .before .before .loop in let g : c .before .before .at16 .result < length (d .args .vw .now) = subst (λ (x : ℕ). x < length (d .args .vw .now)) (sym (c .before .before .at16 .ensures .0)) (p .6 (l .k)) in (p .0, p .1, g, omega (arith, l .inv .4, p .3), p .4)
 
 add-k : tie.Need-add-k Inv-loop μ-loop
-add-k c = omega (arith, c .before .before .before .before .before .before .before .before .before .before .before .before .before .before .before .before .before .loop-test .taken, c .before .before .before .before .before .before .before .before .before .before .before .before .before .before .before .before .before .before .loop .inv .1, c .before .before .before .before .before .before .before .before .before .before .before .before .before .before .before .before .before .before .before .before .before .before .before .before .before .before .before .before .before .pre .7 .few .1)
+add-k c = omega (arith, c .before .before .before .before .before .before .before .before .loop-test .taken, c .before .before .before .before .before .before .before .before .before .loop .inv .1, c .before .before .before .before .before .before .before .before .before .before .before .before .before .before .before .before .before .pre .4 .few .1)
 
 loop-less : tie.Need-loop-less Inv-loop μ-loop
-loop-less c = omega (arith, c .before .before .before .before .before .before .before .before .before .before .before .before .before .before .before .before .before .loop-test .taken)
+loop-less c = omega (arith, c .before .before .before .before .before .before .before .before .loop-test .taken)
 
 loop-again : tie.Need-loop-again Inv-loop μ-loop
-loop-again c = let d = c .before .before .before .before .before .before .before .before .before .before .before .before .before .before .before .before .before .before .before .before .before .before .before .before .before .before .before .before .before in let a = d .args in let l = c .before .before .before .before .before .before .before .before .before .before .before .before .before .before .before .before .before .before .loop in let o = c .before .before .before .before .before .before .before .before .before .before .match-vertex in let G = graphIn (a .graph .now) (a .nets) (a .weights .now) (a .m) (a .vw .now) in (
-  omega (arith, c .before .before .before .before .before .before .before .before .before .before .before .before .before .before .before .before .before .loop-test .taken),
+loop-again c = let d = c .before .before .before .before .before .before .before .before .before .before .before .before .before .before .before .before .before in let a = d .args in let l = c .before .before .before .before .before .before .before .before .before .loop in let o = c .before .before .before .before .match-vertex in let G = graphIn (a .graph .now) (a .nets) (a .weights .now) (a .m) (a .vw .now) in (
+  omega (arith, c .before .before .before .before .before .before .before .before .loop-test .taken),
   l .inv .1,
-  fold-next (matched G (a .limit)) (a .order .now) (drawn (a .mates .now) (wordsAt (a .words .now) (a .at))) (drawn (l .mates) (wordsAt (a .words .now) (l .cursor))) _ (l .k) (omega (arith, c .before .before .before .before .before .before .before .before .before .before .before .before .before .before .before .before .before .loop-test .taken, l .inv .1, d .pre .8)) (l .inv .2) (o .ensures .0 ∙ ap (λ (v : ℕ). matched G (a .limit) v (drawn (l .mates) (wordsAt (a .words .now) (l .cursor)))) (c .before .before .before .before .before .before .before .before .before .before .before .before .before .before .before .before .at16 .ensures .0)),
+  fold-next (matched G (a .limit)) (a .order .now) (drawn (a .mates .now) (wordsAt (a .words .now) (a .at))) (drawn (l .mates) (wordsAt (a .words .now) (l .cursor))) _ (l .k) (omega (arith, c .before .before .before .before .before .before .before .before .loop-test .taken, l .inv .1, d .pre .5)) (l .inv .2) (o .ensures .0 ∙ ap (λ (v : ℕ). matched G (a .limit) v (drawn (l .mates) (wordsAt (a .words .now) (l .cursor)))) (c .before .before .before .before .before .before .before .at16 .ensures .0)),
   o .ensures .1 ∙ l .inv .3,
   o .ensures .2 ∙ l .inv .4,
-  o .ensures .3 ∙ l .inv .5,
-  o .ensures .4 ∙ l .inv .6,
-  o .ensures .5 ∙ l .inv .7,
 )
 
 same-length : tie.Need-same-length Inv-loop μ-loop
@@ -56,17 +53,8 @@ same-length c = c .before .loop .inv .3
 same-length-2 : tie.Need-same-length-2 Inv-loop μ-loop
 same-length-2 c = c .before .loop .inv .4
 
-same-length-3 : tie.Need-same-length-3 Inv-loop μ-loop
-same-length-3 c = c .before .loop .inv .5
-
-same-length-4 : tie.Need-same-length-4 Inv-loop μ-loop
-same-length-4 c = c .before .loop .inv .6
-
-same-length-5 : tie.Need-same-length-5 Inv-loop μ-loop
-same-length-5 c = c .before .loop .inv .7
-
 returns : tie.Need-returns Inv-loop μ-loop
-returns c = let d = c .before .before .before .before .before .before .before .before .before .before .before .before in let a = d .args in let l = c .before .loop in let G = graphIn (a .graph .now) (a .nets) (a .weights .now) (a .m) (a .vw .now) in (l .inv .2 ∙ ap (λ x. foldOver (matched G (a .limit)) x (drawn (a .mates .now) (wordsAt (a .words .now) (a .at)))) (take-all (l .k) (a .order .now) (omega (arith, d .pre .8, l .inv .1, l .inv .0))), l .inv .3)
+returns c = let d = c .before .before .before .before .before .before .before .before .before in let a = d .args in let l = c .before .loop in let G = graphIn (a .graph .now) (a .nets) (a .weights .now) (a .m) (a .vw .now) in (l .inv .2 ∙ ap (λ x. foldOver (matched G (a .limit)) x (drawn (a .mates .now) (wordsAt (a .words .now) (a .at)))) (take-all (l .k) (a .order .now) (omega (arith, d .pre .5, l .inv .1, l .inv .0))), l .inv .3)
 
 pub match-in-order-spec : {M : Type 1} → statement M
 match-in-order-spec =
@@ -82,7 +70,4 @@ match-in-order-spec =
     loop-again
     same-length
     same-length-2
-    same-length-3
-    same-length-4
-    same-length-5
     returns)
