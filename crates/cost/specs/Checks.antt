@@ -40,17 +40,6 @@ pub record LongEnough (n words sets sizes works steps : ℕ) : Type 0 where
   pub for-works : n + (n - 1) ≤ works
   pub for-steps : (n - 1) * 5 ≤ steps
 
-pub same-words : {n words words′ sets sizes works steps : ℕ} → words′ ≡ words → LongEnough n words sets sizes works steps
-    → LongEnough n words′ sets sizes works steps
-same-words e l =
-    record {
-      for-words = omega (arith, e, l .for-words);
-      for-sets = l .for-sets;
-      for-sizes = l .for-sizes;
-      for-works = l .for-works;
-      for-steps = l .for-steps;
-    }
-
 -- ---- 7 and 9 ----
 
 module _ (n words sets sizes works steps : ℕ) where

@@ -1,16 +1,13 @@
 // Pricing of a network's tree, as an entry that asks nothing of its caller.
 ghost use mathlib.Core.Path.{_≡_};
-ghost use mathlib.Core.Bool.{false};
 ghost use Prim.Native.Nat.{_≤_};
 ghost use lib.ListN.{length};
 ghost use Rattle.spec.specs.Layout.{networkOf};
-ghost use Rattle.spec.specs.Tree.{pairsOf};
-ghost use Rattle.spec.specs.Calls.{plainWords, wrongTree, flagAt};
+ghost use Rattle.spec.specs.Calls.{plainWords};
 ghost use Rattle.network.specs.Record.{netOf};
 ghost use Rattle.network.specs.Checks.{Lent};
 ghost use Rattle.network.specs.Codes.{Facts};
 ghost use Rattle.cost.specs.Answers.{tooFew, wrongFlags, restCall, Answered, TreeCost};
-ghost use Rattle.pricing.specs.Promise.{Pricing};
 ghost use Rattle.cost.specs.Checks.{LongEnough};
 use network::Network;
 use network::checks;
@@ -62,48 +59,6 @@ pub fn wrong_flags(m: usize, flags: &[u8]) -> bool
     network::scan::above(flags, 1)
 }
 
-// Prices a valid tree of an accepted network, in lists that are long enough.
-fn price_valid<'a>(
-    ws: &mut [u64],
-    sets: &mut [u64],
-    sizes: &mut [u16],
-    works: &mut [u16],
-    steps: &mut [u16],
-    m: usize,
-    n: usize,
-    o: usize,
-    weights: &'a [u8],
-    counts: &'a [u8],
-    legs: &'a [u16],
-    outputs: &'a [u16],
-    flags: &[u8],
-    tree: &[u16],
-) -> Prices
-    requires { ⌜ Lent (now weights) (now counts) (now legs) (now outputs) × Facts m n o (now weights) (now counts) (now legs) (now outputs) × LongEnough n (length (now ws)) (length (now sets)) (length (now sizes)) (length (now works)) (length (now steps)) × (wrongTree n (now tree) ≡ false) ⌝ }
-    ensures { λ r. ⌜ Pricing 4 (networkOf m n o (now (weights .entry)) (now (counts .entry)) (now (legs .entry)) (now (outputs .entry))) (flagAt (now (flags .entry))) (pairsOf (now (tree .entry))) (now (sets .entry)) (now (sizes .entry)) (now (works .entry)) (now (steps .entry)) (now (sets .exit)) (now (sizes .exit)) (now (works .exit)) (now (steps .exit)) r ⌝ }
-{
-    let mut order = [0u16; 128];
-    let c = walk::post_order(tree, n, ws, &mut order);
-    pricing::price(
-        ws,
-        sets,
-        sizes,
-        works,
-        steps,
-        4,
-        m,
-        n,
-        o,
-        weights,
-        counts,
-        legs,
-        outputs,
-        flags,
-        tree,
-        &order[..c],
-    )
-}
-
 // The answer where the network is accepted and the lists are long enough. On a refusal only `ws` is written.
 fn priced_in<'a>(
     ws: &mut [u64],
@@ -130,12 +85,15 @@ fn priced_in<'a>(
     if wrong_flags(m, flags) {
         return Priced::Refused(refusal::INVALID_FLAGS);
     }
-    Priced::Done(price_valid(
+    let mut order = [0u16; 128];
+    let c = walk::post_order(tree, n, ws, &mut order);
+    Priced::Done(pricing::price(
         ws,
         sets,
         sizes,
         works,
         steps,
+        4,
         m,
         n,
         o,
@@ -145,6 +103,7 @@ fn priced_in<'a>(
         outputs,
         flags,
         tree,
+        &order[..c],
     ))
 }
 

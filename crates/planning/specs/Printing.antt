@@ -66,15 +66,14 @@ pub record FullLists (sets sizes works steps : List ℕ) : Type 0 where
   pub workPlaces : length works ≡ 255
   pub stepNumbers : length steps ≡ 635
 
--- what printing asks: an accepted network, a valid tree, a flag of 0 or 1 for each index, enough words
-pub record Printable (N : Network) (kids flags : List ℕ) (words : ℕ) : Type 0 where
+-- what printing asks: an accepted network, a valid tree, a flag of 0 or 1 for each index
+pub record Printable (N : Network) (kids flags : List ℕ) : Type 0 where
   pub ok : accepted N ≡ true
   pub lawful : LawfulTree N (some kids)
   pub low : (j : ℕ) → j < indexCount N → getD flags j 0 ≤ 1
   pub room : length flags ≡ indexCount N
-  pub enough : plainWords ≤ words
 
-module _ {N : Network} {kids flags : List ℕ} {words : ℕ} (x : Printable N kids flags words) where
+module _ {N : Network} {kids flags : List ℕ} {words : ℕ} (x : Printable N kids flags) (enough : plainWords ≤ words) where
   flags-lawful : LawfulAsk N (flagged flags)
   flags-lawful = (omega (arith, x .room), all-low flags (λ k h. x .low k (omega (arith, x .room))))
 
@@ -92,7 +91,7 @@ module _ {N : Network} {kids flags : List ℕ} {words : ℕ} (x : Printable N ki
       (lent words plainWords ∷ lent 1020 (nodePlaces N * setWords) ∷ lent 255 (nodePlaces N) ∷ lent 255 (nodePlaces N) ∷ lent 635 (stepPlaces N * stepNumbers) ∷ [])
       .holds ≡ false =
       rw (
-        le-ltb words plainWords (x .enough),
+        le-ltb words plainWords enough,
         le-ltb 1020 (nodePlaces N * setWords) (omega (arith, few-leaves)),
         le-ltb 255 (nodePlaces N) (omega (arith, few-leaves)),
         le-ltb 635 (stepPlaces N * stepNumbers) (omega (arith, few-leaves)),
@@ -156,7 +155,7 @@ module _ (R : Record) where
   few-counts ok =
       (omega (arith, leaf-count, accepted-means (netOf R) .0 ok .fewLeaves), omega (arith, index-count, accepted-means (netOf R) .0 ok .fewIndices))
 
-  module _ {kids flags : List ℕ} {words : ℕ} (x : Printable (netOf R) kids flags words) {sets₀ sizes₀ works₀ steps₀ sets sizes works steps : List ℕ} {r : Priced}
+  module _ {kids flags : List ℕ} {words : ℕ} (x : Printable (netOf R) kids flags) (enough : plainWords ≤ words) {sets₀ sizes₀ works₀ steps₀ sets sizes works steps : List ℕ} {r : Priced}
       (full : FullLists sets₀ sizes₀ works₀ steps₀)
       (a : Answered (netOf R) flags kids (priceCall (netOf R) words (room (length sets₀) (length sizes₀) (length works₀) (length steps₀)) flags kids)
       sets₀ sizes₀ works₀ steps₀ sets sizes works steps r) where
@@ -165,12 +164,12 @@ module _ (R : Record) where
         λ i. priceCall (netOf R) words (room (full .setPlaces i) (full .sizePlaces i) (full .workPlaces i) (full .stepNumbers i)) flags kids
 
     pub priced-not-refused : {k : ℕ} → r ≡ Refused k → ⊥
-    priced-not-refused = not-refused x same-call a
+    priced-not-refused = not-refused x enough same-call a
 
     pub text-put : {h : HandedPrices} {out after : List ℕ} {n improved splits : ℕ} → r ≡ Done h
         → Put out after 0 n (planText (printedFrom (R .«leaf_count») (R .«index_count») 4 h steps sets flags improved splits))
         → (p : Plan) → PlanHeld (netOf R) p kids flags → p .rebuilt ≡ improved → p .tried ≡ splits → Written out after n (planText (printed (netOf R) p))
     text-put {h} {out} {after} {n} {improved} {splits} e q =
-        plan-printed x same-call a e (omega (arith, few-leaves x, full .setPlaces)) (omega (arith, few-leaves x, full .stepNumbers))
+        plan-printed x enough same-call a e (omega (arith, few-leaves x enough, full .setPlaces)) (omega (arith, few-leaves x enough, full .stepNumbers))
         (subst (λ (y : ℕ). Put out after 0 n (planText (printedFrom y (indexCount (netOf R)) 4 h steps sets flags improved splits))) (sym leaf-count)
         (subst (λ (y : ℕ). Put out after 0 n (planText (printedFrom (R .«leaf_count») y 4 h steps sets flags improved splits))) (sym index-count) q))

@@ -74,7 +74,7 @@ slice-same N w words places kids h q =
     let rest : List Check = treeCheck N kids ∷ beyondCheck N (λ j. false) (pairsOf kids) ∷ danglingIf N true in
     ap (λ (x : Check). checked (networkChecks false N ++ (x ∷ rest)) (done (slice N w (followUp N true) (pairsOf kids)))) e
 
-module _ (N : Network) (w : ℕ) (kids₀ flags₀ : List ℕ) (v : Visited) (words : ℕ) (ready : Ready N words (length flags₀)) (held : ImprovedHeld N kids₀ v) where
+module _ (N : Network) (w : ℕ) (kids₀ flags₀ : List ℕ) (v : Visited) (words : ℕ) (enough : sliceWords true ≤ words) (ready : Ready N (length flags₀)) (held : ImprovedHeld N kids₀ v) where
   abbrev call : Result Plan
   call = sliceCall N true w words (length flags₀) kids₀
 
@@ -85,7 +85,7 @@ module _ (N : Network) (w : ℕ) (kids₀ flags₀ : List ℕ) (v : Visited) (wo
   whole-is =
       ap (λ (x : Result Plan). andThen x (λ p. done (counted (improvedIn kids₀ v) p)))
       (ap (sliceCall N true w (sliceWords true) (indexCount N)) (held .flat)
-      ∙ sym (slice-same N w words (length flags₀) kids₀ (omega (arith, ready .stated)) (ready .room)))
+      ∙ sym (slice-same N w words (length flags₀) kids₀ enough (ready .room)))
 
   module _ (p : Plan) (e : call ≡ done p) where
     is-slice : slice N w (onePass N) (pairsOf kids₀) ≡ p

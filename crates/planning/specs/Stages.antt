@@ -64,18 +64,10 @@ pub record Answers (N : Network) (c : Result Plan) (kids flags : List ℕ) (r : 
   pub answer : r ≡ planAnswer c
   pub held : (p : Plan) → c ≡ done p → PlanHeld N p kids flags
 
--- what a stage asks: an accepted network, the stated words, a place an index for flags
-pub record Ready (N : Network) (words places : ℕ) : Type 0 where
+-- what a stage asks: an accepted network, a place an index for flags
+pub record Ready (N : Network) (places : ℕ) : Type 0 where
   pub ok : accepted N ≡ true
-  pub stated : words ≡ improveWords 8
   pub room : indexCount N ≤ places
-
-pub few-leaves : {N : Network} {words places : ℕ} → Ready N words places → leafCount N ≤ 128
-few-leaves {N} r = accepted-means N .0 (r .ok) .fewLeaves
-
--- a call leaves lists as long as they were
-pub ready-again : {N : Network} {words words′ places : ℕ} → words′ ≡ words → Ready N words places → Ready N words′ places
-ready-again e r = record { ok = r .ok; stated = e ∙ r .stated; room = r .room }
 
 -- the tree that a list has, if the file has one
 abbrev pub givenTree : Tree → List ℕ → Option (List ℕ)
@@ -95,8 +87,8 @@ pub record FoundIn (N : Network) (f : Found) (kids flags : List ℕ) : Type 0 wh
   pub treeRoom : length kids ≡ 254
   pub flagRoom : length flags ≡ 256
 
-pub found-ready : {N : Network} {f : Found} {kids flags : List ℕ} {words : ℕ} → FoundIn N f kids flags → words ≡ 6144 → Ready N words (length flags)
-found-ready {N} x e = record { ok = x .ok; stated = e; room = omega (arith, x .flagRoom, accepted-means N .0 (x .ok) .fewIndices) }
+pub found-ready : {N : Network} {f : Found} {kids flags : List ℕ} → FoundIn N f kids flags → Ready N (length flags)
+found-ready {N} x = record { ok = x .ok; room = omega (arith, x .flagRoom, accepted-means N .0 (x .ok) .fewIndices) }
 
 pub found-flags : {N : Network} {f : Found} {kids flags : List ℕ} → FoundIn N f kids flags → flagCount (f .ask) ≤ length flags
 found-flags {N} x = omega (arith, x .fewFlags, x .flagRoom, accepted-means N .0 (x .ok) .fewIndices)
@@ -179,7 +171,7 @@ module _ (N : Network) (ask : Ask) (few : leafCount N ≤ 128) (kids₀ : List �
 
   -- by what improvement answers
   module _ {c : Result spec.Improved} (same : c ≡ improveFor N ask kids₀) where
-    pub improve-refused : {k : ℕ} {kids flags : List ℕ} → Refused k ≡ answerOf c → Answers N (fromTree N ask kids₀) kids flags (Refused k)
+    improve-refused : {k : ℕ} {kids flags : List ℕ} → Refused k ≡ answerOf c → Answers N (fromTree N ask kids₀) kids flags (Refused k)
     unfolding fromTree
     improve-refused {k} {kids} {flags} q = by-result c refl q
       where
@@ -189,7 +181,7 @@ module _ (N : Network) (ask : Ask) (few : leafCount N ≤ 128) (kids₀ : List �
             answers-refused r (ap (λ (x : Result spec.Improved). andThen x (λ d. sliceFor N ask d)) (sym same ∙ e)) (let z : k ≡ numberOf r = cc in z)
         by-result (done d) e p = absurd (let z : _≡_ {A = ℕ} 0 1 = cc in omega arith)
 
-    pub improve-done : {v : Visited} {kids : List ℕ} → Done v ≡ answerOf c → kids ≡ improvedTree c kids₀
+    improve-done : {v : Visited} {kids : List ℕ} → Done v ≡ answerOf c → kids ≡ improvedTree c kids₀
         → ImprovedHeld N kids v × (fromTree N ask kids₀ ≡ sliceFor N ask (improvedIn kids v))
     unfolding fromTree
     improve-done {v} {kids} q t = by-result c refl q t
@@ -202,11 +194,27 @@ module _ (N : Network) (ask : Ask) (few : leafCount N ≤ 128) (kids₀ : List �
             (h, ap (λ (x : Result spec.Improved). andThen x (λ y. sliceFor N ask y)) (sym same ∙ e) ∙ ap (sliceFor N ask) (sym g))
 
 -- the call of improvement, with the stated words and the given flags
-pub improve-same : (N : Network) (a : Asked) (kids flags : List ℕ) (words count : ℕ) → words ≡ improveWords 8 → count ≡ flagCount a
+improve-same : (N : Network) (a : Asked) (kids flags : List ℕ) (words count : ℕ) → words ≡ improveWords 8 → count ≡ flagCount a
     → improveCall N 8 4 none words (take count flags) kids ≡ improveFor N (askHanded a flags) kids
 improve-same N a kids flags words count e f =
     ap (λ (w : ℕ). improveCall N 8 4 none w (take count flags) kids) e
     ∙ ap (λ (l : List ℕ). improveCall N 8 4 none (improveWords 8) l kids) (ap (λ (n : ℕ). take n flags) f ∙ given-flags a flags)
+
+-- the tree in the list is improved, and the plan goes on from it; or it is refused
+pub record ImprovedTo (N : Network) (ask : Ask) (kids₀ kids : List ℕ) (r : Improved) : Type 0 where
+  pub refuses : {k : ℕ} → r ≡ Refused k → (flags : List ℕ) → Answers N (fromTree N ask kids₀) kids flags (Refused k)
+  pub goes : {v : Visited} → r ≡ Done v → ImprovedHeld N kids v × (fromTree N ask kids₀ ≡ sliceFor N ask (improvedIn kids v))
+
+pub improved-to : (N : Network) (a : Asked) (kids₀ flags : List ℕ) (words count : ℕ) → accepted N ≡ true → words ≡ improveWords 8 → count ≡ flagCount a
+    → {kids : List ℕ} {r : Improved} → r ≡ answerOf (improveCall N 8 4 none words (take count flags) kids₀)
+    → kids ≡ improvedTree (improveCall N 8 4 none words (take count flags) kids₀) kids₀ → ImprovedTo N (askHanded a flags) kids₀ kids r
+improved-to N a kids₀ flags words count ok e f q t =
+    let few : leafCount N ≤ 128 = accepted-means N .0 ok .fewLeaves in
+    let same = improve-same N a kids₀ flags words count e f in
+    record {
+      refuses = λ g l. improve-refused N (askHanded a flags) few kids₀ same (sym g ∙ q);
+      goes = λ g. improve-done N (askHanded a flags) few kids₀ same (sym g ∙ q) t;
+    }
 
 -- ---- the tree ----
 
@@ -219,12 +227,12 @@ greedy-same N words places h q =
     ap (λ (x : Check). checked (networkChecks false N ++ (x ∷ [])) (greedy N)) e
 
 -- a given tree is improved as it is
-pub plan-given : (N : Network) (ask : Ask) (kids : List ℕ) → planOf N (some kids) ask ≡ fromTree N ask kids
+plan-given : (N : Network) (ask : Ask) (kids : List ℕ) → planOf N (some kids) ask ≡ fromTree N ask kids
 unfolding planOf fromTree
 plan-given N ask kids = refl
 
 module _ (N : Network) (ask : Ask) (kids₀ : List ℕ) (long : length kids₀ ≡ treePlaces N) (words : ℕ) (h : plainWords ≤ words) where
-  pub greedy-refused : {k : ℕ} {kids flags : List ℕ} → Planned.Refused k ≡ plannedOf (greedyCall N words (length kids₀))
+  greedy-refused : {k : ℕ} {kids flags : List ℕ} → Planned.Refused k ≡ plannedOf (greedyCall N words (length kids₀))
       → Answers N (planOf N none ask) kids flags (Refused k)
   unfolding planOf
   greedy-refused {k} {kids} {flags} q = by-result (greedyCall N words (length kids₀)) (greedy-same N words (length kids₀) h (omega arith)) q
@@ -234,7 +242,7 @@ module _ (N : Network) (ask : Ask) (kids₀ : List ℕ) (long : length kids₀ �
       by-result (refused r) e p = answers-refused r (rw (sym e)) (let z : k ≡ numberOf r = cc in z)
       by-result (done a) e p = absurd (let z : _≡_ {A = ℕ} 0 1 = cc in omega arith)
 
-  pub greedy-done : {kids : List ℕ} → Planned.Done ≡ plannedOf (greedyCall N words (length kids₀)) → kids ≡ greedyTree (greedyCall N words (length kids₀)) kids₀
+  greedy-done : {kids : List ℕ} → Planned.Done ≡ plannedOf (greedyCall N words (length kids₀)) → kids ≡ greedyTree (greedyCall N words (length kids₀)) kids₀
       → planOf N none ask ≡ fromTree N ask kids
   unfolding planOf fromTree greedyCall
   greedy-done {kids} q t = by-result (greedyCall N words (length kids₀)) (greedy-same N words (length kids₀) h (omega arith)) q t
@@ -247,3 +255,23 @@ module _ (N : Network) (ask : Ask) (kids₀ : List ℕ) (long : length kids₀ �
           let k : kids ≡ flatOf a = s ∙ over-tree (leafCount N) kids₀ a (omega arith) (greedy-valid N a g) in
           ap (λ (x : Result (List Pair)). andThen (andThen x (λ b. done (flatOf b))) (λ kids. andThen (improveFor N ask kids) (λ d. sliceFor N ask d))) (sym e)
           ∙ ap (λ (l : List ℕ). andThen (improveFor N ask l) (λ d. sliceFor N ask d)) (sym k)
+
+-- the tree to improve is in the list, and the plan goes on from it; or it is refused
+pub record Started (N : Network) (given : Option (List ℕ)) (kids : List ℕ) (r : Planned) : Type 0 where
+  pub refuses : {k : ℕ} → r ≡ Planned.Refused k → (ask : Ask) (flags : List ℕ) → Answers N (planOf N given ask) kids flags (Refused k)
+  pub goes : r ≡ Planned.Done → (ask : Ask) → planOf N given ask ≡ fromTree N ask kids
+
+pub started-given : (N : Network) (kids : List ℕ) → Started N (some kids) kids Planned.Done
+started-given N kids =
+    record {
+      refuses = λ e ask flags. absurd (let z : _≡_ {A = ℕ} 0 1 = cc in omega arith);
+      goes = λ e ask. plan-given N ask kids;
+    }
+
+pub started-greedy : (N : Network) (kids₀ : List ℕ) (words : ℕ) → length kids₀ ≡ treePlaces N → plainWords ≤ words → {kids : List ℕ} {r : Planned}
+    → r ≡ plannedOf (greedyCall N words (length kids₀)) → kids ≡ greedyTree (greedyCall N words (length kids₀)) kids₀ → Started N none kids r
+started-greedy N kids₀ words long h q t =
+    record {
+      refuses = λ e ask flags. greedy-refused N ask kids₀ long words h (sym e ∙ q);
+      goes = λ e ask. greedy-done N ask kids₀ long words h (sym e ∙ q) t;
+    }

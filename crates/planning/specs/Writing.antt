@@ -10,7 +10,6 @@ use lib.Seq.{getD-take, length-take-le}
 use Rattle.spec.specs.Network.{Network, leafCount, indexCount, accepted}
 use Rattle.spec.specs.Tree.{Pair, valid, pairsOf, flatOf}
 use Rattle.spec.specs.Refusal.{numberOf, Result, refused, done}
-use Rattle.spec.specs.Calls.{plainWords}
 use Rattle.spec.specs.Slicing.{Plan}
 use Rattle.spec.specs.File.{Ask}
 use Rattle.spec.specs.FileClaims.{LawfulTree}
@@ -61,9 +60,8 @@ module _ (N : Network) (given : Option (List ℕ)) (ask : Ask) (kids flags : Lis
     cut-held : {p : Plan} → PlanHeld N p kids flags → PlanHeld N p kids (take m flags)
     cut-held h = record { tree = h .tree; flagged = λ j b. cut-at j b ∙ h .flagged j b }
 
-    pub printable : {v : Visited} {words : ℕ} → accepted N ≡ true → plainWords ≤ words → Answers N (planOf N given ask) kids flags (Done v)
-        → Printable N kids (take m flags) words
-    printable {v} ok enough a =
+    pub printable : {v : Visited} → accepted N ≡ true → Answers N (planOf N given ask) kids flags (Done v) → Printable N kids (take m flags)
+    printable {v} ok a =
         let b = behind a in
         let p : Plan = b .plan in
         let fine : valid (leafCount N) (pairsOf (flatOf (p .tree))) ≡ true =
@@ -73,7 +71,6 @@ module _ (N : Network) (given : Option (List ℕ)) (ask : Ask) (kids flags : Lis
           lawful = subst (λ (l : List ℕ). LawfulTree N (some l)) (sym (b .held .tree)) (flat-even (p .tree), fine);
           low = λ j h. omega (arith, cut-at j h, b .held .flagged j h, flag-low (p .flag j));
           room = length-take-le m flags (omega arith) ∙ same;
-          enough = enough;
         }
 
     pub plan-written : {v : Visited} {out after : List ℕ} {n : ℕ} → Answers N (planOf N given ask) kids flags (Done v)

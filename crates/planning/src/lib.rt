@@ -1,8 +1,10 @@
 // The program `plan` as one function: from a network file's bytes to the text that is printed.
+ghost use mathlib.Core.Bool.{true};
 ghost use mathlib.Core.Path.{_≡_};
 ghost use Prim.Native.Nat.{_≤_};
 ghost use lib.ListN.{length, take};
 ghost use Rattle.spec.specs.Memory.{over};
+ghost use Rattle.spec.specs.Network.{accepted};
 ghost use Rattle.spec.specs.Calls.{treePlaces};
 ghost use Rattle.spec.specs.File.{target};
 ghost use Rattle.spec.specs.Program.{flagsOf, sliceFor, planOf, printed, program};
@@ -13,8 +15,8 @@ ghost use Rattle.network.specs.Record.{netOf};
 ghost use Rattle.netfile.specs.Answers.{flagCount};
 ghost use Rattle.netfile.specs.Writer.{askHanded};
 ghost use Rattle.planning.specs.Output.{Prints};
-ghost use Rattle.planning.specs.Printing.{Written, FullLists, Printable};
-ghost use Rattle.planning.specs.Stages.{FlagsHeld, PlanHeld, Answers, Ready, givenTree, FoundIn, improvedIn, ImprovedHeld, fromTree};
+ghost use Rattle.planning.specs.Printing.{Written, Printable};
+ghost use Rattle.planning.specs.Stages.{FlagsHeld, PlanHeld, Answers, Ready, givenTree, FoundIn, Started, ImprovedTo, improvedIn, ImprovedHeld};
 use cost::Priced;
 use greedy::Planned;
 use netfile::Answer;
@@ -27,6 +29,38 @@ use reconfigure::Improved;
 use reconfigure::Limit;
 use slicetree::Sliced;
 
+// The tree that is improved: the given one, or greedy's.
+fn started(network: Network, given: Tree, tree: &mut [u16]) -> Planned
+    requires { ⌜ length (now tree) ≡ treePlaces (netOf network) ⌝ }
+    ensures { λ r. ⌜ Started (netOf network) (givenTree given (now (tree .entry))) (now (tree .exit)) r ⌝ }
+{
+    match given {
+        Tree::Present(_) => Planned::Done,
+        Tree::Absent => {
+            let mut ws = [0u64; 4096];
+            greedy::greedy(network, tree, &mut ws)
+        }
+    }
+}
+
+// Improves a tree, with the given flags.
+fn improved(network: Network, ask: Ask, tree: &mut [u16], flags: &[u8]) -> Improved
+    requires { ⌜ (accepted (netOf network) ≡ true) × (flagCount ask ≤ length (now flags)) ⌝ }
+    ensures { λ r. ⌜ ImprovedTo (netOf network) (askHanded ask (now (flags .entry))) (now (tree .entry)) (now (tree .exit)) r ⌝ }
+{
+    let mut ws = [0u64; 6144];
+    let count = netfile::flag_count(ask);
+    reconfigure::reconfigure(
+        network,
+        8,
+        4,
+        Limit::Unlimited,
+        &flags[..count],
+        tree,
+        &mut ws,
+    )
+}
+
 // Slices the improved tree to a target, with improvement; the counts are added to those so far.
 fn slice_to(
     network: Network,
@@ -34,12 +68,12 @@ fn slice_to(
     counts: Visited,
     tree: &mut [u16],
     flags: &mut [u8],
-    ws: &mut [u64],
 ) -> Improved
-    requires { ⌜ Ready (netOf network) (length (now ws)) (length (now flags)) × ImprovedHeld (netOf network) (now tree) counts ⌝ }
+    requires { ⌜ Ready (netOf network) (length (now flags)) × ImprovedHeld (netOf network) (now tree) counts ⌝ }
     ensures { λ r. ⌜ Answers (netOf network) (sliceFor (netOf network) (target bits) (improvedIn (now (tree .entry)) counts)) (now (tree .exit)) (now (flags .exit)) r ⌝ }
 {
-    let r = slicetree::slice_tree(network, true, tree, bits as u16, flags, ws);
+    let mut ws = [0u64; 6144];
+    let r = slicetree::slice_tree(network, true, tree, bits as u16, flags, &mut ws);
     match r {
         Sliced::Refused(number) => Improved::Refused(number),
         Sliced::Done { rebuilt, tried } => Improved::Done(Visited {
@@ -56,80 +90,57 @@ fn sliced(
     counts: Visited,
     tree: &mut [u16],
     flags: &mut [u8],
-    ws: &mut [u64],
 ) -> Improved
-    requires { ⌜ Ready (netOf network) (length (now ws)) (length (now flags)) × ImprovedHeld (netOf network) (now tree) counts × FlagsHeld (netOf network) (flagsOf (askHanded ask (now flags))) (now flags) ⌝ }
+    requires { ⌜ Ready (netOf network) (length (now flags)) × ImprovedHeld (netOf network) (now tree) counts × FlagsHeld (netOf network) (flagsOf (askHanded ask (now flags))) (now flags) ⌝ }
     ensures { λ r. ⌜ Answers (netOf network) (sliceFor (netOf network) (askHanded ask (now (flags .entry))) (improvedIn (now (tree .entry)) counts)) (now (tree .exit)) (now (flags .exit)) r ⌝ }
 {
     match ask {
         Ask::Plain => Improved::Done(counts),
         Ask::Flagged(_) => Improved::Done(counts),
-        Ask::Target(bits) => slice_to(network, bits, counts, tree, flags, ws),
+        Ask::Target(bits) => slice_to(network, bits, counts, tree, flags),
     }
 }
 
-// Improves a tree, with the given flags, and slices it.
-fn improved(
-    network: Network,
-    ask: Ask,
-    tree: &mut [u16],
-    flags: &mut [u8],
-    ws: &mut [u64],
-) -> Improved
-    requires { ⌜ Ready (netOf network) (length (now ws)) (length (now flags)) × FlagsHeld (netOf network) (flagsOf (askHanded ask (now flags))) (now flags) × (flagCount ask ≤ length (now flags)) ⌝ }
-    ensures { λ r. ⌜ Answers (netOf network) (fromTree (netOf network) (askHanded ask (now (flags .entry))) (now (tree .entry))) (now (tree .exit)) (now (flags .exit)) r ⌝ }
-{
-    let count = netfile::flag_count(ask);
-    let r = reconfigure::reconfigure(network, 8, 4, Limit::Unlimited, &flags[..count], tree, ws);
-    match r {
-        Improved::Refused(number) => Improved::Refused(number),
-        Improved::Done(counts) => sliced(network, ask, counts, tree, flags, ws),
-    }
-}
-
-// The plan of a network, from the given tree or from greedy's.
-fn planned(
-    network: Network,
-    given: Tree,
-    ask: Ask,
-    tree: &mut [u16],
-    flags: &mut [u8],
-    ws: &mut [u64],
-) -> Improved
-    requires { ⌜ Ready (netOf network) (length (now ws)) (length (now flags)) × FlagsHeld (netOf network) (flagsOf (askHanded ask (now flags))) (now flags) × (flagCount ask ≤ length (now flags)) × (length (now tree) ≡ treePlaces (netOf network)) ⌝ }
+// The plan of a network, from the given tree or from greedy's: improved with the given flags, and sliced.
+fn planned(network: Network, given: Tree, ask: Ask, tree: &mut [u16], flags: &mut [u8]) -> Improved
+    requires { ⌜ Ready (netOf network) (length (now flags)) × FlagsHeld (netOf network) (flagsOf (askHanded ask (now flags))) (now flags) × (flagCount ask ≤ length (now flags)) × (length (now tree) ≡ treePlaces (netOf network)) ⌝ }
     ensures { λ r. ⌜ Answers (netOf network) (planOf (netOf network) (givenTree given (now (tree .entry))) (askHanded ask (now (flags .entry)))) (now (tree .exit)) (now (flags .exit)) r ⌝ }
 {
-    match given {
-        Tree::Present(_) => improved(network, ask, tree, flags, ws),
-        Tree::Absent => {
-            let made = greedy::greedy(network, tree, ws);
-            match made {
-                Planned::Refused(number) => Improved::Refused(number),
-                Planned::Done => improved(network, ask, tree, flags, ws),
+    let made = started(network, given, tree);
+    match made {
+        Planned::Refused(number) => Improved::Refused(number),
+        Planned::Done => {
+            let r = improved(network, ask, tree, flags);
+            match r {
+                Improved::Refused(number) => Improved::Refused(number),
+                Improved::Done(counts) => sliced(network, ask, counts, tree, flags),
             }
         }
     }
 }
 
-// Prices the plan in lists that are lent, and puts its text at the front of a buffer.
-fn put_priced(
-    network: Network,
-    counts: Visited,
-    tree: &[u16],
-    flags: &[u8],
-    ws: &mut [u64],
-    sets: &mut [u64],
-    sizes: &mut [u16],
-    works: &mut [u16],
-    steps: &mut [u16],
-    out: &mut [u8],
-) -> usize
-    requires { ⌜ Printable (netOf network) (now tree) (now flags) (length (now ws)) × FullLists (now sets) (now sizes) (now works) (now steps) ⌝ }
+// Puts the text of a plan at the front of a buffer: prices it in local lists.
+fn put_text(network: Network, counts: Visited, tree: &[u16], flags: &[u8], out: &mut [u8]) -> usize
+    requires { ⌜ Printable (netOf network) (now tree) (now flags) ⌝ }
     ensures { λ r. ⌜ ((p : Plan) → PlanHeld (netOf network) p (now (tree .entry)) (now (flags .entry)) → p .rebuilt ≡ counts .rebuilt → p .tried ≡ counts .tried → Written (now (out .entry)) (now (out .exit)) r (planText (printed (netOf network) p))) × (r ≤ 131072) ⌝ }
 {
+    let mut ws = [0u64; 4096];
+    let mut sets = [0u64; 1020];
+    let mut sizes = [0u16; 255];
+    let mut works = [0u16; 255];
+    let mut steps = [0u16; 635];
     let n = network.leaf_count;
     let m = network.index_count;
-    let priced = cost::tree_cost(network, flags, tree, ws, sets, sizes, works, steps);
+    let priced = cost::tree_cost(
+        network,
+        flags,
+        tree,
+        &mut ws,
+        &mut sets,
+        &mut sizes,
+        &mut works,
+        &mut steps,
+    );
     match priced {
         Priced::Refused(_) => 0,
         Priced::Done(prices) => text::put_plan(
@@ -138,43 +149,13 @@ fn put_priced(
             m,
             4,
             prices,
-            steps,
-            sets,
+            &steps,
+            &sets,
             flags,
             counts.rebuilt,
             counts.tried,
         ),
     }
-}
-
-// Puts the text of a plan at the front of a buffer.
-fn put_text(
-    network: Network,
-    counts: Visited,
-    tree: &[u16],
-    flags: &[u8],
-    ws: &mut [u64],
-    out: &mut [u8],
-) -> usize
-    requires { ⌜ Printable (netOf network) (now tree) (now flags) (length (now ws)) ⌝ }
-    ensures { λ r. ⌜ ((p : Plan) → PlanHeld (netOf network) p (now (tree .entry)) (now (flags .entry)) → p .rebuilt ≡ counts .rebuilt → p .tried ≡ counts .tried → Written (now (out .entry)) (now (out .exit)) r (planText (printed (netOf network) p))) × (r ≤ 131072) ⌝ }
-{
-    let mut sets = [0u64; 1020];
-    let mut sizes = [0u16; 255];
-    let mut works = [0u16; 255];
-    let mut steps = [0u16; 635];
-    put_priced(
-        network,
-        counts,
-        tree,
-        flags,
-        ws,
-        &mut sets,
-        &mut sizes,
-        &mut works,
-        &mut steps,
-        out,
-    )
 }
 
 // Plans, and puts the text of the plan or of the refusal at the front of a buffer.
@@ -184,18 +165,17 @@ fn put_planned(
     ask: Ask,
     tree: &mut [u16],
     flags: &mut [u8],
-    ws: &mut [u64],
     out: &mut [u8],
 ) -> usize
-    requires { ⌜ Ready (netOf network) (length (now ws)) (length (now flags)) × FlagsHeld (netOf network) (flagsOf (askHanded ask (now flags))) (now flags) × (flagCount ask ≤ length (now flags)) × (length (now tree) ≡ treePlaces (netOf network)) ⌝ }
+    requires { ⌜ Ready (netOf network) (length (now flags)) × FlagsHeld (netOf network) (flagsOf (askHanded ask (now flags))) (now flags) × (flagCount ask ≤ length (now flags)) × (length (now tree) ≡ treePlaces (netOf network)) ⌝ }
     ensures { λ r. ⌜ Written (now (out .entry)) (now (out .exit)) r (outputOf (program (netOf network) (givenTree given (now (tree .entry))) (askHanded ask (now (flags .entry))))) × (r ≤ 131072) ⌝ }
 {
-    let r = planned(network, given, ask, tree, flags, ws);
+    let r = planned(network, given, ask, tree, flags);
     match r {
         Improved::Refused(number) => text::put_refused(out, number),
         Improved::Done(counts) => {
             let m = network.index_count;
-            put_text(network, counts, tree, &flags[..m], ws, out)
+            put_text(network, counts, tree, &flags[..m], out)
         }
     }
 }
@@ -211,20 +191,11 @@ fn put_found(
     requires { ⌜ FoundIn (netOf network) found (now tree) (now flags) ⌝ }
     ensures { λ r. ⌜ Written (now (out .entry)) (now (out .exit)) r (outputOf (program (netOf network) (givenTree (found .tree) (take (treePlaces (netOf network)) (now (tree .entry)))) (askHanded (found .ask) (now (flags .entry))))) × (r ≤ 131072) ⌝ }
 {
-    let mut ws = [0u64; 6144];
     let given = found.tree;
     let ask = found.ask;
     let n = cells::less(network.leaf_count, 1);
     let places = n + n;
-    put_planned(
-        network,
-        given,
-        ask,
-        &mut tree[..places],
-        flags,
-        &mut ws,
-        out,
-    )
+    put_planned(network, given, ask, &mut tree[..places], flags, out)
 }
 
 // The program `plan`: reads a network file, plans, and puts what is printed at the front of `out`. The answer is the text's length; a buffer

@@ -14,46 +14,25 @@ use Rattle.pricing.specs.Promise.{Priceable, Room}
 use Rattle.cost.specs.Checks.{priceable}
 use Rattle.passes.specs.Made.{Ready}
 
--- an accepted network with no dangling index, and lists that are long enough
-pub record Asks (m n o words sets sizes works steps : ℕ) (weights counts legs outputs : List ℕ) : Type 0 where
+-- an accepted network with no dangling index, and words enough
+pub record Asks (m n o words : ℕ) (weights counts legs outputs : List ℕ) : Type 0 where
   pub lent : Lent weights counts legs outputs
   pub facts : Facts m n o weights counts legs outputs
   pub closed : dangling (networkOf m n o weights counts legs outputs) ≡ false
   pub for-words : 6144 ≤ words
-  pub for-sets : 1024 ≤ sets
-  pub for-sizes : 256 ≤ sizes
-  pub for-works : 256 ≤ works
-  pub for-steps : 640 ≤ steps
 
-module _ {m n o words sets sizes works steps : ℕ} {weights counts legs outputs : List ℕ}
-    (a : Asks m n o words sets sizes works steps weights counts legs outputs) where
-  pub same-asks : (words′ sets′ sizes′ works′ steps′ : ℕ) → words′ ≡ words → sets′ ≡ sets → sizes′ ≡ sizes → works′ ≡ works → steps′ ≡ steps
-      → Asks m n o words′ sets′ sizes′ works′ steps′ weights counts legs outputs
-  same-asks words′ sets′ sizes′ works′ steps′ p q r s t =
+module _ {m n o words : ℕ} {weights counts legs outputs : List ℕ} (a : Asks m n o words weights counts legs outputs) where
+  pub same-asks : (words′ : ℕ) → words′ ≡ words → Asks m n o words′ weights counts legs outputs
+  same-asks words′ p = record { lent = a .lent; facts = a .facts; closed = a .closed; for-words = rw p (a .for-words) }
+
+  pub asks-ready : (words′ sets sizes works : ℕ) → words′ ≡ words → 1020 ≤ sets → 255 ≤ sizes → 255 ≤ works
+      → Ready m n o 8 words′ sets sizes works weights counts legs outputs
+  asks-ready words′ sets sizes works p q r s =
       record {
         lent = a .lent;
         facts = a .facts;
         closed = a .closed;
-        for-words = rw p (a .for-words);
-        for-sets = rw q (a .for-sets);
-        for-sizes = rw r (a .for-sizes);
-        for-works = rw s (a .for-works);
-        for-steps = rw t (a .for-steps);
-      }
-
-  pub asks-ready : (words′ sets′ sizes′ works′ : ℕ) → words′ ≡ words → sets′ ≡ sets → sizes′ ≡ sizes → works′ ≡ works
-      → Ready m n o 8 words′ sets′ sizes′ works′ weights counts legs outputs
-  asks-ready words′ sets′ sizes′ works′ p q r s =
-      record {
-        lent = a .lent;
-        facts = a .facts;
-        closed = a .closed;
-        room = record {
-          for-words = omega (arith, p, a .for-words);
-          for-sets = omega (arith, q, a .for-sets);
-          for-sizes = omega (arith, r, a .for-sizes);
-          for-works = omega (arith, s, a .for-works);
-        };
+        room = record { for-words = omega (arith, p, a .for-words); for-sets = q; for-sizes = r; for-works = s };
         low = omega arith;
         high = omega arith;
       }
@@ -62,13 +41,13 @@ module _ {m n o words sets sizes works steps : ℕ} {weights counts legs outputs
     pub asks-priceable : Priceable 4 m n o weights counts legs outputs kids order
     asks-priceable = priceable (a .lent) (a .facts) right e
 
-    pub asks-room : Room 4 n kids order words sets sizes works steps
+    pub asks-room : Room 4 n kids order words 1024 256 256 640
     asks-room =
         let s = ordered-steps (asks-priceable .ordered) in
         record {
           for-outside = omega (arith, s .numbers, a .facts .fewLeaves, a .for-words);
-          for-sets = omega (arith, s .numbers, a .facts .fewLeaves, a .for-sets);
-          for-sizes = omega (arith, s .numbers, a .facts .fewLeaves, a .for-sizes);
-          for-works = omega (arith, s .numbers, a .facts .fewLeaves, a .for-works);
-          for-steps = omega (arith, s .steps, a .facts .fewLeaves, a .for-steps);
+          for-sets = omega (arith, s .numbers, a .facts .fewLeaves);
+          for-sizes = omega (arith, s .numbers, a .facts .fewLeaves);
+          for-works = omega (arith, s .numbers, a .facts .fewLeaves);
+          for-steps = omega (arith, s .steps, a .facts .fewLeaves);
         }

@@ -9,24 +9,24 @@ use native.Mathlib.Decide.{decLe}
 use lib.Dec.{eqb}
 use lib.ListN.{length}
 use borrow.Author.Tests.{lt-ltb, le-ltb}
+use Rattle.spec.specs.Layout.{firsts}
 use Rattle.spec.specs.Network.{Network, leafCount}
 use Rattle.spec.specs.Tree.{Tree, number, pairsOf, stepOrder}
 use Rattle.spec.specs.Price.{Total, upTo, listing, work, widest}
-use Rattle.spec.specs.Calls.{wrongTree, isBeyond, totalIsBeyond, nodePlaces}
+use Rattle.spec.specs.Calls.{wrongTree, isBeyond}
 use Rattle.spec.specs.Improve as spec
 use Rattle.spec.specs.Improve.{innerTrees, falling, visits, pass, improveTree, improve}
 use Rattle.spec.specs.Slicing.{orZero}
 use Rattle.laws.specs.Booleans.{by-cases, clash}
-use Rattle.nodesets.specs.Lists.{ordered-steps}
-use Rattle.nodesets.specs.Passes.{nodes}
 use Rattle.walk.specs.Order.{order-length}
 use Rattle.falling.specs.Sorted.{sorted, sorted-length}
+use Rattle.pricing.specs.Answers.{widestIn}
 use Rattle.reprice.specs.Held.{treeOf, PriceHeld, Standing}
 use Rattle.passes.specs.Made.{mostTried, Improves}
 use Rattle.passes.specs.Bounds.{visits-rebuilt, visits-tried}
 use Rattle.passes.specs.Nodes.{pass-nodes}
-use Rattle.ranks.specs.Promise.{PricedTree}
 use Rattle.reconfigure.specs.Improves.{improved-is, right-here}
+use Rattle.slicepasses.specs.Widest.{widest-held}
 
 -- "limit max(widest, target)"
 abbrev pub limitFor : Network → ℕ → (ℕ → Bool) → List ℕ → ℕ
@@ -54,24 +54,22 @@ below-exact x h = ap (λ b. isBeyond (cond b (Total.exact x) Total.beyond)) (lt-
 
 -- ---- the price list ----
 
-pub held-of : {N : Network} {n : ℕ} {flag : ℕ → Bool} {kids order sets sizes works : List ℕ} → PricedTree 4 N n flag kids order sets sizes works
-    → PriceHeld N flag kids sets sizes works
-held-of {N} {n} {kids = kids} t =
-    let places : nodePlaces N ≡ nodes n kids = omega (arith, t .leaf-count, ordered-steps (t .ordered) .numbers) in
-    record {
-      sets-are = λ v j h b. t .holds v j (omega (arith, places)) (omega arith);
-      sizes-are = λ v h. t .sizes-are v (omega (arith, places));
-      works-are = λ v h. t .works-are v (omega (arith, places));
-    }
-
-pub standing-of : {N : Network} {n : ℕ} {flag : ℕ → Bool} {kids order sets sizes works : List ℕ} → PricedTree 4 N n flag kids order sets sizes works
+pub standing-of : {N : Network} {n : ℕ} {flag : ℕ → Bool} {kids sets sizes works : List ℕ} → leafCount N ≡ n → PriceHeld N flag kids sets sizes works
     → wrongTree n kids ≡ false → work (listing N flag (pairsOf kids)) < 9007199254740992 → Standing N flag kids sets sizes works
-standing-of {N} {n} {flag} {kids} t right h =
+standing-of {N} {n} {flag} {kids} q t right h =
     record {
-      right = right-here N n kids (t .leaf-count) right;
-      prices = held-of t;
+      right = right-here N n kids q right;
+      prices = t;
       total = below-exact (work (listing N flag (pairsOf kids))) h;
     }
+
+-- the limit that the size bits set
+pub limit-is : {N : Network} {n : ℕ} (target : ℕ) {flag : ℕ → Bool} {kids sets sizes works : List ℕ} → leafCount N ≡ n → PriceHeld N flag kids sets sizes works
+    → wrongTree n kids ≡ false → (limit : Option ℕ) → limit ≡ some (max (orZero (widestIn (firsts (n + (n - 1)) sizes))) target)
+    → limit ≡ some (limitFor N target flag kids)
+limit-is {N} {n} target {flag} {kids} {sizes = sizes} q h right limit e =
+    e ∙ ap (λ (i : ℕ). some (max (orZero (widestIn (firsts (i + (i - 1)) sizes))) target)) (sym q)
+    ∙ ap (λ (w : Option ℕ). some (max (orZero w) target)) (widest-held (right-here N n kids q right) h)
 
 -- ---- the counts of one pass ----
 

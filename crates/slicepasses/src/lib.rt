@@ -1,11 +1,13 @@
 // Slicing on lent lists with improvement: one pass follows each choice.
-ghost use mathlib.Core.Bool.{false};
+ghost use mathlib.Core.Option.{some};
 ghost use mathlib.Core.Path.{_≡_};
-ghost use Prim.Native.Nat.{ℕ, _≤_};
+ghost use Prim.Native.Nat.{_+_, _-_, _≤_, max};
 ghost use lib.ListN.{length};
-ghost use Rattle.spec.specs.Layout.{networkOf};
-ghost use Rattle.spec.specs.Tree.{stepOrder};
+ghost use Rattle.spec.specs.Layout.{firsts, networkOf};
 ghost use Rattle.spec.specs.Calls.{flagAt};
+ghost use Rattle.spec.specs.Slicing.{orZero};
+ghost use Rattle.pricing.specs.Answers.{widestIn};
+ghost use Rattle.subset.specs.Search.{limitOf};
 ghost use Rattle.slicepasses.specs.Asks.{Asks};
 ghost use Rattle.slicepasses.specs.Once.{Once};
 ghost use Rattle.slicepasses.specs.Choices.{Stands, Choice, Sliced};
@@ -19,13 +21,19 @@ pub struct Turned {
     pub tried: u64,
 }
 
-// One pass at k = 8 with the limit that the widest table or the target sets. `order` is the tree's step order.
+// The limit of the pass after a choice, as the search takes it: by the sizes of all nodes of a tree of `n` leaves, and the target.
+fn pass_limit(sizes: &[u16], n: usize, target: u16) -> u64
+    requires { ⌜ (n ≤ 128) × (n + (n - 1) ≤ length (now sizes)) ⌝ }
+    ensures { λ r. ⌜ limitOf r ≡ some (max (orZero (widestIn (firsts (n + (n - 1)) (now (sizes .entry))))) target) ⌝ }
+{
+    let widest = pricing::widest_of(sizes, n + cells::less(n, 1));
+    let bits = slicing::limit(widest, target);
+    reconfigure::limit_bits(Limit::Bits(bits))
+}
+
+// One pass at k = 8 with the limit that the widest table or the target sets.
 fn improve_once<'a>(
     words: &mut [u64],
-    sets: &mut [u64],
-    sizes: &mut [u16],
-    works: &mut [u16],
-    steps: &mut [u16],
     kids: &mut [u16],
     m: usize,
     n: usize,
@@ -35,19 +43,19 @@ fn improve_once<'a>(
     legs: &'a [u16],
     outputs: &'a [u16],
     flags: &[u8],
-    order: &[u16],
     target: u16,
 ) -> Visited
-    requires { ⌜ Asks m n o (length (now words)) (length (now sets)) (length (now sizes)) (length (now works)) (length (now steps)) (now weights) (now counts) (now legs) (now outputs) × Stands (networkOf m n o (now weights) (now counts) (now legs) (now outputs)) n (now kids) (now flags) × (now order ≡ stepOrder (now kids) n) ⌝ }
+    requires { ⌜ Asks m n o (length (now words)) (now weights) (now counts) (now legs) (now outputs) × Stands (networkOf m n o (now weights) (now counts) (now legs) (now outputs)) n (now kids) (now flags) ⌝ }
     ensures { λ r. ⌜ Once (networkOf m n o (now (weights .entry)) (now (counts .entry)) (now (legs .entry)) (now (outputs .entry))) n target (flagAt (now (flags .entry))) (now (kids .entry)) (now (kids .exit)) (r .rebuilt) (r .tried) ⌝ }
 {
-    let p = pricing::price(
+    let mut sets = [0u64; 1020];
+    let mut sizes = [0u16; 255];
+    let mut works = [0u16; 255];
+    reprice::reprice(
         words,
-        sets,
-        sizes,
-        works,
-        steps,
-        4,
+        &mut sets,
+        &mut sizes,
+        &mut works,
         m,
         n,
         o,
@@ -57,16 +65,13 @@ fn improve_once<'a>(
         outputs,
         flags,
         kids,
-        order,
     );
-    let widest = p.widest;
-    let bits = slicing::limit(widest, target);
-    let limit = reconfigure::limit_bits(Limit::Bits(bits));
+    let limit = pass_limit(&sizes, n, target);
     passes::passes(
         words,
-        sets,
-        sizes,
-        works,
+        &mut sets,
+        &mut sizes,
+        &mut works,
         kids,
         m,
         n,
@@ -82,13 +87,9 @@ fn improve_once<'a>(
     )
 }
 
-// Flags one index more, unless slicing is done, and improves the tree. `order` is the tree's step order.
-fn choose_once<'a>(
+// A turn on the tree as it stands: flags one index more, unless slicing is done, and improves the tree.
+fn turn<'a>(
     words: &mut [u64],
-    sets: &mut [u64],
-    sizes: &mut [u16],
-    works: &mut [u16],
-    steps: &mut [u16],
     kids: &mut [u16],
     flags: &mut [u8],
     m: usize,
@@ -98,20 +99,16 @@ fn choose_once<'a>(
     counts: &'a [u8],
     legs: &'a [u16],
     outputs: &'a [u16],
-    order: &[u16],
     target: u16,
 ) -> Turned
-    requires { ⌜ Asks m n o (length (now words)) (length (now sets)) (length (now sizes)) (length (now works)) (length (now steps)) (now weights) (now counts) (now legs) (now outputs) × Stands (networkOf m n o (now weights) (now counts) (now legs) (now outputs)) n (now kids) (now flags) × (now order ≡ stepOrder (now kids) n) ⌝ }
+    requires { ⌜ Asks m n o (length (now words)) (now weights) (now counts) (now legs) (now outputs) × Stands (networkOf m n o (now weights) (now counts) (now legs) (now outputs)) n (now kids) (now flags) ⌝ }
     ensures { λ r. ⌜ Choice (networkOf m n o (now (weights .entry)) (now (counts .entry)) (now (legs .entry)) (now (outputs .entry))) n target (now (kids .entry)) (now (flags .entry)) (now (kids .exit)) (now (flags .exit)) (r .flagged) (r .rebuilt) (r .tried) ⌝ }
 {
+    let mut order = [0u16; 128];
+    let c = walk::post_order(kids, n, words, &mut order);
     if !slicing::turn(
         words,
-        sets,
-        sizes,
-        works,
-        steps,
         flags,
-        4,
         m,
         n,
         o,
@@ -120,7 +117,7 @@ fn choose_once<'a>(
         legs,
         outputs,
         kids,
-        order,
+        &order[..c],
         target,
     ) {
         return Turned {
@@ -131,10 +128,6 @@ fn choose_once<'a>(
     }
     let d = improve_once(
         words,
-        sets,
-        sizes,
-        works,
-        steps,
         kids,
         m,
         n,
@@ -144,7 +137,6 @@ fn choose_once<'a>(
         legs,
         outputs,
         flags,
-        order,
         target,
     );
     Turned {
@@ -154,56 +146,9 @@ fn choose_once<'a>(
     }
 }
 
-// A turn on the tree as it stands.
-fn turn<'a>(
-    words: &mut [u64],
-    sets: &mut [u64],
-    sizes: &mut [u16],
-    works: &mut [u16],
-    steps: &mut [u16],
-    kids: &mut [u16],
-    flags: &mut [u8],
-    m: usize,
-    n: usize,
-    o: usize,
-    weights: &'a [u8],
-    counts: &'a [u8],
-    legs: &'a [u16],
-    outputs: &'a [u16],
-    target: u16,
-) -> Turned
-    requires { ⌜ Asks m n o (length (now words)) (length (now sets)) (length (now sizes)) (length (now works)) (length (now steps)) (now weights) (now counts) (now legs) (now outputs) × Stands (networkOf m n o (now weights) (now counts) (now legs) (now outputs)) n (now kids) (now flags) ⌝ }
-    ensures { λ r. ⌜ Choice (networkOf m n o (now (weights .entry)) (now (counts .entry)) (now (legs .entry)) (now (outputs .entry))) n target (now (kids .entry)) (now (flags .entry)) (now (kids .exit)) (now (flags .exit)) (r .flagged) (r .rebuilt) (r .tried) ⌝ }
-{
-    let mut order = [0u16; 128];
-    let c = walk::post_order(kids, n, words, &mut order);
-    choose_once(
-        words,
-        sets,
-        sizes,
-        works,
-        steps,
-        kids,
-        flags,
-        m,
-        n,
-        o,
-        weights,
-        counts,
-        legs,
-        outputs,
-        &order[..c],
-        target,
-    )
-}
-
 // Slices the tree, improved after each choice; the counts are summed over all passes.
 pub fn slice<'a>(
     words: &mut [u64],
-    sets: &mut [u64],
-    sizes: &mut [u16],
-    works: &mut [u16],
-    steps: &mut [u16],
     kids: &mut [u16],
     flags: &mut [u8],
     m: usize,
@@ -215,7 +160,7 @@ pub fn slice<'a>(
     outputs: &'a [u16],
     target: u16,
 ) -> Visited
-    requires { ⌜ Asks m n o (length (now words)) (length (now sets)) (length (now sizes)) (length (now works)) (length (now steps)) (now weights) (now counts) (now legs) (now outputs) × Stands (networkOf m n o (now weights) (now counts) (now legs) (now outputs)) n (now kids) (now flags) ⌝ }
+    requires { ⌜ Asks m n o (length (now words)) (now weights) (now counts) (now legs) (now outputs) × Stands (networkOf m n o (now weights) (now counts) (now legs) (now outputs)) n (now kids) (now flags) ⌝ }
     ensures { λ r. ⌜ Sliced (networkOf m n o (now (weights .entry)) (now (counts .entry)) (now (legs .entry)) (now (outputs .entry))) n target (now (kids .entry)) (now (flags .entry)) m (now (kids .exit)) (now (flags .exit)) (r .rebuilt) (r .tried) ⌝ }
 {
     let mut rebuilt: u64 = 0;
@@ -223,10 +168,6 @@ pub fn slice<'a>(
     for i in 0..m {
         let t = turn(
             words,
-            sets,
-            sizes,
-            works,
-            steps,
             kids,
             flags,
             m,

@@ -27,6 +27,10 @@ slicedOf (done p) = Sliced.Done (p .rebuilt) (p .tried)
 abbrev pub lateNumber : Network → Bool → List ℕ → ℕ
 lateNumber N improving kids = cond (totalIsBeyond N (λ j. false) (pairsOf kids)) 10 (cond (improving && dangling N) 11 0)
 
+-- and of the tree itself before these
+abbrev pub treeNumber : Network → Bool → ℕ → List ℕ → ℕ
+treeNumber N improving n kids = cond (wrongTree n kids) 8 (lateNumber N improving kids)
+
 module _ (N : Network) (improving : Bool) (target : ℕ) (kids : List ℕ) where
   abbrev sliced : Result Plan
   sliced = done (planOf N improving target kids)
@@ -64,6 +68,36 @@ pub record Answers (N : Network) (improving : Bool) (target : ℕ) (kids₀ flag
   pub flags-are : flags ≡ slicedFlags N (sliceIn N improving target kids₀ (length ws₀) (length flags₀)) flags₀
   pub workspace : ws ≡ workspaceAfter (sliceWords improving) (sliceIn N improving target kids₀ (length ws₀) (length flags₀)) ws₀
 
+pub record Slices (N : Network) (improving : Bool) (target : ℕ) (kids₀ flags₀ ws₀ kids flags ws : List ℕ) (r : Sliced) : Type 0 where
+  pub answer : r ≡ slicedOf (sliceCall N improving target (length ws₀) (length flags₀) kids₀)
+  pub tree : kids ≡ slicedTree (sliceCall N improving target (length ws₀) (length flags₀) kids₀) kids₀
+  pub flags-are : flags ≡ slicedFlags N (sliceCall N improving target (length ws₀) (length flags₀) kids₀) flags₀
+  pub workspace : ws ≡ workspaceAfter (sliceWords improving) (sliceCall N improving target (length ws₀) (length flags₀) kids₀) ws₀
+
+-- ---- the network's own checks ----
+
+module _ (N : Network) (improving : Bool) (target : ℕ) (kids₀ flags₀ ws₀ : List ℕ) where
+  pub slices-refused : (k : ℕ) → k ≡ codeOf (refusalOf N) → (k ≡ 0 → ⊥) → Slices N improving target kids₀ flags₀ ws₀ kids₀ flags₀ ws₀ (Sliced.Refused k)
+  slices-refused k e z =
+      let u = call-refused N improving target kids₀ (length ws₀) (length flags₀) k e z in
+      record {
+        answer = answers u slicedOf (λ (k : ℕ). Sliced.Refused k) (λ (r : Refusal). refl);
+        tree = same-list u (λ (p : Plan). flatOf (p .tree)) kids₀;
+        flags-are = same-list u (flagsFor N) flags₀;
+        workspace = same-words u (sliceWords improving) ws₀;
+      }
+
+  pub slices-accepted : refusalOf N ≡ none → {kids flags ws : List ℕ} {r : Sliced}
+      → Answers N improving target kids₀ flags₀ ws₀ kids flags ws r → Slices N improving target kids₀ flags₀ ws₀ kids flags ws r
+  slices-accepted h q =
+      let e = call-accepted N improving target kids₀ (length ws₀) (length flags₀) h in
+      record {
+        answer = q .answer ∙ sym (ap slicedOf e);
+        tree = q .tree ∙ sym (ap (λ (c : Result Plan). slicedTree c kids₀) e);
+        flags-are = q .flags-are ∙ sym (ap (λ (c : Result Plan). slicedFlags N c flags₀) e);
+        workspace = q .workspace ∙ sym (ap (λ (c : Result Plan). workspaceAfter (sliceWords improving) c ws₀) e);
+      }
+
 -- ---- the stated workspace ----
 
 pub words-as-is : (improving : Bool) (l : ℕ) → sliceWords improving ≤ l → plainWords ≤ l
@@ -98,6 +132,20 @@ module _ (N : Network) (improving : Bool) (kids : List ℕ) where
 
 -- ---- 8, 10 and 11 ----
 
+module _ (N : Network) (improving : Bool) (n : ℕ) (kids : List ℕ) where
+  pub number-wrong : wrongTree n kids ≡ true → 8 ≡ treeNumber N improving n kids
+  number-wrong w = rw w
+
+  pub number-late : wrongTree n kids ≡ false → {x : ℕ} → x ≡ lateNumber N improving kids → x ≡ treeNumber N improving n kids
+  number-late w e = e ∙ sym (ap (λ (b : Bool). cond b 8 (lateNumber N improving kids)) w)
+
+  pub number-none : 0 ≡ treeNumber N improving n kids → (wrongTree n kids ≡ false) × (0 ≡ lateNumber N improving kids)
+  number-none e = go (wrongTree n kids) (lateNumber N improving kids) e
+    where
+      go : (b : Bool) (x : ℕ) → _≡_ {A = ℕ} 0 (cond b 8 x) → (b ≡ false) × (0 ≡ x)
+      go true x e = absurd (omega arith)
+      go false x e = (refl, e)
+
 module _ (N : Network) (improving : Bool) (target : ℕ) (kids₀ flags₀ : List ℕ) where
   answered : (c : Result Plan) (kids flags : List ℕ) (r : Sliced) → restCall N improving target kids₀ ≡ c → r ≡ slicedOf c → kids ≡ slicedTree c kids₀
       → flags ≡ slicedFlags N c flags₀ → Answered N improving target kids₀ flags₀ kids flags r
@@ -108,7 +156,7 @@ module _ (N : Network) (improving : Bool) (target : ℕ) (kids₀ flags₀ : Lis
         flags-are = h ∙ ap (λ x. slicedFlags N x flags₀) (sym e);
       }
 
-  pub answered-tree : (n : ℕ) → leafCount N ≡ n → wrongTree n kids₀ ≡ true → Answered N improving target kids₀ flags₀ kids₀ flags₀ (Sliced.Refused 8)
+  answered-tree : (n : ℕ) → leafCount N ≡ n → wrongTree n kids₀ ≡ true → Answered N improving target kids₀ flags₀ kids₀ flags₀ (Sliced.Refused 8)
   unfolding restCall
   answered-tree n q h =
       answered (refused invalidTree) kids₀ flags₀ (Sliced.Refused 8)
@@ -130,7 +178,7 @@ module _ (N : Network) (improving : Bool) (target : ℕ) (kids₀ flags₀ : Lis
         (ap (λ (k : ℕ). Sliced.Refused k) (e ∙ ap (λ (d : Bool). cond d 11 0) h)) refl refl)
         (λ h. absurd (z (e ∙ ap (λ (d : Bool). cond d 11 0) h)))
 
-    pub answered-late : (x : ℕ) → x ≡ lateNumber N improving kids₀ → (x ≡ 0 → ⊥)
+    answered-late : (x : ℕ) → x ≡ lateNumber N improving kids₀ → (x ≡ 0 → ⊥)
         → Answered N improving target kids₀ flags₀ kids₀ flags₀ (Sliced.Refused x)
     answered-late x e z =
         late-cases (totalIsBeyond N (λ j. false) (pairsOf kids₀)) improving (sliced N improving target kids₀) x e z past-tree
@@ -150,6 +198,14 @@ module _ (N : Network) (improving : Bool) (target : ℕ) (kids₀ flags₀ : Lis
         ∙ passes-first (beyondCheck N (λ j. false) (pairsOf kids₀)) (danglingIf N improving) (sliced N improving target kids₀) b
         ∙ none-dangling improving (sliced N improving target kids₀) d)
         (rw (s .is-rebuilt, s .is-tried)) (s .tree) (s .flags-are)
+
+  pub answered-number : (n : ℕ) → leafCount N ≡ n → (x : ℕ) → x ≡ treeNumber N improving n kids₀ → (x ≡ 0 → ⊥)
+      → Answered N improving target kids₀ flags₀ kids₀ flags₀ (Sliced.Refused x)
+  answered-number n q x e z =
+      by-cases (wrongTree n kids₀)
+      (λ w. subst (λ (k : ℕ). Answered N improving target kids₀ flags₀ kids₀ flags₀ (Sliced.Refused k))
+      (sym (e ∙ sym (number-wrong N improving n kids₀ w))) (answered-tree n q w))
+      (λ w. answered-late n q w x (e ∙ ap (λ (b : Bool). cond b 8 (lateNumber N improving kids₀)) w) z)
 
 -- ---- 7, and the rest ----
 

@@ -8,17 +8,13 @@ use lib.ListN.{length, getD, take}
 use lib.Seq.{ext-getD, length-take-le, getD-take}
 use borrow.Author.Tests.{eq-eqb}
 use Rattle.spec.specs.Lists.{range}
-use Rattle.spec.specs.Memory.{filled, over, copied}
-use Rattle.spec.specs.Layout.{networkOf}
+use Rattle.spec.specs.Memory.{over, copied}
 use Rattle.spec.specs.Network.{Network, leafCount, indexCount}
 use Rattle.spec.specs.Tree.{pairsOf, flatOf}
 use Rattle.spec.specs.Price.{upTo, listing, work}
-use Rattle.spec.specs.Calls.{plainWords, sliceWords, flagAt, wrongTree, isBeyond, totalIsBeyond, dangling, followUp}
+use Rattle.spec.specs.Calls.{plainWords, flagAt, wrongTree, isBeyond, totalIsBeyond, followUp}
 use Rattle.spec.specs.Slicing.{Plan, sliceLoop, slice}
 use Rattle.laws.specs.SliceCallLaws.{byte-back}
-use Rattle.cells.specs.Cells.{filled-length}
-use Rattle.network.specs.Checks.{Lent}
-use Rattle.network.specs.Codes.{Facts}
 use Rattle.nodesets.specs.Lists.{Ordered, ordered-steps}
 use Rattle.pricing.specs.Promise.{Room}
 use Rattle.pricing.specs.Sums.{workSum}
@@ -27,7 +23,6 @@ use Rattle.network.specs.Layouts.{map-range-at, map-range-length}
 use Rattle.ranks.specs.Promise.{planWith}
 use Rattle.slicing.specs.Turns.{Within}
 use Rattle.reconfigure.specs.Improves.{flat-pairs, over-all, tree-length, beyond-is}
-use Rattle.slicepasses.specs.Asks.{Asks}
 use Rattle.slicepasses.specs.Once.{exact-below}
 use Rattle.slicepasses.specs.Choices.{Stands}
 
@@ -106,31 +101,15 @@ module _ (N : Network) (improving : Bool) (n m target : ℕ) (kids₀ zeros : Li
         is-tried = ap (λ (p : Plan). p .tried) plan-is;
       }
 
--- ---- the local lists are long enough ----
+-- ---- the lists are long enough ----
 
-pub local-room : {n words : ℕ} {kids order : List ℕ} → n ≤ 128 → plainWords ≤ words → Ordered n kids order
-    → Room 4 n kids order words (length (filled {A = ℕ} 1024 0)) (length (filled {A = ℕ} 256 0)) (length (filled {A = ℕ} 256 0)) (length (filled {A = ℕ} 640 0))
+pub local-room : {n words : ℕ} {kids order : List ℕ} → n ≤ 128 → plainWords ≤ words → Ordered n kids order → Room 4 n kids order words 1024 256 256 640
 local-room few h o =
     let s = ordered-steps o in
     record {
       for-outside = omega (arith, s .numbers);
-      for-sets = omega (arith, s .numbers, filled-length {A = ℕ} 1024 0);
-      for-sizes = omega (arith, s .numbers, filled-length {A = ℕ} 256 0);
-      for-works = omega (arith, s .numbers, filled-length {A = ℕ} 256 0);
-      for-steps = omega (arith, s .steps, filled-length {A = ℕ} 640 0);
-    }
-
-pub local-asks : {m n o words : ℕ} {weights counts rows outputs : List ℕ} → Lent weights counts rows outputs → Facts m n o weights counts rows outputs
-    → dangling (networkOf m n o weights counts rows outputs) ≡ false → sliceWords true ≤ words
-    → Asks m n o words (length (filled {A = ℕ} 1024 0)) (length (filled {A = ℕ} 256 0)) (length (filled {A = ℕ} 256 0)) (length (filled {A = ℕ} 640 0)) weights counts rows outputs
-local-asks l f d h =
-    record {
-      lent = l;
-      facts = f;
-      closed = d;
-      for-words = h;
-      for-sets = omega (arith, filled-length {A = ℕ} 1024 0);
-      for-sizes = omega (arith, filled-length {A = ℕ} 256 0);
-      for-works = omega (arith, filled-length {A = ℕ} 256 0);
-      for-steps = omega (arith, filled-length {A = ℕ} 640 0);
+      for-sets = omega (arith, s .numbers);
+      for-sizes = omega (arith, s .numbers);
+      for-works = omega (arith, s .numbers);
+      for-steps = omega (arith, s .steps);
     }

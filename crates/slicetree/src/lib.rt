@@ -10,7 +10,7 @@ ghost use Rattle.network.specs.Record.{netOf};
 ghost use Rattle.network.specs.Checks.{Lent};
 ghost use Rattle.network.specs.Codes.{Facts};
 ghost use Rattle.slicetree.specs.Clear.{SlicedTo};
-ghost use Rattle.slicetree.specs.Answers.{slicedOf, lateNumber, Answered, Answers};
+ghost use Rattle.slicetree.specs.Answers.{slicedOf, treeNumber, Answered, Slices};
 use network::Network;
 use network::checks;
 use network::refusal;
@@ -29,8 +29,8 @@ fn stated(improving: bool) -> usize
     if improving { 6144 } else { 4096 }
 }
 
-// The number of the refusal of an unsliced total or, with improvement, of a dangling index, and 0 for neither.
-fn late_number<'a>(
+// The number of the refusal of a tree, of its unsliced total or, with improvement, of a dangling index, and 0 for none.
+fn tree_number<'a>(
     ws: &mut [u64],
     m: usize,
     n: usize,
@@ -42,9 +42,12 @@ fn late_number<'a>(
     improving: bool,
     tree: &[u16],
 ) -> u8
-    requires { ⌜ Lent (now weights) (now counts) (now legs) (now outputs) × Facts m n o (now weights) (now counts) (now legs) (now outputs) × (plainWords ≤ length (now ws)) × (wrongTree n (now tree) ≡ false) ⌝ }
-    ensures { λ r. ⌜ r ≡ lateNumber (networkOf m n o (now (weights .entry)) (now (counts .entry)) (now (legs .entry)) (now (outputs .entry))) improving (now (tree .entry)) ⌝ }
+    requires { ⌜ Lent (now weights) (now counts) (now legs) (now outputs) × Facts m n o (now weights) (now counts) (now legs) (now outputs) × (plainWords ≤ length (now ws)) ⌝ }
+    ensures { λ r. ⌜ r ≡ treeNumber (networkOf m n o (now (weights .entry)) (now (counts .entry)) (now (legs .entry)) (now (outputs .entry))) improving n (now (tree .entry)) ⌝ }
 {
+    if !walk::is_tree(tree, n, ws) {
+        return refusal::INVALID_TREE;
+    }
     let clear = [0u8; 256];
     let mut sets = [0u64; 1020];
     let mut sizes = [0u16; 255];
@@ -94,20 +97,11 @@ fn slice_as_is<'a>(
     ensures { λ _. ⌜ SlicedTo (networkOf m n o (now (weights .entry)) (now (counts .entry)) (now (legs .entry)) (now (outputs .entry))) false target (now (tree .entry)) (now (flags .entry)) (now (tree .entry)) (now (flags .exit)) 0 0 ⌝ }
 {
     let mut order = [0u16; 128];
-    let mut sets = [0u64; 1024];
-    let mut sizes = [0u16; 256];
-    let mut works = [0u16; 256];
-    let mut steps = [0u16; 640];
     let mut sliced = [0u8; 256];
     let c = walk::post_order(tree, n, ws, &mut order);
     slicing::slice(
         ws,
-        &mut sets,
-        &mut sizes,
-        &mut works,
-        &mut steps,
         &mut sliced,
-        4,
         m,
         n,
         o,
@@ -139,17 +133,9 @@ fn slice_improved<'a>(
     requires { ⌜ Lent (now weights) (now counts) (now legs) (now outputs) × Facts m n o (now weights) (now counts) (now legs) (now outputs) × (sliceWords true ≤ length (now ws)) × (wrongTree n (now tree) ≡ false) × (totalIsBeyond (networkOf m n o (now weights) (now counts) (now legs) (now outputs)) (λ j. false) (pairsOf (now tree)) ≡ false) × (dangling (networkOf m n o (now weights) (now counts) (now legs) (now outputs)) ≡ false) ⌝ }
     ensures { λ r. ⌜ SlicedTo (networkOf m n o (now (weights .entry)) (now (counts .entry)) (now (legs .entry)) (now (outputs .entry))) true target (now (tree .entry)) (now (flags .entry)) (now (tree .exit)) (now (flags .exit)) (r .rebuilt) (r .tried) ⌝ }
 {
-    let mut sets = [0u64; 1024];
-    let mut sizes = [0u16; 256];
-    let mut works = [0u16; 256];
-    let mut steps = [0u16; 640];
     let mut sliced = [0u8; 256];
     let d = slicepasses::slice(
         ws,
-        &mut sets,
-        &mut sizes,
-        &mut works,
-        &mut steps,
         tree,
         &mut sliced,
         m,
@@ -183,12 +169,9 @@ fn slice_checked<'a>(
     requires { ⌜ Lent (now weights) (now counts) (now legs) (now outputs) × Facts m n o (now weights) (now counts) (now legs) (now outputs) × (sliceWords improving ≤ length (now ws)) ⌝ }
     ensures { λ r. ⌜ Answered (networkOf m n o (now (weights .entry)) (now (counts .entry)) (now (legs .entry)) (now (outputs .entry))) improving target (now (tree .entry)) (now (flags .entry)) (now (tree .exit)) (now (flags .exit)) r ⌝ }
 {
-    if !walk::is_tree(tree, n, ws) {
-        return Sliced::Refused(refusal::INVALID_TREE);
-    }
-    let late = late_number(ws, m, n, o, weights, counts, legs, outputs, improving, tree);
-    if late != refusal::NONE {
-        return Sliced::Refused(late);
+    let k = tree_number(ws, m, n, o, weights, counts, legs, outputs, improving, tree);
+    if k != refusal::NONE {
+        return Sliced::Refused(k);
     }
     if improving {
         let d = slice_improved(
@@ -228,8 +211,8 @@ fn slice_checked<'a>(
     }
 }
 
-// The answer where the network is accepted.
-fn slice_in<'a>(
+// The answer on lists that a record holds, the network's own check first.
+fn slice_of<'a>(
     m: usize,
     n: usize,
     o: usize,
@@ -243,9 +226,13 @@ fn slice_in<'a>(
     flags: &mut [u8],
     ws: &mut [u64],
 ) -> Sliced
-    requires { ⌜ Lent (now weights) (now counts) (now legs) (now outputs) × Facts m n o (now weights) (now counts) (now legs) (now outputs) ⌝ }
-    ensures { λ r. ⌜ Answers (networkOf m n o (now (weights .entry)) (now (counts .entry)) (now (legs .entry)) (now (outputs .entry))) improving target (now (tree .entry)) (now (flags .entry)) (now (ws .entry)) (now (tree .exit)) (now (flags .exit)) (now (ws .exit)) r ⌝ }
+    requires { ⌜ Lent (now weights) (now counts) (now legs) (now outputs) ⌝ }
+    ensures { λ r. ⌜ Slices (networkOf m n o (now (weights .entry)) (now (counts .entry)) (now (legs .entry)) (now (outputs .entry))) improving target (now (tree .entry)) (now (flags .entry)) (now (ws .entry)) (now (tree .exit)) (now (flags .exit)) (now (ws .exit)) r ⌝ }
 {
+    let k = checks::number(m, n, o, weights, counts, legs, outputs);
+    if k != refusal::NONE {
+        return Sliced::Refused(k);
+    }
     let words = stated(improving);
     if ws.len() < words {
         return Sliced::Refused(refusal::SHORT_BUFFER);
@@ -289,19 +276,7 @@ pub fn slice_tree(
     let m = network.index_count;
     let n = network.leaf_count;
     let o = network.output_count;
-    let k = checks::number(
-        m,
-        n,
-        o,
-        &network.weights,
-        &network.leg_counts,
-        &network.legs,
-        &network.outputs,
-    );
-    if k != refusal::NONE {
-        return Sliced::Refused(k);
-    }
-    slice_in(
+    slice_of(
         m,
         n,
         o,

@@ -76,14 +76,13 @@ module _ {W m n o : ℕ} {weights counts rows outputs kids order : List ℕ} (p 
           exact = omega (arith, e, total-is);
         }
 
--- lists of the same lengths
-pub same-room : {W n : ℕ} {kids order : List ℕ} {a b c d e : ℕ} (a′ b′ c′ d′ e′ : ℕ) → Room W n kids order a b c d e
-    → a′ ≡ a → b′ ≡ b → c′ ≡ c → d′ ≡ d → e′ ≡ e → Room W n kids order a′ b′ c′ d′ e′
-same-room a′ b′ c′ d′ e′ r p q s t u =
+-- words of the same length
+pub same-room : {W n : ℕ} {kids order : List ℕ} {a b c d e : ℕ} (a′ : ℕ) → Room W n kids order a b c d e → a′ ≡ a → Room W n kids order a′ b c d e
+same-room a′ r p =
     record {
       for-outside = rw p (r .for-outside);
-      for-sets = rw q (r .for-sets);
-      for-sizes = rw s (r .for-sizes);
-      for-works = rw t (r .for-works);
-      for-steps = rw u (r .for-steps);
+      for-sets = r .for-sets;
+      for-sizes = r .for-sizes;
+      for-works = r .for-works;
+      for-steps = r .for-steps;
     }

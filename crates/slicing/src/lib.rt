@@ -66,12 +66,7 @@ fn flag(flags: &mut [u8], best: Best) -> bool
 // Prices the tree, and flags one index more, unless the widest table is within the target or no candidate is left. Was one flagged.
 pub fn turn(
     outside: &mut [u64],
-    sets: &mut [u64],
-    sizes: &mut [u16],
-    works: &mut [u16],
-    steps: &mut [u16],
     flags: &mut [u8],
-    w: usize,
     m: usize,
     n: usize,
     o: usize,
@@ -83,16 +78,20 @@ pub fn turn(
     order: &[u16],
     target: u16,
 ) -> bool
-    requires { ⌜ Priceable w m n o (now weights) (now counts) (now legs) (now outputs) (now kids) (now order) × Room w n (now kids) (now order) (length (now outside)) (length (now sets)) (length (now sizes)) (length (now works)) (length (now steps)) × Within (networkOf m n o (now weights) (now counts) (now legs) (now outputs)) (now kids) (now flags) ⌝ }
+    requires { ⌜ Priceable 4 m n o (now weights) (now counts) (now legs) (now outputs) (now kids) (now order) × Room 4 n (now kids) (now order) (length (now outside)) 1024 256 256 640 × Within (networkOf m n o (now weights) (now counts) (now legs) (now outputs)) (now kids) (now flags) ⌝ }
     ensures { λ r. ⌜ Turned (networkOf m n o (now (weights .entry)) (now (counts .entry)) (now (legs .entry)) (now (outputs .entry))) target (now (kids .entry)) (now (flags .entry)) (now (flags .exit)) r ⌝ }
 {
+    let mut sets = [0u64; 1024];
+    let mut sizes = [0u16; 256];
+    let mut works = [0u16; 256];
+    let mut steps = [0u16; 640];
     let p = pricing::price(
         outside,
-        sets,
-        sizes,
-        works,
-        steps,
-        w,
+        &mut sets,
+        &mut sizes,
+        &mut works,
+        &mut steps,
+        4,
         m,
         n,
         o,
@@ -111,10 +110,10 @@ pub fn turn(
     }
     let total = exact(handed);
     let best = ranks::choose(
-        sets,
-        sizes,
-        works,
-        w,
+        &sets,
+        &sizes,
+        &works,
+        4,
         m,
         n,
         o,
@@ -132,12 +131,7 @@ pub fn turn(
 // Slices the tree as it is.
 pub fn slice(
     outside: &mut [u64],
-    sets: &mut [u64],
-    sizes: &mut [u16],
-    works: &mut [u16],
-    steps: &mut [u16],
     flags: &mut [u8],
-    w: usize,
     m: usize,
     n: usize,
     o: usize,
@@ -149,18 +143,13 @@ pub fn slice(
     order: &[u16],
     target: u16,
 )
-    requires { ⌜ Priceable w m n o (now weights) (now counts) (now legs) (now outputs) (now kids) (now order) × Room w n (now kids) (now order) (length (now outside)) (length (now sets)) (length (now sizes)) (length (now works)) (length (now steps)) × Within (networkOf m n o (now weights) (now counts) (now legs) (now outputs)) (now kids) (now flags) ⌝ }
+    requires { ⌜ Priceable 4 m n o (now weights) (now counts) (now legs) (now outputs) (now kids) (now order) × Room 4 n (now kids) (now order) (length (now outside)) 1024 256 256 640 × Within (networkOf m n o (now weights) (now counts) (now legs) (now outputs)) (now kids) (now flags) ⌝ }
     ensures { λ r. ⌜ Sliced (networkOf m n o (now (weights .entry)) (now (counts .entry)) (now (legs .entry)) (now (outputs .entry))) target (now (kids .entry)) (now (flags .entry)) m (now (flags .exit)) ⌝ }
 {
     for k in 0..m {
         if !turn(
             outside,
-            sets,
-            sizes,
-            works,
-            steps,
             flags,
-            w,
             m,
             n,
             o,

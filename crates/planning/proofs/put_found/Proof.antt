@@ -9,10 +9,13 @@ use Rattle.spec.specs.Program.{program}
 use Rattle.spec.specs.Calls.{treePlaces}
 use lib.Seq.{length-take-le}
 use lib.ListN.{length-take, take}
-use native.Mathlib.Omega.{arith}
 use Prim.Native.Nat.{ℕ, _+_, _-_, _≤_}
 use mathlib.Core.Path.{_≡_, refl, ap, _∙_}
 use lib.ListN.{length}
+use native.Mathlib.Omega.{arith}
+use Prim.Native.Nat.{ℕ, _+_, _-_, _*_, _<_, _≤_}
+use mathlib.Core.Path.{_≡_, refl, sym, ap, _∙_, subst}
+use lib.ListN.{length, getD, set, length-set}
 use Rattle.planning.proofs.put_found.Statement.{statement}
 use Rattle.planning.proofs.put_found.Tie as tie
 
@@ -28,11 +31,8 @@ slice-relend-prefix-put-planned c = omega (arith, c .less .ensures, few-counts (
 slice-aggregate-put-planned : tie.Need-slice-aggregate-put-planned
 slice-aggregate-put-planned c = simp length-take (omega (arith, c .before .less .ensures, few-counts (c .before .before .before .before .before .args .network) (c .before .before .before .before .before .pre .ok) .0, c .before .before .before .before .before .pre .treeRoom))
 
-slice-aggregate-put-planned-2 : tie.Need-slice-aggregate-put-planned-2
-slice-aggregate-put-planned-2 c = search needs
-
 put-planned-requires : tie.Need-put-planned-requires
-put-planned-requires c κs = let d = c .before .before .before .before .before .before .before .before in let a = d .args in let k = c .before .before .before .before .less .result in let e : k + k ≤ length (a .tree .now) = omega (arith, c .before .before .before .before .less .ensures, few-counts (a .network) (d .pre .ok) .0, d .pre .treeRoom) in (found-ready (d .pre) refl, d .pre .flagsHeld, found-flags (d .pre), length-take-le (k + k) (a .tree .now) e ∙ omega (arith, c .before .before .before .before .less .ensures, leaf-count (a .network)))
+put-planned-requires c κs = let d = c .before .before .before .before .before .before .before in let a = d .args in let k = c .before .before .before .less .result in let e : k + k ≤ length (a .tree .now) = omega (arith, c .before .before .before .less .ensures, few-counts (a .network) (d .pre .ok) .0, d .pre .treeRoom) in (found-ready (d .pre), d .pre .flagsHeld, found-flags (d .pre), length-take-le (k + k) (a .tree .now) e ∙ omega (arith, c .before .before .before .less .ensures, leaf-count (a .network)))
 
 same-length : tie.Need-same-length
 same-length c = search needs
@@ -44,7 +44,7 @@ same-length-3 : tie.Need-same-length-3
 same-length-3 c = search needs
 
 returns : tie.Need-returns
-returns c = let d = c .before .before .before .before .before .before .before .before .before .before .before .before .before .before .before .before in let a = d .args in let k = c .before .before .before .before .before .before .before .before .before .before .before .before .less .result in let e : k + k ≡ treePlaces (netOf (a .network)) = omega (arith, c .before .before .before .before .before .before .before .before .before .before .before .before .less .ensures, leaf-count (a .network)) in (written-as (ap (λ (x : ℕ). outputOf (program (netOf (a .network)) (givenTree (a .found .tree) (take x (a .tree .now))) (askHanded (a .found .ask) (a .flags .now)))) e) (c .before .before .before .before .before .before .before .put-planned .ensures .0), c .before .before .before .before .before .before .before .put-planned .ensures .1)
+returns c = let d = c .before .before .before .before .before .before .before .before .before .before .before .before .before .before in let a = d .args in let k = c .before .before .before .before .before .before .before .before .before .before .less .result in let e : k + k ≡ treePlaces (netOf (a .network)) = omega (arith, c .before .before .before .before .before .before .before .before .before .before .less .ensures, leaf-count (a .network)) in (written-as (ap (λ (x : ℕ). outputOf (program (netOf (a .network)) (givenTree (a .found .tree) (take x (a .tree .now))) (askHanded (a .found .ask) (a .flags .now)))) e) (c .before .before .before .before .before .before .put-planned .ensures .0), c .before .before .before .before .before .before .put-planned .ensures .1)
 
 pub put-found-spec : {M : Type 1} → statement M
 put-found-spec =
@@ -54,7 +54,6 @@ put-found-spec =
     add-places
     slice-relend-prefix-put-planned
     slice-aggregate-put-planned
-    slice-aggregate-put-planned-2
     put-planned-requires
     same-length
     same-length-2

@@ -2,6 +2,10 @@
 use borrow.Author.Needs.{needs}
 use Rattle.planning.specs.Slices.{stands-plain, stands-flagged}
 use Prim.Native.Nat.{_-_}
+use native.Mathlib.Omega.{arith}
+use Prim.Native.Nat.{ℕ, _+_, _-_, _*_, _<_, _≤_}
+use mathlib.Core.Path.{_≡_, refl, sym, ap, _∙_, subst}
+use lib.ListN.{length, getD, set, length-set}
 use Rattle.planning.proofs.sliced.Statement.{statement}
 use Rattle.planning.proofs.sliced.Tie as tie
 
@@ -15,13 +19,13 @@ enum-known-ask : tie.Need-enum-known-ask
 enum-known-ask c = search needs
 
 slice-to-requires : tie.Need-slice-to-requires
-slice-to-requires c κs = (c .before .before .before .before .before .before .before .before .before .pre .0, c .before .before .before .before .before .before .before .before .before .pre .1)
+slice-to-requires c κs = (c .before .before .before .before .before .before .before .pre .0, c .before .before .before .before .before .before .before .pre .1)
 
 returns : tie.Need-returns
-returns c = stands-plain (c .before .before .before .before .before .pre .1) (c .enum-told .given .1) (c .before .before .before .before .before .pre .2)
+returns c = stands-plain (c .before .before .before .before .pre .1) (c .enum-told .given .1) (c .before .before .before .before .pre .2)
 
 returns-2 : tie.Need-returns-2
-returns-2 c = stands-flagged (c .before .before .before .before .before .pre .1) (c .enum-told2 .given .1) (c .before .before .before .before .before .pre .2)
+returns-2 c = stands-flagged (c .before .before .before .before .pre .1) (c .enum-told2 .given .1) (c .before .before .before .before .pre .2)
 
 same-length : tie.Need-same-length
 same-length c = search needs
@@ -29,11 +33,8 @@ same-length c = search needs
 same-length-2 : tie.Need-same-length-2
 same-length-2 c = search needs
 
-same-length-3 : tie.Need-same-length-3
-same-length-3 c = search needs
-
 returns-3 : tie.Need-returns-3
-returns-3 c = rw (c .before .before .before .before .before .before .before .before .before .before .before .ask .given .1) (c .before .before .before .before .before .before .slice-to .ensures)
+returns-3 c = rw (c .before .before .before .before .before .before .before .before .ask .given .1) (c .before .before .before .before .slice-to .ensures)
 
 pub sliced-spec : {M : Type 1} → statement M
 sliced-spec =
@@ -47,5 +48,4 @@ sliced-spec =
     returns-2
     same-length
     same-length-2
-    same-length-3
     returns-3)

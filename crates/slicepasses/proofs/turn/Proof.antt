@@ -1,10 +1,12 @@
 -- Assumes nothing.
 use borrow.Author.Needs.{needs}
+use borrow.Author.Tests.{not-true, not-false}
 use Rattle.spec.specs.Memory.{filled}
 use Rattle.spec.specs.Tree.{stepOrder}
 use Rattle.walk.specs.Order.{order-length}
 use Rattle.cost.specs.Checks.{order-front, front-length}
-use Rattle.slicepasses.specs.Asks.{same-asks}
+use Rattle.slicepasses.specs.Choices.{choice-none, choice-made, within-next}
+use Rattle.slicepasses.specs.Asks.{asks-priceable, asks-room, same-asks}
 use native.Mathlib.Omega.{arith}
 use Prim.Native.Nat.{ℕ, _+_, _-_, _*_, _<_, _≤_}
 use mathlib.Core.Path.{_≡_, refl, sym, ap, _∙_, subst}
@@ -21,13 +23,13 @@ post-order-requires c κs = search needs
 array-share-prefix-order : tie.Need-array-share-prefix-order
 array-share-prefix-order c = search needs
 
-slice-aggregate-choose-once : tie.Need-slice-aggregate-choose-once
+slice-aggregate-turn : tie.Need-slice-aggregate-turn
 unfolding filled
-slice-aggregate-choose-once c = let d = c .before .before .before .before .before .before .before .before .before .before .before .before .before .before .before .before .before .before .before .before .before .before .before .before .before .before in let a = d .args in front-length (filled 128 0) (c .before .before .before .before .before .before .before .before .before .before .before .post-order .last .1 .1 .1 .0) (stepOrder (a .kids .now) (a .n)) (c .before .before .before .before .before .before .before .before .before .before .before .post-order .result) (c .before .before .before .before .before .before .before .before .before .before .before .post-order .ensures .1) (order-length (a .kids .now) (a .n) (d .pre .1 .right) ∙ sym (c .before .before .before .before .before .before .before .before .before .before .before .post-order .ensures .0)) (omega (arith, c .before .before .before .before .before .before .before .before .before .before .before .post-order .ensures .0, d .pre .0 .facts .fewLeaves))
+slice-aggregate-turn c = let d = c .before .before .before .before .before .before .before .before .before .before .before .before .before .before .before .before .before .before in let a = d .args in let p = c .before .before .before .before .before .before .before .post-order in front-length (filled 128 0) (p .last .1 .1 .1 .0) (stepOrder (a .kids .now) (a .n)) (p .result) (p .ensures .1) (order-length (a .kids .now) (a .n) (d .pre .1 .right) ∙ sym (p .ensures .0)) (omega (arith, p .ensures .0, d .pre .0 .facts .fewLeaves))
 
-choose-once-requires : tie.Need-choose-once-requires
+turn-requires : tie.Need-turn-requires
 unfolding filled
-choose-once-requires c κs = let d = c .before .before .before .before .before .before .before .before .before .before .before .before .before .before .before .before .before .before .before .before .before .before .before .before .before .before in let a = d .args in (same-asks (d .pre .0) _ _ _ _ _ (c .before .before .before .before .before .before .before .before .before .before .before .post-order .kept .1 .1 .0) refl refl refl refl, d .pre .1, order-front (filled 128 0) (c .before .before .before .before .before .before .before .before .before .before .before .post-order .last .1 .1 .1 .0) (stepOrder (a .kids .now) (a .n)) (c .before .before .before .before .before .before .before .before .before .before .before .post-order .result) (c .before .before .before .before .before .before .before .before .before .before .before .post-order .ensures .1) (order-length (a .kids .now) (a .n) (d .pre .1 .right) ∙ sym (c .before .before .before .before .before .before .before .before .before .before .before .post-order .ensures .0)) (omega (arith, c .before .before .before .before .before .before .before .before .before .before .before .post-order .ensures .0, d .pre .0 .facts .fewLeaves)))
+turn-requires c κs = let d = c .before .before .before .before .before .before .before .before .before .before .before .before .before .before .before .before .before .before in let a = d .args in let p = c .before .before .before .before .before .before .before .post-order in let q = same-asks (d .pre .0) _ (p .kept .1 .1 .0) in let e = order-front (filled 128 0) (p .last .1 .1 .1 .0) (stepOrder (a .kids .now) (a .n)) (p .result) (p .ensures .1) (order-length (a .kids .now) (a .n) (d .pre .1 .right) ∙ sym (p .ensures .0)) (omega (arith, p .ensures .0, d .pre .0 .facts .fewLeaves)) in (asks-priceable q (d .pre .1 .right) e, asks-room q (d .pre .1 .right) e, d .pre .1 .within)
 
 same-length : tie.Need-same-length
 same-length c = search needs
@@ -38,6 +40,12 @@ same-length-2 c = search needs
 same-length-3 : tie.Need-same-length-3
 same-length-3 c = search needs
 
+returns : tie.Need-returns
+returns c = choice-none (c .before .before .before .before .before .before .before .before .before .before .before .before .before .before .before .before .before .before .before .before .before .before .before .before .pre .1) (c .before .before .before .before .before .turn .ensures) (not-true (c .before .before .before .before .before .turn .result) (c .if1 .taken))
+
+improve-once-requires : tie.Need-improve-once-requires
+improve-once-requires c κs = let d = c .before .before .before .before .before .before .before .before .before .before .before .before .before .before .before .before .before .before .before .before .before .before .before .before .before .before .before in (same-asks (d .pre .0) _ (c .before .before .before .before .before .before .before .before .turn .kept .0 ∙ c .before .before .before .before .before .before .before .before .before .before .before .before .before .before .before .before .post-order .kept .1 .1 .0), record { right = d .pre .1 .right; within = within-next (d .pre .1) (c .before .before .before .before .before .before .before .before .turn .ensures) (not-false (c .before .before .before .before .before .before .before .before .turn .result) (c .before .before .before .if1 .left)) })
+
 same-length-4 : tie.Need-same-length-4
 same-length-4 c = search needs
 
@@ -47,11 +55,8 @@ same-length-5 c = search needs
 same-length-6 : tie.Need-same-length-6
 same-length-6 c = search needs
 
-same-length-7 : tie.Need-same-length-7
-same-length-7 c = search needs
-
-returns : tie.Need-returns
-returns c = search needs
+returns-2 : tie.Need-returns-2
+returns-2 c = choice-made (c .before .before .before .before .before .before .before .before .before .before .before .before .before .before .before .before .before .before .before .before .before .before .before .before .before .before .before .before .before .before .before .before .pre .1) (c .before .before .before .before .before .before .before .before .before .before .before .before .before .turn .ensures) (not-false (c .before .before .before .before .before .before .before .before .before .before .before .before .before .turn .result) (c .before .before .before .before .before .before .before .before .if1 .left)) (c .before .before .before .before .improve-once .ensures)
 
 pub turn-spec : {M : Type 1} → statement M
 turn-spec =
@@ -60,13 +65,14 @@ turn-spec =
     slice-aggregate-post-order
     post-order-requires
     array-share-prefix-order
-    slice-aggregate-choose-once
-    choose-once-requires
+    slice-aggregate-turn
+    turn-requires
     same-length
     same-length-2
     same-length-3
+    returns
+    improve-once-requires
     same-length-4
     same-length-5
     same-length-6
-    same-length-7
-    returns)
+    returns-2)
