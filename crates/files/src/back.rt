@@ -1,5 +1,4 @@
 // Writes what was read, into a buffer that is one byte short and into one with room to spare.
-use crate::say;
 use crate::sums;
 use cells::get8;
 use cells::less;
@@ -48,7 +47,7 @@ fn holds(buffer: &[u8], cursor: usize, file: &[u8], end: usize) -> bool {
 fn say_room(answer: Written, buffer: &[u8]) {
     match answer {
         Written::Refused(number) => {
-            say::number(b" room ", number as u64);
+            stored::number(b" room ", number as u64);
         }
         Written::Done(_) => {
             io::write_all(1, b" room done");
@@ -63,7 +62,7 @@ fn say_room(answer: Written, buffer: &[u8]) {
 fn say_written(answer: Written, buffer: &[u8], cursor: usize, file: &[u8]) {
     match answer {
         Written::Refused(number) => {
-            say::number(b" written refused ", number as u64);
+            stored::number(b" written refused ", number as u64);
         }
         Written::Done(end) => {
             if holds(buffer, cursor, file, end) {

@@ -3,12 +3,7 @@ use netfile::Ask;
 use netfile::Found;
 use netfile::Tree;
 use network::Network;
-
-// A word, then a number.
-pub fn number(word: &[u8], n: u64) {
-    io::write_all(1, word);
-    io::print_decimal(1, n);
-}
+use stored::number;
 
 pub fn refused(code: u8, sum: u64) {
     number(b"refused ", code as u64);

@@ -2,6 +2,7 @@
 // The form of input and output is stated in harness/src/tree_record.rs, which makes both.
 use cells::min;
 use netfile::Answer;
+use netfile::Reading;
 use network::Network;
 use tree::Ordered;
 use tree::Same;
@@ -77,11 +78,8 @@ fn next_trees(network: Network) {
     run(network, &tree[..places], &other[..others]);
 }
 
-// Reads so many bytes from standard input as a network file, and goes on with its network.
-fn take(bytes: &mut [u8], count: usize) {
-    let mut tree = [0u16; 254];
-    let mut flags = [0u8; 256];
-    let reading = stored::read(bytes, count, &mut tree, &mut flags);
+// The refusal of a network file, or what its network's trees answer.
+fn tell(reading: Reading) {
     let answer = reading.answer;
     match answer {
         Answer::Refused(refusal) => stored::number(b"file refused ", refusal as u64),
@@ -90,6 +88,14 @@ fn take(bytes: &mut [u8], count: usize) {
             next_trees(network);
         }
     }
+}
+
+// Reads so many bytes from standard input as a network file, and goes on with what was read.
+fn take(bytes: &mut [u8], count: usize) {
+    let mut tree = [0u16; 254];
+    let mut flags = [0u8; 256];
+    let reading = stored::read(bytes, count, &mut tree, &mut flags);
+    tell(reading);
     io::write_all(1, b"\n");
 }
 

@@ -1,6 +1,8 @@
 -- Assumes nothing.
 use borrow.Author.Needs.{needs}
 use native.Mathlib.Omega.{arith}
+use Prim.Native.Nat.{ℕ, _+_, _-_, _*_, _<_, _≤_}
+use mathlib.Core.Path.{_≡_, refl, sym, ap, _∙_, subst}
 use lib.ListN.{length-take}
 use Rattle.files.proofs.lend.Statement.{statement}
 use Rattle.files.proofs.lend.Tie as tie
@@ -11,26 +13,20 @@ min-requires c κs = search needs
 min-requires-2 : tie.Need-min-requires-2
 min-requires-2 c κs = search needs
 
-slice-relend-prefix-run : tie.Need-slice-relend-prefix-run
-slice-relend-prefix-run c = search needs
+array-borrow-prefix-tree : tie.Need-array-borrow-prefix-tree
+array-borrow-prefix-tree c = search needs
 
 slice-aggregate-run : tie.Need-slice-aggregate-run
 slice-aggregate-run c = simp length-take (omega arith)
 
-slice-relend-prefix-run-2 : tie.Need-slice-relend-prefix-run-2
-slice-relend-prefix-run-2 c = search needs
+array-borrow-prefix-flags : tie.Need-array-borrow-prefix-flags
+array-borrow-prefix-flags c = search needs
 
 slice-aggregate-run-2 : tie.Need-slice-aggregate-run-2
 slice-aggregate-run-2 c = simp length-take (omega arith)
 
 run-requires : tie.Need-run-requires
 run-requires c κs = search needs
-
-same-length : tie.Need-same-length
-same-length c = search needs
-
-same-length-2 : tie.Need-same-length-2
-same-length-2 c = search needs
 
 returns : tie.Need-returns
 returns c = search needs
@@ -41,11 +37,9 @@ lend-spec =
     (tie.spec
     min-requires
     min-requires-2
-    slice-relend-prefix-run
+    array-borrow-prefix-tree
     slice-aggregate-run
-    slice-relend-prefix-run-2
+    array-borrow-prefix-flags
     slice-aggregate-run-2
     run-requires
-    same-length
-    same-length-2
     returns)
