@@ -1,13 +1,12 @@
 -- Bisection of all leaves of a network, from bisection of a list of leaves. Assumes nothing.
 use mathlib.Core.Bool.{Bool}
 use mathlib.Core.Path.{_≡_, refl, sym, _∙_, ap, ap₂, subst}
-use mathlib.Core.List.{List, [], _∷_}
+use mathlib.Core.List.{List, []}
 use Prim.Native.Nat.{ℕ, _+_, _-_, _≤_, _<_, min}
 use native.Mathlib.Omega.{arith}
 use lib.Ieee.{Float}
-use native.Mathlib.Decide.{decLe}
-use lib.ListN.{length, getD, take, drop, length-drop, List·getD-eq-default}
-use lib.Seq.{ext-getD, getD-take, length-take-le, take-append-seam}
+use lib.ListN.{length, take, drop, length-drop}
+use lib.Seq.{length-take-le, take-append-seam}
 use borrow.Author.Tests.{le-ltb}
 use Rattle.spec.specs.Lists.{memb, count, range}
 use Rattle.spec.specs.Memory.{over, copied}
@@ -25,10 +24,11 @@ use Rattle.network.specs.Layouts.{layout-leaf-count}
 use Rattle.network.specs.Checks.{Lent}
 use Rattle.network.specs.Codes.{Facts}
 use Rattle.slots.specs.Weigh.{Light}
-use Rattle.start.specs.Leaves.{putAll, put-length, put-at}
+use Rattle.start.specs.Leaves.{putAll}
 use Rattle.draws.specs.Cursor.{wordsAt}
 use Rattle.greedynodes.specs.Lends.{lends-layout}
-use Rattle.greedynodes.specs.Begin.{range-at, Fits, Asks}
+use Rattle.greedynodes.specs.Begin.{Fits, Asks}
+use Rattle.greedynodes.specs.Counted.{counted-range, nothing-over, light-front}
 use Rattle.bisection.specs.Calls.{names-of}
 use Rattle.bisection.specs.Named.{Named}
 use Rattle.halving.specs.Cases.{halved, refusalAt, Halves, isOff, isTree}
@@ -38,27 +38,6 @@ pub data Whole (N : Network) (i cutoff : ℕ) (words kids₀ kids : List ℕ) (t
   isRefused : 65536 ≤ top → bisection N i cutoff words ≡ refused (refusalAt top) → Whole N i cutoff words kids₀ kids top next
   isPlan : top < 65536 → (a : List Pair) → bisection N i cutoff words ≡ done (record { pairs = a; taken = min next (length words) })
       → kids ≡ over kids₀ (flatOf a) → length a ≡ leafCount N - 1 → Whole N i cutoff words kids₀ kids top next
-
--- the numbers that are counted up are the range
-counted-range : (l : List ℕ) (n : ℕ) → n ≤ length l → take n (putAll (λ i. i) l n) ≡ range n
-counted-range l n h =
-    let e : length (take n (putAll (λ i. i) l n)) ≡ n = length-take-le n (putAll (λ i. i) l n) (omega (arith, put-length (λ i. i) l n)) in
-    ext-getD 0 (take n (putAll (λ i. i) l n)) (range n) (e ∙ sym (range-length 0 n)) (λ i b.
-    getD-take n (putAll (λ i. i) l n) i 0 (omega (arith, e)) ∙ put-at (λ i. i) l n i (omega (arith, e)) (omega (arith, e))
-    ∙ sym (range-at 0 n i (omega (arith, e)) ∙ omega arith))
-
-nothing-over : (l : List ℕ) → l ≡ over l []
-unfolding over
-nothing-over [] = refl
-nothing-over (x ∷ l) = refl
-
--- a weight past the front is 0
-light-front : (m : ℕ) (weights : List ℕ) → m ≤ length weights → ((j : ℕ) → j < m → getD weights j 0 ≤ 8) → Light (take m weights)
-light-front m weights h f j =
-    elim (decLe m j) [
-      | yes q ↦ omega (arith, List·getD-eq-default (take m weights) 0 (let z : length (take m weights) ≤ j = omega (arith, length-take-le m weights h) in z))
-      | no q ↦ omega (arith, getD-take m weights j 0 (omega arith), f j (omega arith))
-    ]
 
 -- the children are copied out
 pub copied-out : (tree kids₀ kids : List ℕ) (a : List Pair) (places : ℕ) → kids ≡ over kids₀ (flatOf a) → places ≡ length (flatOf a) → places ≤ length kids₀

@@ -1,11 +1,10 @@
 -- Greedy over all leaves of a network, from greedy over a list of leaves. Assumes nothing.
 use mathlib.Core.Path.{_≡_, refl, sym, _∙_, ap, subst}
-use mathlib.Core.List.{List, [], _∷_}
+use mathlib.Core.List.{List, []}
 use Prim.Native.Nat.{ℕ, _-_, _*_, _≤_, _<_}
 use native.Mathlib.Omega.{arith}
-use native.Mathlib.Decide.{decLe}
-use lib.ListN.{length, getD, take, List·getD-eq-default}
-use lib.Seq.{ext-getD, getD-take, length-take-le}
+use lib.ListN.{length, take}
+use lib.Seq.{length-take-le}
 use Rattle.spec.specs.Lists.{memb, count, range}
 use Rattle.spec.specs.Memory.{over}
 use Rattle.spec.specs.Layout.{networkOf}
@@ -22,9 +21,10 @@ use Rattle.network.specs.Codes.{Facts}
 use Rattle.slots.specs.Weigh.{Light}
 use Rattle.parts.specs.Parts.{part, back, low, low-length, part-length, part-front, back-there, back-after}
 use Rattle.parts.specs.Lists.{nodesIn, frontIn, kidsIn}
-use Rattle.start.specs.Leaves.{putAll, put-length, put-at}
+use Rattle.start.specs.Leaves.{putAll}
 use Rattle.greedynodes.specs.Lends.{lends-layout}
-use Rattle.greedynodes.specs.Begin.{range-at, Fits, Asks}
+use Rattle.greedynodes.specs.Begin.{Fits, Asks}
+use Rattle.greedynodes.specs.Counted.{counted-range, nothing-over, light-front}
 use Rattle.greedynodes.specs.Ends.{Greedied, isRefused, isBuilt}
 use Rattle.greedynodes.specs.Within.{leavesIn}
 use Rattle.greedynodes.specs.Copied.{copiedTo, copied-over}
@@ -39,14 +39,6 @@ pub data Grown (N : Network) (tree₀ tree : List ℕ) (r : ℕ) : Type 0 where
   isLeft : r ≡ 65536 → greedy N ≡ refused tableTooWide → tree ≡ tree₀ → Grown N tree₀ tree r
   isGrown : r < 65536 → (a : List Pair) → greedy N ≡ done a → tree ≡ over tree₀ (flatOf a) → length a ≡ leafCount N - 1 → Grown N tree₀ tree r
 
--- the numbers that are counted up are the range
-counted-range : (l : List ℕ) (n : ℕ) → n ≤ length l → take n (putAll (λ i. i) l n) ≡ range n
-counted-range l n h =
-    let e : length (take n (putAll (λ i. i) l n)) ≡ n = length-take-le n (putAll (λ i. i) l n) (omega (arith, put-length (λ i. i) l n)) in
-    ext-getD 0 (take n (putAll (λ i. i) l n)) (range n) (e ∙ sym (range-length 0 n)) (λ i b.
-    getD-take n (putAll (λ i. i) l n) i 0 (omega (arith, e)) ∙ put-at (λ i. i) l n i (omega (arith, e)) (omega (arith, e))
-    ∙ sym (range-at 0 n i (omega (arith, e)) ∙ omega arith))
-
 -- they stand where greedy wants its leaves
 pub leaves-counted : (ws y : List ℕ) (n : ℕ) → 2320 ≤ length ws → n ≤ 128 → length y ≡ length (part 1040 256 ws)
     → low y ≡ putAll (λ i. i) (nodesIn ws) n → leavesIn n (frontIn (back 1040 256 ws y)) ≡ range n
@@ -54,19 +46,6 @@ leaves-counted ws y n h b e p =
     let l : length (part 1040 256 ws) ≡ 256 = part-length 1040 256 ws (omega arith) in
     ap (λ (x : List ℕ). take n (low x)) (part-front 1040 256 2064 (back 1040 256 ws y) (omega arith) ∙ back-there 1040 256 ws y (omega arith) (e ∙ l)) ∙ ap (take n) p
     ∙ counted-range (nodesIn ws) n (omega (arith, b, l, low-length (part 1040 256 ws)))
-
-nothing-over : (l : List ℕ) → l ≡ over l []
-unfolding over
-nothing-over [] = refl
-nothing-over (x ∷ l) = refl
-
--- a weight past the front is 0
-pub light-front : (m : ℕ) (weights : List ℕ) → m ≤ length weights → ((j : ℕ) → j < m → getD weights j 0 ≤ 8) → Light (take m weights)
-light-front m weights h f j =
-    elim (decLe m j) [
-      | yes q ↦ omega (arith, List·getD-eq-default (take m weights) 0 (let z : length (take m weights) ≤ j = omega (arith, length-take-le m weights h) in z))
-      | no q ↦ omega (arith, getD-take m weights j 0 (omega arith), f j (omega arith))
-    ]
 
 module _ (m n o : ℕ) (weights counts cells outputs : List ℕ) (lent : Lent weights counts cells outputs) (facts : Facts m n o weights counts cells outputs)
     (leaves : List ℕ) (all-leaves : leaves ≡ range n)

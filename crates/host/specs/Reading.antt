@@ -16,12 +16,13 @@ use Rattle.laws.specs.FileReads.{reads-just}
 use Rattle.laws.specs.FileFields.{accepted-parts}
 use Rattle.laws.specs.FileLists.{placed-front, valid-length}
 use Rattle.cells.specs.Cells.{filled-length}
+use Rattle.network.specs.Layouts.{leaf-count}
 use Rattle.network.specs.Record.{netOf}
 use Rattle.network.specs.declared.Network.{Network as Record}
 use Rattle.netfile.specs.Answers.{placesOf, flagCount, treeAnswer, askAnswer, answerOf, networkIn, treeAfter, flagsAfter}
 use Rattle.netfile.specs.declared.Found.{Found}
 use Rattle.netfile.specs.declared.Answer.the-variants.{Refused, Done}
-use Rattle.listing.specs.Listing.{leaf-count, answered-refused}
+use Rattle.listing.specs.Listing.{answered-refused}
 
 -- ---- how many places of the lists a file fills with its own tree and flags ----
 

@@ -1,9 +1,8 @@
 -- One try: a growth, refined, and the weight of its cut nets. Assumes nothing.
-use mathlib.Core.Bool.{Bool, true, false, cond}
 use mathlib.Core.Option.{Option, none, some}
 use mathlib.Core.Path.{_≡_, sym, ap, _∙_, subst}
 use mathlib.Core.List.{List}
-use Prim.Native.Nat.{ℕ, zero, suc, _*_}
+use Prim.Native.Nat.{ℕ, suc, _*_}
 use native.Mathlib.Omega.{arith}
 use native.Mathlib.Decide.{ℕ-discrete, decLe}
 use lib.Ieee.{Float, binary64, add, le}
@@ -12,9 +11,10 @@ use lib.Seq.{getD-set-same, getD-set-other}
 use Rattle.spec.specs.Memory.{filled}
 use Rattle.spec.specs.Floats.{zeroFloat}
 use Rattle.spec.specs.Draws.{Words, Drawn, drawn, indexDraw}
-use Rattle.spec.specs.Hypergraph.{Hypergraph, until, cut, vertexCount, vertexWeight}
+use Rattle.spec.specs.Hypergraph.{Hypergraph, cut, vertexCount, vertexWeight}
 use Rattle.spec.specs.Fm.{fm}
 use Rattle.spec.specs.Bisection.{Growth, half, growthTurn, ended, grown, candidate}
+use Rattle.laws.specs.SideLaws.{cond-has, until-has}
 use Rattle.draws.specs.Cursor.{wordsAt}
 use Rattle.partition.specs.Layout.{graphIn}
 use Rattle.partition.specs.Cuts.{IsCutWeight}
@@ -38,23 +38,15 @@ bits-set part v h u =
       | no f ↦ rw (getD-set-other part v u 1 0 f) (h u)
     ]
 
-either : {S : Type 0} (P : S → Type 0) (b : Bool) (x y : S) → P x → P y → P (cond b x y)
-either P true x y p q = p
-either P false x y p q = q
-
-until-keeps : {S : Type 0} (P : S → Type 0) (stop : S → Bool) (f : S → S) → ((x : S) → P x → P (f x)) → (k : ℕ) (s : S) → P s → P (until k stop f s)
-until-keeps P stop f h zero s p = p
-until-keeps P stop f h (suc k) s p = either P (stop s) s (until k stop f (f s)) p (until-keeps P stop f h k (f s) (h s p))
-
 module _ (G : Hypergraph) where
   turn-bits : (o : Option ℕ) (g : Growth) → Bits (g .part) → Bits (growthTurn G o g .part)
   turn-bits none g h = h
-  turn-bits (some v) g h = either (λ (x : Growth). Bits (x .part)) (le (half G) (add binary64 (g .weight) (vertexWeight G v))) _ _ (bits-set (g .part) v h) (bits-set (g .part) v h)
+  turn-bits (some v) g h = cond-has (λ (x : Growth). Bits (x .part)) (le (half G) (add binary64 (g .weight) (vertexWeight G v))) _ _ (bits-set (g .part) v h) (bits-set (g .part) v h)
 
   grown-bits : (ws : Words) → Bits (grown G ws .part)
   unfolding filled
   grown-bits ws =
-      until-keeps (λ (g : Growth). Bits (g .part)) (λ g. ended G (g .next)) (λ g. growthTurn G (g .next) g) (λ g h. turn-bits (g .next) g h) (suc (vertexCount G))
+      until-has (λ (g : Growth). Bits (g .part)) (suc (vertexCount G)) (λ g. ended G (g .next)) (λ g. growthTurn G (g .next) g) (λ g h. turn-bits (g .next) g h)
       (record {
         part = replicate (vertexCount G) 0;
         weight = zeroFloat;

@@ -17,19 +17,7 @@ use Rattle.spec.specs.Hypergraph.{hypergraphOf}
 use Rattle.spec.specs.Bisection.{imbalance, Halved, leftHalf, rightHalf, smallEnd, halves, split, bisect, bisectRec, bisection}
 use Rattle.spec.specs.BisectionClaims.{OnlyWideOrSpent}
 use Rattle.laws.specs.Booleans.{by-cases}
-use Rattle.laws.specs.Results.{not-done, refused-same}
-
-not-refused : {A : Type 0} {P : Type 0} (x : A) (k : Refusal) → _≡_ {A = Result A} (done x) (refused k) → P
-not-refused x k e = not-done k x (sym e)
-
--- what a refusal comes from
-pub then-refused : {A B : Type 0} {P : Type 0} (r : Result A) (f : A → Result B) (k : Refusal) → andThen r f ≡ refused k
-    → (r ≡ refused k → P) → ((x : A) → f x ≡ refused k → P) → P
-then-refused (refused j) f k e g h = g (subst-refused j k e)
-  where
-    subst-refused : {A B : Type 0} (j k : Refusal) → _≡_ {A = Result B} (refused j) (refused k) → _≡_ {A = Result A} (refused j) (refused k)
-    subst-refused j k e = cc (refused-same j k e)
-then-refused (done x) f k e g h = h x e
+use Rattle.laws.specs.Results.{refused-same, not-refused, then-refused}
 
 -- ---- greedy ----
 
@@ -63,7 +51,7 @@ module _ (N : Network) (eps : Float) (cutoff : ℕ) (k : Refusal) where
 
   small-refused : (leaves : List ℕ) (a : List Pair) (ws : Words) → smallEnd N eps cutoff leaves a ws ≡ refused k → Only
   small-refused leaves a ws e =
-      then-refused (greedyFrom N a (leavesOf leaves)) _ k e (λ q. inl (greedy-refused N a (leavesOf leaves) k q)) (λ x q. not-refused _ k q)
+      then-refused (greedyFrom N a (leavesOf leaves)) _ k e (λ q. inl (greedy-refused N a (leavesOf leaves) k q)) (λ x _ q. not-refused _ k q)
 
   split-refused : (fuel : ℕ) → ((leaves : List ℕ) (a : List Pair) (ws : Words) → bisectRec N eps cutoff fuel leaves a ws ≡ refused k → Only)
       → (leaves : List ℕ) (a : List Pair) (d : Drawn (List ℕ)) → split N eps cutoff (λ l b w. bisectRec N eps cutoff fuel l b w) leaves a d ≡ refused k → Only
@@ -75,8 +63,8 @@ module _ (N : Network) (eps : Float) (cutoff : ℕ) (k : Refusal) where
       go false true e = small-refused leaves a (d .words) e
       go false false e =
           then-refused (bisectRec N eps cutoff fuel (leftHalf (d .value) leaves) a (d .words)) _ k e (rec _ a (d .words))
-          (λ x q. then-refused (bisectRec N eps cutoff fuel (rightHalf (d .value) leaves) (x .built .pairs) (x .words)) _ k q (rec _ (x .built .pairs) (x .words))
-          (λ y p. not-refused _ k p))
+          (λ x _ q. then-refused (bisectRec N eps cutoff fuel (rightHalf (d .value) leaves) (x .built .pairs) (x .words)) _ k q (rec _ (x .built .pairs) (x .words))
+          (λ y _ p. not-refused _ k p))
 
   rec-refused : (fuel : ℕ) (leaves : List ℕ) (a : List Pair) (ws : Words) → bisectRec N eps cutoff fuel leaves a ws ≡ refused k → Only
   rec-refused zero leaves a ws e = small-refused leaves a ws e
@@ -89,4 +77,4 @@ pub only-wide-or-spent : OnlyWideOrSpent
 unfolding bisection
 only-wide-or-spent N i cutoff words r e =
     then-refused (bisectRec N (imbalance i) cutoff (leafCount N) (range (leafCount N)) [] (lentWords words)) _ r e
-    (rec-refused N (imbalance i) cutoff r (leafCount N) (range (leafCount N)) [] (lentWords words)) (λ x q. not-refused _ r q)
+    (rec-refused N (imbalance i) cutoff r (leafCount N) (range (leafCount N)) [] (lentWords words)) (λ x _ q. not-refused _ r q)

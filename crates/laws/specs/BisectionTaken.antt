@@ -20,8 +20,8 @@ use Rattle.spec.specs.Hypergraph.{hypergraphOf}
 use Rattle.spec.specs.Bisection.{imbalance, Halved, withWords, leftHalf, rightHalf, smallEnd, joinHalves, halves, bisectRec, bisectedFrom, Bisected, bisection}
 use Rattle.spec.specs.BisectionClaims.{firstOf, WordsSuffice, TakenDecide, SpentShort, SpentJust, WideStands, WideMet}
 use Rattle.laws.specs.Booleans.{by-cases, clash}
-use Rattle.laws.specs.Results.{not-done, done-same, refused-same, and-then}
-use Rattle.laws.specs.BisectionRefusals.{then-refused, greedy-refused, only-wide-or-spent}
+use Rattle.laws.specs.Results.{not-done, done-same, refused-same, and-then, not-refused, then-refused}
+use Rattle.laws.specs.BisectionRefusals.{greedy-refused, only-wide-or-spent}
 use Rattle.laws.specs.WordLaws.{afterFirst, first-more, drawn-held, Past, Alike, Goes, leaves}
 use Rattle.laws.specs.BisectionWords.{bisect-goes}
 
@@ -261,7 +261,7 @@ wide-stands N i cutoff words more e =
     then-refused (bisected N i cutoff (lentWords words)) (λ h. done (bisectedFrom words h)) tableTooWide e
     (λ q. ap (λ x. andThen x (λ h. done (bisectedFrom (words ++ more) h)))
     (stands more (bisected N i cutoff (lentWords (words ++ []))) (bisected N i cutoff (lentWords (words ++ more))) (rw append-nil q) (answers N i cutoff .step [] more words)))
-    (λ h q. not-done tableTooWide (bisectedFrom words h) (sym q))
+    (λ h _ q. not-refused (bisectedFrom words h) tableTooWide q)
 
 pub spent-just : SpentJust
 spent-just N i cutoff words more b e f =

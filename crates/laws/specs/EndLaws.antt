@@ -22,7 +22,7 @@ use Rattle.spec.specs.Bisection.{imbalance, Halved, withWords, leftHalf, rightH
 use Rattle.spec.specs.EndClaims.{Partitioned, TwoHalves, Comes, itself, inLeft, inRight, SmallEnd, few, whole, Met, WideEnd, WideByGreedy, SpentPart, SpentByDraws}
 use Rattle.laws.specs.Booleans.{by-cases, or-cases, or-none, or-introl, or-intror}
 use Rattle.laws.specs.ListLaws.{range-length}
-use Rattle.laws.specs.Results.{not-done, refused-same}
+use Rattle.laws.specs.Results.{refused-same, not-refused, then-refused}
 use Rattle.laws.specs.GreedyForest.{leaves-single}
 use Rattle.laws.specs.BisectionHalves.{members-all, members-count, halves-length, onZero, fuel-enough}
 use Rattle.laws.specs.GreedyFrom.{refuses-from}
@@ -32,15 +32,6 @@ use Rattle.laws.specs.GreedyFrom.{refuses-from}
 no-members : {A : Type 0} (l : List A) → length l ≡ 0 → l ≡ []
 no-members [] e = refl
 no-members (x ∷ l) e = absurd (omega arith)
-
-not-refused : {A : Type 0} {P : Type 0} (x : A) (k : Refusal) → _≡_ {A = Result A} (done x) (refused k) → P
-not-refused x k e = not-done k x (sym e)
-
--- with the answer before it
-before-refused : {A B : Type 0} {P : Type 0} (r : Result A) (f : A → Result B) (k : Refusal) → andThen r f ≡ refused k
-    → (r ≡ refused k → P) → ((x : A) → r ≡ done x → f x ≡ refused k → P) → P
-before-refused (refused j) f k e g h = g (ap refused (refused-same j k e))
-before-refused (done x) f k e g h = h x refl e
 
 module _ (N : Network) (eps : Float) (cutoff : ℕ) where
   abbrev left : List ℕ → Drawn (List ℕ) → List ℕ
@@ -78,7 +69,7 @@ module _ (N : Network) (eps : Float) (cutoff : ℕ) where
 
   small-refused : (k : Refusal) (leaves : List ℕ) (a : List Pair) (ws : Words) → smallEnd N eps cutoff leaves a ws ≡ refused k
       → greedyFrom N a (leavesOf leaves) ≡ refused k
-  small-refused k leaves a ws e = before-refused (greedyFrom N a (leavesOf leaves)) _ k e (λ q. q) (λ x p q. not-refused _ k q)
+  small-refused k leaves a ws e = then-refused (greedyFrom N a (leavesOf leaves)) _ k e (λ q. q) (λ x p q. not-refused _ k q)
 
   one-side : (leaves : List ℕ) (d : Drawn (List ℕ)) → sided leaves d ≡ true → (left leaves d ≡ []) ⊎ (right leaves d ≡ [])
   one-side leaves d e =
@@ -104,7 +95,7 @@ module _ (N : Network) (eps : Float) (cutoff : ℕ) where
         let len = halves-length (d .value) leaves in
         let lₗ : length (left leaves d) ≤ fuel = omega (arith, len, t .right) in
         let lᵣ : length (right leaves d) ≤ fuel = omega (arith, len, t .left) in
-        before-refused (part fuel (left leaves d) a (d .words)) _ k e
+        then-refused (part fuel (left leaves d) a (d .words)) _ k e
         (λ q. let f = rec (left leaves d) a (d .words) lₗ q in
         record {
           end = f .end;
@@ -115,7 +106,7 @@ module _ (N : Network) (eps : Float) (cutoff : ℕ) where
           low = λ n h. f .low n (members-all _ _ 0 leaves h);
           fewer = λ v. omega (arith, f .fewer v, members-count (onZero (d .value)) v 0 leaves);
         })
-        (λ x q s. before-refused (part fuel (right leaves d) (x .built .pairs) (x .words)) _ k s
+        (λ x q s. then-refused (part fuel (right leaves d) (x .built .pairs) (x .words)) _ k s
         (λ r. let f = rec (right leaves d) (x .built .pairs) (x .words) lᵣ r in
         record {
           end = f .end;
@@ -235,7 +226,7 @@ module _ (N : Network) (i cutoff : ℕ) (words : List ℕ) where
   from-refused : (k : Refusal) → bisection N i cutoff words ≡ refused k → At k
   unfolding bisection
   from-refused k e =
-      before-refused (bisectRec N (imbalance i) cutoff (leafCount N) (range (leafCount N)) [] (lentWords words)) _ k e
+      then-refused (bisectRec N (imbalance i) cutoff (leafCount N) (range (leafCount N)) [] (lentWords words)) _ k e
       (rec-place N (imbalance i) cutoff k (leafCount N) (range (leafCount N)) [] (lentWords words) enough)
       (λ h p q. not-refused _ k q)
 

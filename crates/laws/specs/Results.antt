@@ -1,5 +1,5 @@
 -- Laws of answers and refusals. Assumes nothing.
-use mathlib.Core.Path.{_≡_, refl}
+use mathlib.Core.Path.{_≡_, refl, sym, ap}
 use mathlib.Core.Bool.{false}
 use mathlib.Core.List.{List, [], _∷_}
 use Prim.Native.Nat.{ℕ}
@@ -23,6 +23,15 @@ pub and-then {ℓ} : {A B : Type 0} {P : Type ℓ} (r : Result A) (f : A → Res
     → ((x : A) → r ≡ done x → f x ≡ done y → P) → P
 and-then (refused k) f y e g = not-done k y e
 and-then (done x) f y e g = g x refl e
+
+-- an answer is no refusal, and what a refusal comes from
+pub not-refused : {A : Type 0} {P : Type 0} (x : A) (k : Refusal) → _≡_ {A = Result A} (done x) (refused k) → P
+not-refused x k e = not-done k x (sym e)
+
+pub then-refused : {A B : Type 0} {P : Type 0} (r : Result A) (f : A → Result B) (k : Refusal) → andThen r f ≡ refused k
+    → (r ≡ refused k → P) → ((x : A) → r ≡ done x → f x ≡ refused k → P) → P
+then-refused (refused j) f k e g h = g (ap refused (refused-same j k e))
+then-refused (done x) f k e g h = h x refl e
 
 -- an answer after checks: no condition holds
 pub checked-done : {A : Type 0} (cs : List Check) (r : Result A) (y : A) → checked cs r ≡ done y → All (λ c. c .holds ≡ false) cs × (r ≡ done y)

@@ -20,7 +20,7 @@ use Rattle.laws.specs.FileLists.{over-front}
 use Rattle.laws.specs.OrderLaws.{listing-length}
 use Rattle.cells.specs.Cells.{placed-next}
 use Rattle.network.specs.Record.{netOf}
-use Rattle.network.specs.Layouts.{layout-leaf-count}
+use Rattle.network.specs.Layouts.{leaf-count}
 use Rattle.network.specs.declared.Network.{Network as Record}
 use Rattle.pricing.specs.declared.Prices.{Prices as HandedPrices}
 use Rattle.cost.specs.declared.Priced.the-variants.{Refused, Done}
@@ -103,10 +103,6 @@ answered-refused r out e q = rw e (q, refl)
 
 answered-done : {x : Result (List ℕ)} {after : List ℕ} (bytes out : List ℕ) → x ≡ done bytes → after ≡ over out bytes → Answered x 0 out after
 answered-done bytes out e q = rw e (refl, q)
-
-pub leaf-count : (R : Record) → leafCount (netOf R) ≡ R .«leaf_count»
-unfolding netOf
-leaf-count R = layout-leaf-count (R .«index_count») (R .«leaf_count») (R .«output_count») (R .weights) (R .«leg_counts») (R .legs) (R .outputs)
 
 module _ (R : Record) (flags kids out : List ℕ) where
   pub answer-short : {n : ℕ} → n ≡ R .«leaf_count» - 1 → length out < 16 + n * 10

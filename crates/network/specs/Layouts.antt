@@ -14,6 +14,8 @@ use Rattle.spec.specs.Layout.{firsts, rowAt, networkOf}
 use Rattle.spec.specs.Building.{withWeight, withLeaf, withOutput}
 use Rattle.laws.specs.ListLaws.{range-length}
 use Rattle.cells.specs.Cells.{placed-nothing-before, placed-there, placed-after}
+use Rattle.network.specs.declared.Network.{Network as Record}
+use Rattle.network.specs.Record.{netOf}
 
 -- ---- a function of each number below n ----
 
@@ -225,3 +227,9 @@ pub layout-all-outputs : (m n : ℕ) (l weights counts cells outputs : List ℕ)
     → networkOf m n (length l) weights counts cells (placed outputs 0 l) .outputs ≡ l
 unfolding networkOf
 layout-all-outputs m n l weights counts cells outputs h = firsts-whole outputs l h
+
+-- ---- a record's network ----
+
+pub leaf-count : (R : Record) → leafCount (netOf R) ≡ R .«leaf_count»
+unfolding netOf
+leaf-count R = layout-leaf-count (R .«index_count») (R .«leaf_count») (R .«output_count») (R .weights) (R .«leg_counts») (R .legs) (R .outputs)

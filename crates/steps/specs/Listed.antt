@@ -29,7 +29,7 @@ use Rattle.cost.specs.declared.Priced.the-variants.{Refused, Done}
 use Rattle.cost.specs.Answers.{answerOf, room, pricedSets, TreeCost, tooFew}
 use Rattle.cost.specs.Checks.{call-refused, call-few, long-enough}
 use Rattle.network.specs.Codes.{positive, accepted-facts}
-use Rattle.network.specs.Layouts.{layout-leaf-count}
+use Rattle.network.specs.Layouts.{leaf-count}
 use Rattle.network.specs.Record.{netOf}
 use Rattle.network.specs.declared.Network.{Network as Record}
 use Rattle.memory.specs.Call.{checked-append}
@@ -169,10 +169,6 @@ module _ (N : Network) (flags kids ws₀ sets₀ sizes₀ works₀ : List ℕ) w
       }
 
 -- ---- of a record ----
-
-pub leaf-count : (R : Record) → leafCount (netOf R) ≡ R .«leaf_count»
-unfolding netOf
-leaf-count R = layout-leaf-count (R .«index_count») (R .«leaf_count») (R .«output_count») (R .weights) (R .«leg_counts») (R .legs) (R .outputs)
 
 few-leaves : (R : Record) → refusalOf (netOf R) ≡ none → R .«leaf_count» ≤ 128
 unfolding netOf
