@@ -1,17 +1,18 @@
 -- SOUND PLANS, WHOLE: demand 3 over every planner, of the calls as the entries' promises give them. Statement and proof.
 -- Whatever greedy, bisection, improvement or slicing is handed: the list of children that it hands back passes the tree check. And whatever tree of a
 -- network of two leaves or more the tree check passes, and whatever named non-outputs are sliced: the run of pricing's whole listing gives the direct
--- sum in every output cell; tables are of any commutative semiring, whole numbers among them. Assumes nothing.
+-- sum in every output cell; tables are of any commutative semiring, whole numbers among them. What slicing flags are such indices, so its own tree and
+-- flags run so. Assumes nothing.
 use mathlib.Core.Path.{_≡_, refl, sym, ap, subst, _∙_}
 use mathlib.Core.Bool.{Bool, true, false, not, _||_}
 use mathlib.Core.List.{List, [], _∷_, _++_}
 use mathlib.Core.Option.{Option}
-use Prim.Native.Nat.{ℕ, _+_, _-_, _*_, _/_, _%_, _≤_}
+use Prim.Native.Nat.{ℕ, _+_, _-_, _*_, _/_, _%_, _≤_, _<_}
 use native.Mathlib.Omega.{arith}
 use lib.Dec.{eqb, ltb}
-use lib.ListN.{length, take, drop}
-use lib.Seq.{take-at}
-use borrow.Author.Tests.{ltb-false, le-ltb}
+use lib.ListN.{length, getD, take, drop, length-take, List·getD-eq-default}
+use lib.Seq.{take-at, getD-take}
+use borrow.Author.Tests.{ltb-true, ltb-false, le-ltb}
 use Rattle.spec.specs.Semiring.{Semiring}
 use Rattle.spec.specs.Network.{Network, leafCount, indexCount, Sliceable, networkChecks}
 use Rattle.spec.specs.Tree.{Pair, valid, pairsOf, flatOf}
@@ -23,8 +24,9 @@ use Rattle.spec.specs.Greedy.{greedy}
 use Rattle.spec.specs.Bisection.{Bisected, bisection}
 use Rattle.spec.specs.Improve.{Improved, improve}
 use Rattle.spec.specs.Slicing.{Plan, slice}
-use Rattle.spec.specs.Calls.{PriceRoom, lent, lengthCheck, treeCheck, flagsCheck, beyondCheck, danglingCheck, danglingIf, plainWords, bisectionWords, improveWords, sliceWords, treePlaces, nodePlaces, setWords, stepPlaces, stepNumbers, flagAt, followUp, validCall, validChecks, greedyCall, greedyTree, bisectionCall, bisectedTree, improveCall, improvedTree, sliceCall, slicedTree, priceCall, priceChecks, pricedSteps}
-use Rattle.laws.specs.Booleans.{or-none}
+use Rattle.spec.specs.SlicingClaims.{SliceRight}
+use Rattle.spec.specs.Calls.{PriceRoom, lent, lengthCheck, treeCheck, flagsCheck, beyondCheck, danglingCheck, danglingIf, plainWords, bisectionWords, improveWords, sliceWords, treePlaces, nodePlaces, setWords, stepPlaces, stepNumbers, flagAt, followUp, validCall, validChecks, greedyCall, greedyTree, bisectionCall, bisectedTree, improveCall, improvedTree, sliceCall, slicedTree, slicedFlags, priceCall, priceChecks, pricedSteps}
+use Rattle.laws.specs.Booleans.{by-cases, clash, or-none}
 use Rattle.laws.specs.MemberLaws.{all-parts, all-append}
 use Rattle.laws.specs.Results.{done-same, checked-done, checked-none}
 use Rattle.laws.specs.Accepted.{accepted-means}
@@ -46,6 +48,10 @@ PassesCheck N kids = (words : ℕ) → plainWords ≤ words → validCall N word
 abbrev pub ListingSound : Network → (ℕ → Bool) → List Pair → Type 1
 ListingSound N flag a = (R : Semiring) (cells : ℕ → List ℕ → R .Car) → RunsToDirectSum R N cells flag a (listing N flag a)
 
+-- the flags at the front of a list, one an index
+abbrev pub frontFlags : Network → List ℕ → ℕ → Bool
+frontFlags N l = flagAt (take (indexCount N) l)
+
 pub record SoundPlans : Type 1 where
   -- `tree` and `kids` are the lists as they were lent, and what the calls leave in them is given by the definitions that the promises name
   pub greedyChecked : (N : Network) (words : ℕ) (tree : List ℕ) (a : List Pair) → greedyCall N words (length tree) ≡ done a
@@ -59,6 +65,13 @@ pub record SoundPlans : Type 1 where
   pub slicingChecked : (N : Network) (improving : Bool) (target words : ℕ) (flags kids : List ℕ) (p : Plan)
       → sliceCall N improving target words (length flags) kids ≡ done p
       → PassesCheck N (slicedTree (sliceCall N improving target words (length flags) kids) kids)
+  -- the flags that slicing hands back are of named non-outputs, and its tree under them runs to the direct sum
+  pub slicingRuns : (N : Network) (improving : Bool) (target words : ℕ) (flags kids : List ℕ) (p : Plan)
+      → sliceCall N improving target words (length flags) kids ≡ done p
+      → Sliceable N (frontFlags N (slicedFlags N (sliceCall N improving target words (length flags) kids) flags))
+      × (2 ≤ leafCount N
+      → ListingSound N (frontFlags N (slicedFlags N (sliceCall N improving target words (length flags) kids) flags))
+      (pairsOf (take (treePlaces N) (slicedTree (sliceCall N improving target words (length flags) kids) kids))))
   -- every tree that the check passes, with any named non-outputs sliced
   pub checkedRuns : (N : Network) → 2 ≤ leafCount N → (words : ℕ) (kids : List ℕ) → validCall N words kids ≡ done tt
       → (flag : ℕ → Bool) → Sliceable N flag → ListingSound N flag (pairsOf kids)
@@ -176,6 +189,33 @@ checked-runs N two words kids e flag fine =
     let (ns, own, _) = answered false N (lengthCheck (lent words plainWords ∷ []) ∷ treeCheck N kids ∷ []) (done tt) tt e in
     runs-checked N two kids flag fine ns (own .1)
 
+-- flags that slicing wrote over the front of a list, read from there
+front-sliceable : (N : Network) (improving : Bool) (target : ℕ) (flags kids : List ℕ) (p : Plan) → SliceRight N improving target flags kids p
+    → Sliceable N (frontFlags N (slicedFlags N (done p) flags))
+front-sliceable N improving target flags kids p right j e =
+    let out : List ℕ = slicedFlags N (done p) flags in
+    by-cases (ltb j (indexCount N))
+    (λ h. let b : j < indexCount N = ltb-true j (indexCount N) h in
+    right .sliceable j (sym (right .flagsOut .test j b) ∙ ap (λ (x : ℕ). not (eqb x 0)) (sym (getD-take (indexCount N) out j 0 b)) ∙ e))
+    (λ h. let past : getD (take (indexCount N) out) j 0 ≡ 0 =
+    List·getD-eq-default (take (indexCount N) out) 0 (simp length-take (omega (arith, ltb-false j (indexCount N) h))) in
+    clash (sym (ap (λ (x : ℕ). not (eqb x 0)) past) ∙ e) refl)
+
+slicing-runs : (N : Network) (improving : Bool) (target words : ℕ) (flags kids : List ℕ) (p : Plan)
+    → sliceCall N improving target words (length flags) kids ≡ done p
+    → Sliceable N (frontFlags N (slicedFlags N (sliceCall N improving target words (length flags) kids) flags))
+    × (2 ≤ leafCount N
+    → ListingSound N (frontFlags N (slicedFlags N (sliceCall N improving target words (length flags) kids) flags))
+    (pairsOf (take (treePlaces N) (slicedTree (sliceCall N improving target words (length flags) kids) kids))))
+slicing-runs N improving target words flags kids p e =
+    let fine : Sliceable N (frontFlags N (slicedFlags N (sliceCall N improving target words (length flags) kids) flags)) =
+    subst (λ (x : Result Plan). Sliceable N (frontFlags N (slicedFlags N x flags))) (sym e)
+    (front-sliceable N improving target flags kids p (slices-right N improving target words flags kids p e)) in (
+      fine,
+      λ two. checked-runs N two plainWords (take (treePlaces N) (slicedTree (sliceCall N improving target words (length flags) kids) kids))
+          (slicing-checked N improving target words flags kids p e plainWords (omega arith)) _ fine,
+    )
+
 priced-runs : (N : Network) → 2 ≤ leafCount N → (words : ℕ) (room : PriceRoom) (flags kids : List ℕ) (p : Prices)
     → priceCall N words room flags kids ≡ done p → Sliceable N (flagAt flags)
     → ListingSound N (flagAt flags) (pairsOf kids)
@@ -205,6 +245,7 @@ sound-plans =
       bisectionChecked = bisection-checked;
       improvementChecked = improvement-checked;
       slicingChecked = slicing-checked;
+      slicingRuns = slicing-runs;
       checkedRuns = checked-runs;
       pricedRuns = priced-runs;
     }
