@@ -3,7 +3,8 @@
  *
  * Each function but loqshyber_plan returns 0, or the number of the refusal. Each list is a pointer and a length in its own units. The pointer is not null, and is aligned
  * as C has it for the list's type; for an empty list any such pointer will do. No list that is written overlaps another. A list that is
- * written and is shorter than stated is refused 7, but by loqshyber_plan; one that is longer keeps its places past the stated ones. */
+ * written and is shorter than stated is refused 7, but by loqshyber_plan; one that is longer keeps its places past the stated ones. A tree that is changed
+ * where it stands is read first: one that has not just n - 1 nodes is refused 8. */
 #ifndef LOQSHYBER_H
 #define LOQSHYBER_H
 

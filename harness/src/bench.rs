@@ -1,67 +1,32 @@
-//! The port and the Rust side by side, on pedigrees of 8 to 128 tables.
+//! Pricing on both sides, on pedigrees of 8 to 128 tables.
 
 use crate::case::{Case, LEAVES};
 use crate::listing::MOST;
 use crate::memory::{Given, Lent};
-use crate::networks::practice_pedigree;
 use crate::numbers::Numbers;
-use crate::{port, rust, trees};
+use crate::timing::{time, Call, Table, TABLES};
+use crate::{greedy, port, rust, timing, trees};
 use std::hint::black_box;
-use std::time::Instant;
 
-const TABLES: [usize; 5] = [8, 22, 41, 64, LEAVES];
 const SEED: u64 = 1;
 /// Batches, of which the least and the median are told, and calls in a batch.
 const BATCHES: usize = 301;
 const CALLS: u32 = 50;
 
-/// One side of a row: a call, or `None` where that side is not at hand.
-pub type Call<'a> = Option<Box<dyn FnMut() + 'a>>;
-
-struct Row<'a> {
-    name: String,
-    port: Call<'a>,
-    rust: Call<'a>,
-}
-
 /// Microseconds a call, in one batch.
-fn batch(call: &mut dyn FnMut()) -> f64 {
-    let start = Instant::now();
-    for _ in 0..CALLS {
-        call();
-    }
-    start.elapsed().as_secs_f64() * 1e6 / CALLS as f64
+fn batch(call: &mut Call) -> Option<f64> {
+    let call = call.as_mut()?;
+    Some(time(|| (0..CALLS).for_each(|_| call())) / CALLS as f64)
 }
 
-/// The least and the median.
-fn least_and_median(mut times: Vec<f64>) -> (f64, f64) {
-    times.sort_by(f64::total_cmp);
-    (times[0], times[times.len() / 2])
-}
-
-impl Row<'_> {
-    /// Batches of both sides take turns, so that both meet the same machine.
-    fn tell(mut self) {
-        let mut times = [Vec::new(), Vec::new()];
-        for _ in 0..BATCHES {
-            for (side, call) in [&mut self.port, &mut self.rust].into_iter().enumerate() {
-                if let Some(call) = call {
-                    times[side].push(batch(call));
-                }
-            }
-        }
-        let [port, rust] = times.map(|times| (!times.is_empty()).then(|| least_and_median(times)));
-        let show = |time: Option<(f64, f64)>| time.map_or("-".into(), |(least, median)| format!("{least:.2} ({median:.2})"));
-        let ratio = port.zip(rust).map_or("-".into(), |(port, rust)| format!("{:.2}", port.0 / rust.0));
-        println!("{:<44} {:>16} {:>16} {:>8}", self.name, show(port), show(rust), ratio);
-    }
+fn row(table: &mut Table, tables: usize, name: &str, mut port: Call, mut rust: Call) {
+    let times = Table::turns(BATCHES, || batch(&mut port), || batch(&mut rust));
+    table.row(tables, name, times, |_| Vec::new());
 }
 
 /// The practice pedigree of so many tables, with the tree of the Rust's greedy, or a random one where that is not at hand.
 fn pedigree(leaf_count: usize) -> Case {
-    let mut network = practice_pedigree(leaf_count.div_ceil(2), SEED);
-    network.leaves.truncate(leaf_count);
-    let mut case = Case { network, tree: None, flags: None };
+    let mut case = Case { network: greedy::bench::pedigree(leaf_count), tree: None, flags: None };
     case.tree = Some(rust::greedy(&case).unwrap_or_else(|| trees::valid(&mut Numbers::new(SEED), leaf_count)));
     case
 }
@@ -85,21 +50,14 @@ fn of_file<'a>(case: &Case) -> Call<'a> {
 }
 
 pub fn run() {
-    println!("microseconds a call: the least of {BATCHES} batches of {CALLS}, and the median in brackets");
-    println!("{:<44} {:>16} {:>16} {:>8}", "", "port", "Rust", "ratio");
+    let mut table = Table::new("pricing", &format!("{BATCHES} batches of {CALLS}"), &[]);
     for leaf_count in TABLES {
         let case = pedigree(leaf_count);
-        let rust = rust::tree_cost_call(&case);
-        Row { name: format!("{leaf_count} tables, in memory; tree_cost"), port: in_memory(&case), rust }.tell();
+        row(&mut table, leaf_count, ", in memory; tree_cost", in_memory(&case), rust::tree_cost_call(&case));
     }
+    table.growth();
     let case = pedigree(LEAVES);
-    let (cost, valid_cost) = (rust::tree_cost_call(&case), rust::valid_cost_call(&case));
-    Row { name: format!("{LEAVES} tables, file; tree_cost"), port: of_file(&case), rust: cost }.tell();
-    Row { name: format!("{LEAVES} tables, file; is_valid and tree_cost"), port: of_file(&case), rust: valid_cost }.tell();
-    if !port::AT_HAND {
-        println!("{}", port::MISSING);
-    }
-    if !rust::AT_HAND {
-        println!("{}", rust::MISSING);
-    }
+    row(&mut table, LEAVES, ", file; tree_cost", of_file(&case), rust::tree_cost_call(&case));
+    row(&mut table, LEAVES, ", file; is_valid and tree_cost", of_file(&case), rust::valid_cost_call(&case));
+    timing::missing();
 }

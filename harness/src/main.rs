@@ -27,6 +27,7 @@ mod rust;
 mod slice;
 mod small;
 mod tally;
+mod timing;
 mod tree_record;
 mod trees;
 

@@ -1,7 +1,7 @@
 //! The Rust's answers: path.rs run on a case.
 #![cfg_attr(not(path_rs), allow(dead_code))]
 
-use crate::bench::Call;
+use crate::timing::Call;
 use crate::bisection::{Run, Settled};
 use crate::case::{Case, Network, Tree};
 
@@ -259,7 +259,7 @@ mod compiled {
     pub fn bisection_time(network: &Network, imbalance: u32, cutoff: usize, words: &[u64]) -> Option<f64> {
         let (network, params) = (hypergraph(network), halving(imbalance, cutoff));
         draws::lend(words.to_vec());
-        let time = crate::greedy::bench::time(|| {
+        let time = crate::timing::time(|| {
             black_box(path::bisection(black_box(&network), &params, 0));
         });
         assert_eq!(draws::taken().missed, 0);

@@ -3,13 +3,13 @@
 use super::call::{self, words, Call};
 use super::model::Ask;
 use super::Question;
-use crate::case::{Network, Tree, LEAVES};
-use crate::greedy::bench::{least_and_median, pedigree, time};
-use crate::{port, rust};
+use crate::case::{Network, Tree};
+use crate::greedy::bench::pedigree;
+use crate::timing::{time, Table, TABLES};
+use crate::{port, rust, timing};
 use std::hint::black_box;
 
-const TABLES: [usize; 5] = [8, 22, 41, 64, LEAVES];
-/// Calls of each side, which take turns; the least time is told, and the median.
+/// Calls of each side, which take turns.
 const CALLS: usize = 21;
 
 /// The pedigree without the non-output indices that just one leaf names, so that none dangles.
@@ -23,7 +23,7 @@ pub fn network(leaf_count: usize) -> Network {
     network
 }
 
-fn row(leaf_count: usize, passes: usize) {
+fn row(table: &mut Table, leaf_count: usize, passes: usize) {
     let network = network(leaf_count);
     let case = crate::case::Case { network: network.clone(), tree: None, flags: None };
     let Some(start): Option<Tree> = rust::greedy(&case) else { return };
@@ -31,36 +31,22 @@ fn row(leaf_count: usize, passes: usize) {
     let call: Call = question.call();
     let (mut lent, mut answer) = (vec![0; words(8)], [0; 2]);
     let mut rust = rust::reconfigure_call(&question.case(), 8, None, passes);
-    let mut times = [Vec::new(), Vec::new()];
-    for _ in 0..CALLS {
-        if port::AT_HAND {
-            let mut tree = question.tree.as_flattened().to_vec();
-            times[0].push(time(|| {
-                assert_eq!(call::reconfigure(black_box(&call), black_box(&mut tree), black_box(&mut lent), &mut answer), 0);
-            }));
-        }
-        if let Some(rust) = &mut rust {
-            times[1].push(time(rust));
-        }
-    }
-    let [port, rust] = times.map(least_and_median);
-    let show = |time: Option<(f64, f64)>| time.map_or("-".into(), |(least, median)| format!("{least:.0} ({median:.0})"));
-    let ratio = port.zip(rust).map_or("-".into(), |(port, rust)| format!("{:.2}", port.0 / rust.0));
-    let each = port.map_or("-".into(), |port| format!("{:.1}", port.0 * 1e3 / answer[1] as f64));
-    let name = format!("{leaf_count} tables, {passes} passes");
-    println!("{name:<24} {:>20} {:>20} {ratio:>8} {:>10} {each:>14}", show(port), show(rust), answer[1]);
+    let port = || {
+        let mut tree = question.tree.as_flattened().to_vec();
+        let call = || assert_eq!(call::reconfigure(black_box(&call), black_box(&mut tree), black_box(&mut lent), &mut answer), 0);
+        port::AT_HAND.then(|| time(call))
+    };
+    let times = Table::turns(CALLS, port, || rust.as_mut().map(time));
+    table.row(leaf_count, &format!(", {passes} passes"), times, |port| {
+        vec![answer[1].to_string(), port.map_or("-".into(), |port| format!("{:.1}", port.least * 1e3 / answer[1] as f64))]
+    });
 }
 
 pub fn run() {
-    println!("improvement of greedy's tree, k = 8, microseconds a call: the least of {CALLS}, and the median in brackets");
-    println!("{:<24} {:>20} {:>20} {:>8} {:>10} {:>14}", "", "port", "Rust", "ratio", "splits", "ns a split");
+    let mut table = Table::new("improvement of greedy's tree, k = 8", &CALLS.to_string(), &["splits", "ns a split"]);
     for passes in [1, 4] {
-        TABLES.into_iter().for_each(|leaf_count| row(leaf_count, passes));
+        TABLES.into_iter().for_each(|leaf_count| row(&mut table, leaf_count, passes));
+        table.growth();
     }
-    if !port::AT_HAND {
-        println!("{}", port::MISSING);
-    }
-    if !rust::AT_HAND {
-        println!("{}", rust::MISSING);
-    }
+    timing::missing();
 }
