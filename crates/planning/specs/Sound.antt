@@ -1,15 +1,20 @@
 -- What is printed is a refusal's line or a plan's text, and the printed steps run to the direct sum. Assumes nothing.
-use mathlib.Core.Path.{_≡_, refl, subst}
-use mathlib.Core.List.{List}
+use mathlib.Core.Path.{_≡_, refl, sym, ap, _∙_, subst}
+use mathlib.Core.List.{List, _++_}
 use mathlib.Core.Option.{Option}
-use Prim.Native.Nat.{ℕ}
+use Prim.Native.Nat.{ℕ, _≤_}
+use native.Mathlib.Omega.{arith}
+use lib.ListN.{length, take, drop}
+use lib.Seq.{take-at}
 use Rattle.spec.specs.Refusal.{Result, refused, done}
 use Rattle.spec.specs.Network.{Network, Sliceable}
 use Rattle.spec.specs.Slicing.{Plan}
 use Rattle.spec.specs.File.{Ask, plain, flagged, target, Contents, readOf}
 use Rattle.spec.specs.Program.{flagsOf, planOf}
 use Rattle.spec.specs.Output.{programOn, planBytes}
+use Rattle.spec.specs.Memory.{over}
 use Rattle.laws.specs.Integers.{ℤ-semiring}
+use Rattle.laws.specs.FileLists.{over-front}
 use Rattle.laws.specs.ProgramLaws.{plan-right, clear-fine, target-fine, flags-stand}
 use Rattle.planning.specs.Output.{StepsSound, Prints}
 
@@ -35,3 +40,11 @@ by-reading file (done c) e = by-plan file c e (planOf (c .network) (c .tree) (c 
 -- WHAT IS PRINTED IS SOUND
 pub prints : (file : List ℕ) → Prints file (planBytes file)
 prints file = by-reading file (readOf 254 256 file) refl
+
+-- so are the bytes that are handed out, in a list that they fit
+pub handed-out : (file d out : List ℕ) (r : ℕ) → out ≡ over d (planBytes file) → r ≡ length (planBytes file) → r ≤ length d → Prints file (take r out)
+handed-out file d out r e n fits =
+    let b : List ℕ = planBytes file in
+    let front : take r out ≡ b =
+    ap (take r) (e ∙ over-front d b (omega (arith, n, fits))) ∙ take-at b (drop (length b) d) r (sym n) in
+    subst (Prints file) (sym front) (prints file)

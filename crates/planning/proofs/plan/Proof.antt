@@ -1,6 +1,6 @@
 -- Assumes nothing.
 use borrow.Author.Needs.{needs}
-use Rattle.planning.specs.Sound.{prints}
+use Rattle.planning.specs.Sound.{handed-out}
 use Rattle.planning.specs.Reading.{read-refused, read-done, whole-bytes, found-in, zeros}
 use Rattle.planning.specs.Printing.{put-written, written-as}
 use lib.ListN.{replicate}
@@ -44,13 +44,13 @@ same-length : tie.Need-same-length
 same-length c = search needs
 
 returns : tie.Need-returns
-returns c = let a = c .before .before .before .before .before .before .before .before .before .before .before .before .before .before .args in let w = written-as (sym (read-refused (a .file .now) (replicate 254 0) (replicate 256 0) refl refl (zeros 256) (sym (c .before .before .before .before .before .answer .given .1) ∙ c .before .before .before .before .before .before .before .before .before .read .ensures .0))) (put-written (c .before .before .put-refused .ensures .0)) in (w .bytes, ((w .count, c .before .before .put-refused .ensures .1), prints (a .file .now)))
+returns c = let a = c .before .before .before .before .before .before .before .before .before .before .before .before .before .before .args in let w = written-as (sym (read-refused (a .file .now) (replicate 254 0) (replicate 256 0) refl refl (zeros 256) (sym (c .before .before .before .before .before .answer .given .1) ∙ c .before .before .before .before .before .before .before .before .before .read .ensures .0))) (put-written (c .before .before .put-refused .ensures .0)) in (w .bytes, ((w .count, c .before .before .put-refused .ensures .1), λ fits. handed-out (a .file .now) (a .out .now) _ _ (w .bytes) (w .count) fits))
 
 same-length-2 : tie.Need-same-length-2
 same-length-2 c = search needs
 
 returns-2 : tie.Need-returns-2
-returns-2 c = let a = c .before .before .before .before .before .before .before .before .before .before .before .before .before .before .before .before .before .before .before .args in let q = c .before .before .before .before .before .before .before .before .before .before .before .before .before .before .read .ensures in let w = written-as (whole-bytes (read-done (a .file .now) (replicate 254 0) (replicate 256 0) refl refl (zeros 256) (λ i. omega (arith, c .before .before .before .before .before .before .before .before .before .before .before .before .before .before .before .before .before .before .shared-slice-known .given i)) (sym (c .before .before .before .before .before .before .before .before .before .before .answer2 .given .1) ∙ q .0) (q .1) (q .2) (q .3))) (c .before .before .before .before .put-found .ensures .0) in (w .bytes, ((w .count, c .before .before .before .before .put-found .ensures .1), prints (a .file .now)))
+returns-2 c = let a = c .before .before .before .before .before .before .before .before .before .before .before .before .before .before .before .before .before .before .before .args in let q = c .before .before .before .before .before .before .before .before .before .before .before .before .before .before .read .ensures in let w = written-as (whole-bytes (read-done (a .file .now) (replicate 254 0) (replicate 256 0) refl refl (zeros 256) (λ i. omega (arith, c .before .before .before .before .before .before .before .before .before .before .before .before .before .before .before .before .before .before .shared-slice-known .given i)) (sym (c .before .before .before .before .before .before .before .before .before .before .answer2 .given .1) ∙ q .0) (q .1) (q .2) (q .3))) (c .before .before .before .before .put-found .ensures .0) in (w .bytes, ((w .count, c .before .before .before .before .put-found .ensures .1), λ fits. handed-out (a .file .now) (a .out .now) _ _ (w .bytes) (w .count) fits))
 
 pub plan-spec : {M : Type 1} → statement M
 plan-spec =
