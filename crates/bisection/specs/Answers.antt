@@ -7,16 +7,16 @@ use Prim.Native.Nat.{ℕ, _≤_, _<_, min}
 use native.Mathlib.Omega.{arith}
 use lib.Dec.{ltb}
 use lib.ListN.{length}
-use borrow.Author.Tests.{lt-ltb, le-ltb, eq-eqb, ne-eqb}
+use borrow.Author.Tests.{lt-ltb, le-ltb, ne-eqb}
 use Rattle.spec.specs.Memory.{copied, cleared}
 use Rattle.spec.specs.Network.{Network, networkChecks, refusalOf}
-use Rattle.spec.specs.Tree.{Pair, flatOf}
-use Rattle.spec.specs.Refusal.{Refusal, tooLarge, tableTooWide, drawsExhausted, numberOf, codeOf, Check, Result, refused, done, checked}
+use Rattle.spec.specs.Tree.{flatOf}
+use Rattle.spec.specs.Refusal.{Refusal, tooLarge, tableTooWide, drawsExhausted, numberOf, codeOf, Result, refused, done, checked}
 use Rattle.spec.specs.Calls.{Lent, lent, lengthCheck, bisectionWords, treePlaces, bisectionCall, workspaceAfter, bisectedTree}
 use Rattle.spec.specs.Bisection as spec
 use Rattle.spec.specs.Bisection.{bisection}
 use Rattle.merging.specs.Removed.{flat-length}
-use Rattle.walk.specs.Entry.{Untouched, answers, same-words, same-list, done-words, refused-words, by-network, past-network, by-length, past-length}
+use Rattle.walk.specs.Entry.{Untouched, answers, same-words, same-list, done-words, by-network, past-network, by-length, past-length}
 use Rattle.halving.specs.Cases.{refusalAt}
 use Rattle.bisection.specs.Whole.{Whole, isRefused, isPlan, copied-out}
 use Rattle.bisection.specs.declared.Bisected.{Bisected}

@@ -1,5 +1,5 @@
 -- A partition of the leaves' hypergraph, from that hypergraph in slots. Assumes nothing.
-use mathlib.Core.Path.{_≡_, refl, sym, ap, _∙_}
+use mathlib.Core.Path.{_≡_, sym, ap, _∙_}
 use mathlib.Core.List.{List, _++_}
 use Prim.Native.Nat.{ℕ, _+_, _≤_, _<_}
 use native.Mathlib.Omega.{arith}
@@ -8,7 +8,7 @@ use lib.ListN.{length, take, drop, replicate, length-append, length-replicate, t
 use lib.Seq.{take-at, length-take-le}
 use Rattle.spec.specs.Network.{Network}
 use Rattle.spec.specs.Draws.{drawn}
-use Rattle.spec.specs.Hypergraph.{Hypergraph, hypergraphOf}
+use Rattle.spec.specs.Hypergraph.{Hypergraph}
 use Rattle.spec.specs.Bisection.{bisect}
 use Rattle.draws.specs.Cursor.{wordsAt}
 use Rattle.partition.specs.Layout.{graphIn}

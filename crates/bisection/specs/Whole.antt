@@ -15,11 +15,11 @@ use Rattle.spec.specs.Network.{Network, leafCount}
 use Rattle.spec.specs.Tree.{Pair, flatOf}
 use Rattle.spec.specs.Refusal.{Result, refused, done, andThen}
 use Rattle.spec.specs.Draws.{lentWords}
-use Rattle.spec.specs.Bisection.{Halved, imbalance, bisectRec, Bisected, bisectedFrom, bisection}
+use Rattle.spec.specs.Bisection.{Halved, imbalance, bisectRec, bisectedFrom, bisection}
 use Rattle.spec.specs.Calls.{bisectionWords}
 use Rattle.laws.specs.ListLaws.{from-memb, range-length}
 use Rattle.laws.specs.GreedyForest.{leaves-single}
-use Rattle.cells.specs.Cells.{over-fits}
+use Rattle.cells.specs.Cells.{over-fits, over-nil}
 use Rattle.network.specs.Layouts.{layout-leaf-count}
 use Rattle.network.specs.Checks.{Lent}
 use Rattle.network.specs.Codes.{Facts}
@@ -28,7 +28,7 @@ use Rattle.start.specs.Leaves.{putAll}
 use Rattle.draws.specs.Cursor.{wordsAt}
 use Rattle.greedynodes.specs.Lends.{lends-layout}
 use Rattle.greedynodes.specs.Begin.{Fits, Asks}
-use Rattle.greedynodes.specs.Counted.{counted-range, nothing-over, light-front}
+use Rattle.greedynodes.specs.Counted.{counted-range, light-front}
 use Rattle.bisection.specs.Calls.{names-of}
 use Rattle.bisection.specs.Named.{Named}
 use Rattle.halving.specs.Cases.{halved, refusalAt, Halves, isOff, isTree}
@@ -92,7 +92,7 @@ module _ (m n o : ℕ) (weights counts cells outputs : List ℕ) (lent : Lent we
           leaf = λ v e. omega (arith, from-memb v 0 n (ap (memb v) (sym all-leaves) ∙ e));
           once = λ v. subst (λ (l : List ℕ). count v l ≤ 1) (sym all-leaves) (leaves-single n v);
           array = refl;
-          written = nothing-over kids;
+          written = sym (over-nil kids);
         }
 
     pub whole-named : List ℕ → Named (take m weights) counts cells leaves

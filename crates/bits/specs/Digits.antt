@@ -99,10 +99,5 @@ of-ext zero p q h = refl
 of-ext (suc n) p q h =
     rw (h 0 (omega arith), of-ext n (λ i. p (suc i)) (λ i. q (suc i)) (λ i b. h (suc i) (omega arith)))
 
-pub of-none : (n : ℕ) → ofDigits n (λ i. false) ≡ 0
-unfolding ofDigits
-of-none zero = refl
-of-none (suc n) = omega (arith, of-none n)
-
 pub diff-lt : (k x y : ℕ) → x < 2 ^ k → bitDiff x y < 2 ^ k
 diff-lt k x y h = xor-lt k x (bitAnd x y) h (omega (arith, and-le-l x y))

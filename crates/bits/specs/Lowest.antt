@@ -7,12 +7,13 @@ use Prim.Native.Nat.{ℕ, zero, suc, _+_, _-_, _*_, _/_, _%_, _^_, _<_}
 use native.Mathlib.Omega.{arith}
 use native.Mathlib.Nat.{pow-suc}
 use native.Mathlib.Decide.{ℕ-discrete}
-use lib.Bits.{bitAnd, and-step, and-le-r, and-self}
+use lib.Bits.{bitAnd, and-step, and-le-r}
 use lib.Count.{trailingZeros, ones, ones-step, ones-le}
 use lib.Dec.{eqb}
 use lib.ListN.{length}
 use Rattle.spec.specs.Lists.{keep, from}
 use Rattle.laws.specs.ListLaws.{keep-ext-from, keep-none-from}
+use Rattle.laws.specs.Masks.{clear-odd}
 use Rattle.bits.specs.Bit.{bit-zero, bit-suc}
 use Rattle.bits.specs.Digits.{digit, zero-digits}
 
@@ -30,12 +31,6 @@ tz-small (suc k) x p b =
 
 drop-even : (x : ℕ) → 0 < x → x % 2 ≡ 0 → bitAnd x (x - 1) ≡ bitAnd (x / 2) (x / 2 - 1) * 2
 drop-even x p e = let h : (x - 1) / 2 ≡ x / 2 - 1 = omega arith in and-step x (x - 1) ∙ rw (h, e) (omega arith)
-
-drop-odd : (x : ℕ) → x % 2 ≡ 1 → bitAnd x (x - 1) ≡ x / 2 * 2
-drop-odd x e =
-    let h : (x - 1) / 2 ≡ x / 2 = omega arith in
-    let z : (x - 1) % 2 ≡ 0 = omega arith in
-    and-step x (x - 1) ∙ rw (h, e, z, and-self (x / 2)) (omega arith)
 
 -- p tests, from place b on, the digits of x below k
 abbrev pub Tests : (ℕ → Bool) → ℕ → ℕ → ℕ → Type 0
@@ -72,7 +67,7 @@ keep-step (suc k) b x p q pos lt hp hq =
           (rw h at (later-tests q b k (bitAnd x (x - 1)) hq)) in
           rw (ep, eq, e) (ih ∙ ap (λ (n : ℕ). n ∷ keep q (from (suc b) k)) t))
       | no f ↦ (let e : x % 2 ≡ 1 = omega (arith, f) in
-          let d = drop-odd x e in
+          let d = clear-odd x e in
           let h : bitAnd x (x - 1) / 2 ≡ x / 2 = omega (arith, d) in
           let z : bitAnd x (x - 1) % 2 ≡ 0 = omega (arith, d) in
           let ep : p b ≡ true = first-test p b k x hp ∙ rw e in

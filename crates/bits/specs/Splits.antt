@@ -50,7 +50,7 @@ unfolding partsBelow
 below-1 rest o zero = refl
 below-1 rest o (suc n) = rw double (omega (arith, part-odd-1 rest n o, part-even rest n, below-1 rest o n))
 
-ones-zero : ones 0 ≡ 0
+pub ones-zero : ones 0 ≡ 0
 unfolding ones
 ones-zero = refl
 

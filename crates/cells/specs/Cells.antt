@@ -7,7 +7,7 @@ use native.Mathlib.Numerals.{add-one}
 use native.Mathlib.Omega.{arith}
 use native.Mathlib.Decide.{decLe}
 use lib.ListN.{length, getD, set, take, drop, replicate, length-append, length-take, length-drop, length-replicate, getD-replicate, drop-of-length-le, take-append-drop, List·getD-eq-default}
-use lib.Seq.{take-nil, take-all, take-length, take-suc, drop-drop, ext-getD, length-take-le, getD-take}
+use lib.Seq.{take-nil, take-all, take-length, take-suc, drop-drop, ext-getD, length-take-le, getD-take, sets, sets-eq, take-at, drop-cons}
 use Rattle.spec.specs.Memory.{filled, over, copied, placed, cleared}
 
 -- ---- samples: within the list, and past its end
@@ -53,6 +53,20 @@ module _ {A : Type 0} where
   filled-suc zero x = refl
   filled-suc (suc n) x = ap (λ (l : List A). x ∷ l) (filled-suc n x)
 
+  -- the front of a list of one value
+  pub front-filled : (n k : ℕ) (x : A) → n ≤ k → take n (replicate k x) ≡ filled n x
+  unfolding filled
+  front-filled zero k x h = refl
+  front-filled (suc n) zero x h = absurd (omega arith)
+  front-filled (suc n) (suc k) x h = ap (λ (l : List A). x ∷ l) (front-filled n k x (omega arith))
+
+  -- what was put at a list's front stands there
+  pub take-sets : (l vs : List A) → length vs ≤ length l → take (length vs) (sets l 0 vs) ≡ vs
+  take-sets l vs h = ap (take (length vs)) (sets-eq vs l 0 (omega arith)) ∙ take-at vs (drop (0 + length vs) l) (length vs) refl
+
+  pub drop-here : (l : List A) (i : ℕ) (d : A) → i < length l → drop i l ≡ getD l i d ∷ drop (i + 1) l
+  drop-here l i d h = drop-cons l i d h ∙ ap (λ (k : ℕ). getD l i d ∷ drop k l) (sym (add-one i))
+
   -- ---- one list over the front of another
 
   pub over-nil : (d : List A) → over d [] ≡ d
@@ -86,6 +100,13 @@ module _ {A : Type 0} where
   over-fits [] (y ∷ s) h = absurd (omega arith)
   over-fits (x ∷ d) [] h = refl
   over-fits (x ∷ d) (y ∷ s) h = ap (λ (l : List A). y ∷ l) (over-fits d s (omega arith))
+
+  pub over-all : (d s : List A) → length s ≡ length d → over d s ≡ s
+  unfolding over
+  over-all [] [] e = refl
+  over-all [] (y ∷ s) e = absurd (omega arith)
+  over-all (x ∷ d) [] e = absurd (omega arith)
+  over-all (x ∷ d) (y ∷ s) e = ap (λ (l : List A). y ∷ l) (over-all d s (omega arith))
 
   -- one element more
   pub over-snoc : (d s : List A) (x : A) → set (over d s) (length s) x ≡ over d (s ++ x ∷ [])
@@ -174,12 +195,6 @@ module _ {A : Type 0} where
   over-take [] (y ∷ s) h = absurd (omega arith)
   over-take (x ∷ d) (y ∷ s) h = ap (λ (l : List A). y ∷ l) (over-take d s (omega arith))
 
-  over-drop : (d s : List A) → drop (length s) (over d s) ≡ drop (length s) d
-  unfolding over
-  over-drop d [] = over-nil d
-  over-drop [] (y ∷ s) = refl
-  over-drop (x ∷ d) (y ∷ s) = over-drop d s
-
   pub placed-length : (d s : List A) (at : ℕ) → length (placed d at s) ≡ length d
   unfolding placed
   placed-length d s at = simp (length-append, over-length, length-take, length-drop) (omega arith)
@@ -197,13 +212,6 @@ module _ {A : Type 0} where
   placed-there d s zero h = over-take d s (omega arith)
   placed-there [] s (suc at) h = absurd (omega arith)
   placed-there (x ∷ d) s (suc at) h = placed-there d s at (omega arith)
-
-  -- what stands after s stays
-  pub placed-after : (d s : List A) (at : ℕ) → drop (at + length s) (placed d at s) ≡ drop (at + length s) d
-  unfolding placed over
-  placed-after d s zero = rw zero-add (over-drop d s)
-  placed-after [] s (suc at) = refl
-  placed-after (x ∷ d) s (suc at) = rw suc-add (placed-after d s at)
 
   -- one after the other is both at once
   pub placed-next : (d s t : List A) (at : ℕ) → placed (placed d at s) (at + length s) t ≡ placed d at (s ++ t)
@@ -253,10 +261,6 @@ pub cleared-past : (ws : List ℕ) (m k : ℕ) → m ≤ k → getD (cleared ws 
 unfolding cleared
 cleared-past ws m k h = over-past ws (filled m 0) k 0 (simp filled-length h)
 
-pub cleared-all : (ws : List ℕ) (m : ℕ) → length ws ≤ m → cleared ws m ≡ filled (length ws) 0
-unfolding cleared
-cleared-all ws m h = filled-end ws m 0 h
-
 -- lists that differ only in their first m words are the same when those are cleared
 pub cleared-same : (a b : List ℕ) (m : ℕ) → length a ≡ length b → ((k : ℕ) → m ≤ k → getD a k 0 ≡ getD b k 0) → cleared a m ≡ cleared b m
 cleared-same a b m e h =
@@ -265,9 +269,6 @@ cleared-same a b m e h =
       | yes q ↦ cleared-past a m k q ∙ h k q ∙ sym (cleared-past b m k q)
       | no q ↦ cleared-zero a m k (omega arith) ∙ sym (cleared-zero b m k (omega arith))
     ])
-
-pub cleared-twice : (ws : List ℕ) (m : ℕ) → cleared (cleared ws m) m ≡ cleared ws m
-cleared-twice ws m = cleared-same (cleared ws m) ws m (cleared-length ws m) (cleared-past ws m)
 
 -- clearing stops at the end
 pub cleared-min : (ws : List ℕ) (m : ℕ) → cleared ws (min m (length ws)) ≡ cleared ws m

@@ -1,7 +1,7 @@
 -- The coarse vertex of each vertex, and the weights of the coarse vertices. Assumes nothing.
 use mathlib.Core.Bool.{Bool, true, false, cond}
 use mathlib.Core.Path.{_≡_, refl, sym, ap, _∙_}
-use mathlib.Core.List.{List, [], _∷_, _++_, map, append-nil}
+use mathlib.Core.List.{List, [], _∷_, _++_, map, append-nil, map-append}
 use Prim.Native.Nat.{ℕ, zero, suc, _+_, _-_, _≤_, _<_, min}
 use native.Mathlib.Omega.{arith}
 use native.Mathlib.Numerals.{add-one}
@@ -24,10 +24,6 @@ use Rattle.coarsen.specs.Pairs.{Paired}
 keep-more : (p : ℕ → Bool) (k : ℕ) → keep p (range (suc k)) ≡ keep p (range k) ++ keep p (k ∷ [])
 keep-more p k =
     ap (λ (n : ℕ). keep p (range n)) (sym (add-one k)) ∙ keep-add p 0 k 1 ∙ ap (λ (x : ℕ). keep p (range k) ++ keep p (x ∷ [])) (zero-add k)
-
-map-append : {A B : Type 0} (f : A → B) (k l : List A) → map f (k ++ l) ≡ map f k ++ map f l
-map-append f [] l = refl
-map-append f (x ∷ k) l = ap (λ t. f x ∷ t) (map-append f k l)
 
 -- ---- the definitions, by the list of mates alone ----
 

@@ -1,9 +1,9 @@
 -- The coarser hypergraph in slots. Assumes nothing.
 use mathlib.Core.Bool.{Bool, true, false, not, cond}
-use mathlib.Core.Path.{_≡_, refl, sym, ap, ap₂, _∙_, subst}
+use mathlib.Core.Path.{_≡_, refl, sym, ap, _∙_, subst}
 use mathlib.Core.List.{List, [], _∷_, map, map-map}
 use mathlib.Core.Option.{Option, none, some}
-use Prim.Native.Nat.{ℕ, _+_, _-_, _*_, _≤_, _<_}
+use Prim.Native.Nat.{ℕ, _+_, _*_, _≤_, _<_}
 use native.Mathlib.Omega.{arith}
 use lib.Dec.{eqb}
 use lib.Ieee.{Float, binary64, mul, lt}
@@ -15,15 +15,14 @@ use Rattle.spec.specs.Lists.{memb, keep, range}
 use Rattle.spec.specs.Floats.{zeroFloat, wholeFloat, decimal}
 use Rattle.spec.specs.Draws.{Drawn, drawn}
 use Rattle.spec.specs.Hypergraph.{Net, nets≥2}
-use Rattle.spec.specs.Coarsen.{Level, matching, coarser, levelOf, worthwhile, coarsen}
+use Rattle.spec.specs.Coarsen.{Level, matching, levelOf, worthwhile, coarsen}
 use Rattle.laws.specs.Booleans.{by-cases, or-cases, or-intror, clash}
-use Rattle.laws.specs.ListLaws.{keep-passes, memb-head}
+use Rattle.laws.specs.ListLaws.{keep-passes, memb-head, kept-below, map-cong}
 use Rattle.spec.specs.Layout.{firsts}
 use Rattle.network.specs.Layouts.{map-range-ext, firsts-take}
 use Rattle.slots.specs.Slots.{held}
 use Rattle.slots.specs.Rising.{risingOf}
 use Rattle.partition.specs.Layout.{netIn, graphIn}
-use Rattle.partition.specs.Gains.{kept-below}
 use Rattle.draws.specs.Cursor.{wordsAt}
 use Rattle.matching.specs.Meshed.{Meshed}
 use Rattle.mesh.specs.Stays.{Stays, stays-then, stays-wider}
@@ -35,10 +34,6 @@ use Rattle.coarsen.specs.Joined.{lowers, coarseIn, joinedOf, joined, Joi
 use Rattle.coarsen.specs.Mapped.{images, mapped, Maps, maps}
 
 -- ---- lists ----
-
-map-cong : {A : Type 0} (f g : ℕ → A) (l : List ℕ) → ((v : ℕ) → memb v l ≡ true → f v ≡ g v) → map f l ≡ map g l
-map-cong f g [] h = refl
-map-cong f g (x ∷ l) h = ap₂ (λ a t. a ∷ t) (h x (memb-head x l)) (map-cong f g l (λ v m. h v (or-intror (eqb v x) (memb v l) m)))
 
 image-below : (f : ℕ → ℕ) (n : ℕ) (l : List ℕ) → ((v : ℕ) → memb v l ≡ true → f v < n) → (j : ℕ) → n ≤ j → memb j (map f l) ≡ false
 image-below f n [] h j b = refl

@@ -1,25 +1,25 @@
 -- Counts of indices up to 2, leaf by leaf, and what they say of indices that just one leaf names. Assumes nothing.
-use mathlib.Core.Bool.{Bool, true, false, not, _&&_, _||_, cond}
+use mathlib.Core.Bool.{Bool, true, false, not, _&&_, cond}
 use mathlib.Core.List.{List, [], _∷_, map}
 use mathlib.Core.Logic.{_⊎_, inl, inr, ⊎-elim}
 use mathlib.Core.Path.{_≡_, refl, sym, ap, ap₂, _∙_, subst}
 use Prim.Native.Nat.{ℕ, zero, suc, _+_, _≤_, _<_}
-use native.Mathlib.Numerals.{add-one}
 use native.Mathlib.Omega.{arith}
 use lib.Dec.{eqb}
-use lib.ListN.{length, getD, set, take, drop, replicate, length-set}
-use lib.Seq.{drop-cons, getD-set-same, getD-set-other}
-use borrow.Author.Tests.{eq-eqb, ne-eqb, eqb-true, eqb-false}
+use lib.ListN.{length, getD, set, take, drop, length-set, drop-of-length-le}
+use lib.Seq.{getD-set-same, getD-set-other}
+use borrow.Author.Tests.{ne-eqb, eqb-true, eqb-false}
 use Rattle.spec.specs.Lists.{memb, keep, anyb, count, sumOf, from, range}
-use Rattle.spec.specs.Network.{Network, leafCount, indexCount, legs}
+use Rattle.spec.specs.Network.{Network, leafCount, legs}
 use Rattle.spec.specs.Layout.{firsts, rowAt, networkOf}
 use Rattle.spec.specs.Memory.{filled}
 use Rattle.spec.specs.Calls as calls
-use Rattle.laws.specs.Booleans.{by-cases, eqb-sym}
-use Rattle.laws.specs.ListLaws.{any-ext, keep-ext, sum-map, count-memb, count-not-memb}
-use Rattle.cells.specs.Cells.{filled-length, filled-all}
-use Rattle.network.specs.Checks.{leavesOf}
-use Rattle.network.specs.Layouts.{map-range-at, map-range-length, firsts-take, layout-leaf-count, layout-index-count, layout-legs, layout-outputs}
+use Rattle.laws.specs.Booleans.{by-cases}
+use Rattle.laws.specs.ListLaws.{any-ext, keep-ext, count-memb, count-not-memb, any-map}
+use Rattle.laws.specs.LayoutLaws.{map-range-at}
+use Rattle.cells.specs.Cells.{filled-length, filled-all, drop-here}
+use Rattle.network.specs.Checks.{leavesOf, rows-length}
+use Rattle.network.specs.Layouts.{firsts-take, layout-leaf-count, layout-index-count, layout-legs, layout-outputs}
 
 abbrev pub oneMore : ℕ → ℕ
 oneMore x = cond (eqb x 0) 1 2
@@ -45,39 +45,26 @@ danglingOf m n o counts legs outputs =
 
 -- ---- turns of the loops ----
 
-from-here : {A : Type 0} (l : List A) (i : ℕ) (d : A) → i < length l → drop i l ≡ getD l i d ∷ drop (i + 1) l
-from-here l i d h = drop-cons l i d h ∙ ap (λ (k : ℕ). getD l i d ∷ drop k l) (sym (add-one i))
-
-drop-all : {A : Type 0} (n : ℕ) (l : List A) → length l ≤ n → drop n l ≡ []
-drop-all zero [] h = refl
-drop-all zero (x ∷ l) h = absurd (omega arith)
-drop-all (suc n) [] h = refl
-drop-all (suc n) (x ∷ l) h = drop-all n l (omega arith)
-
 module _ (t row e : List ℕ) (k : ℕ) (inv : tallied t (drop k row) ≡ e) where
   pub tally-next : (t′ : List ℕ) (j x y : ℕ) → k < length row → j ≡ getD row k 0 → x ≡ getD t j 0 → y ≡ oneMore x → t′ ≡ set t j y
       → tallied t′ (drop (k + 1) row) ≡ e
   tally-next t′ j x y h p q r s =
       ap (λ u. tallied u (drop (k + 1) row)) (s ∙ ap (set t j) (r ∙ ap oneMore q) ∙ ap (λ i. set t i (oneMore (getD t i 0))) p)
-      ∙ sym (ap (tallied t) (from-here row k 0 h))
+      ∙ sym (ap (tallied t) (drop-here row k 0 h))
       ∙ inv
 
   pub tally-end : length row ≤ k → t ≡ e
-  tally-end h = sym (ap (tallied t) (drop-all k row h)) ∙ inv
+  tally-end h = sym (ap (tallied t) (drop-of-length-le row h)) ∙ inv
 
 module _ (t row e : List ℕ) (k : ℕ) (inv : struck t (drop k row) ≡ e) where
   pub strike-next : (t′ : List ℕ) (j : ℕ) → k < length row → j ≡ getD row k 0 → t′ ≡ set t j 0 → struck t′ (drop (k + 1) row) ≡ e
   strike-next t′ j h p s =
-      ap (λ u. struck u (drop (k + 1) row)) (s ∙ ap (λ i. set t i 0) p) ∙ sym (ap (struck t) (from-here row k 0 h)) ∙ inv
+      ap (λ u. struck u (drop (k + 1) row)) (s ∙ ap (λ i. set t i 0) p) ∙ sym (ap (struck t) (drop-here row k 0 h)) ∙ inv
 
   pub strike-end : length row ≤ k → t ≡ e
-  strike-end h = sym (ap (struck t) (drop-all k row h)) ∙ inv
+  strike-end h = sym (ap (struck t) (drop-of-length-le row h)) ∙ inv
 
 module _ (t e : List ℕ) (n i : ℕ) (counts legs : List ℕ) (inv : tallyRows t (drop i (leavesOf n counts legs)) ≡ e) where
-  rows-length : length (leavesOf n counts legs) ≡ n
-  unfolding leavesOf
-  rows-length = map-range-length (rowAt counts legs) n
-
   row-here : i < n → getD (leavesOf n counts legs) i [] ≡ rowAt counts legs i
   unfolding leavesOf
   row-here h = map-range-at (rowAt counts legs) [] n i h
@@ -85,11 +72,11 @@ module _ (t e : List ℕ) (n i : ℕ) (counts legs : List ℕ) (inv : tallyRows 
   pub rows-next : (t′ row : List ℕ) → i < n → row ≡ rowAt counts legs i → t′ ≡ tallied t row → tallyRows t′ (drop (i + 1) (leavesOf n counts legs)) ≡ e
   rows-next t′ row h p s =
       ap (λ u. tallyRows u (drop (i + 1) (leavesOf n counts legs))) (s ∙ ap (tallied t) (p ∙ sym (row-here h)))
-      ∙ sym (ap (tallyRows t) (from-here (leavesOf n counts legs) i [] (omega (arith, rows-length))))
+      ∙ sym (ap (tallyRows t) (drop-here (leavesOf n counts legs) i [] (omega (arith, rows-length n counts legs))))
       ∙ inv
 
   pub rows-end : n ≤ i → t ≡ e
-  rows-end h = sym (ap (tallyRows t) (drop-all i (leavesOf n counts legs) (omega (arith, rows-length)))) ∙ inv
+  rows-end h = sym (ap (tallyRows t) (drop-of-length-le (leavesOf n counts legs) {i = i} (omega (arith, rows-length n counts legs)))) ∙ inv
 
 -- ---- what the counts are ----
 
@@ -161,10 +148,6 @@ module _ (j : ℕ) where
       by-cases (memb j (f k))
       (λ q. rw q (omega (arith, count-memb j (f k) q, h k (omega arith) (omega arith))))
       (λ q. rw q (omega (arith, count-not-memb j (f k) q)))
-
-any-map : {A : Type 0} (p : A → Bool) (f : ℕ → A) (l : List ℕ) → anyb p (map f l) ≡ anyb (λ i. p (f i)) l
-any-map p f [] = refl
-any-map p f (i ∷ l) = ap (λ b. p (f i) || b) (any-map p f l)
 
 pub any-firsts : (p : ℕ → Bool) (m : ℕ) (l : List ℕ) → m ≤ length l → anyb p (take m l) ≡ anyb (λ j. p (getD l j 0)) (range m)
 unfolding firsts

@@ -1,16 +1,15 @@
 -- What the rounding of `near` and `round_away` rests on. Assumes nothing.
 use mathlib.Core.Path.{_≡_, refl, sym, ap, _∙_, subst}
-use mathlib.Core.Bool.{Bool, true, false, not, cond, _&&_, true≢false}
-use mathlib.Core.Logic.{_⊎_, inl, inr}
-use Prim.Native.Nat.{ℕ, zero, suc, _+_, _-_, _*_, _/_, _%_, _^_, _≤_, _<_, min}
-use native.Mathlib.Nat.{mul-one, one-mul, add-mul, mul-comm, mul-assoc, mul-left-comm, mul-right-comm, mul-pos, mul-le-mul-right, le-antisymm, le-of-suc-le-suc, lt-of-lt-of-le, lt-of-le-of-lt, le-of-eq, le-trans, zero-lt-suc, le-div-iff-mul-le, div-lt-iff-lt-mul, div-mul-le-self, zero-mul, lt-irrefl, mul-div-cancel, eq-zero-or-pos, pow-succ'}
+use mathlib.Core.Bool.{Bool, true, false, _&&_, true≢false}
+use Prim.Native.Nat.{ℕ, zero, suc, _+_, _*_, _/_, _%_, _^_, _≤_, _<_}
+use native.Mathlib.Nat.{mul-one, one-mul, add-mul, mul-assoc, mul-right-comm, mul-pos, le-antisymm, le-of-suc-le-suc, lt-of-lt-of-le, zero-lt-suc, le-div-iff-mul-le, div-lt-iff-lt-mul, div-mul-le-self, zero-mul, pow-succ'}
 use native.Mathlib.Omega.{arith}
-use lib.Dec.{T, lt→ltb, ltb, leb, eqb, leb→le, ltb→lt, eqb→eq, lit<, lit≤}
+use lib.Dec.{T, lt→ltb, ltb, leb, eqb, ltb→lt, lit≤}
 use lib.Pow.{pow-add, pow-pos, pow-mono, shl-lt}
-use borrow.Author.Tests.{lt-ltb, le-ltb, ltb-true, ltb-false}
+use borrow.Author.Tests.{ltb-true, ltb-false}
 use lib.IntN.{ℤ, pos, negsuc}
-use lib.Ieee.{Float, nan, inf, fin, binary64, up, down, low, prec, emax, round, units, odd, sum, add, neg, lt, ofInt, toUnsigned, fits}
-use lib.Ieee.Fits.{down-pos, up-pos, round-fits, round-is, and-l, and-r}
+use lib.Ieee.{Float, nan, inf, fin, binary64, up, down, round, sum, add, neg, lt, ofInt, toUnsigned, fits}
+use lib.Ieee.Fits.{down-pos, round-fits, and-l, and-r}
 use lib.Ieee.Exact.{HasValue, round-exact}
 use lib.Ieee.Scale.{round-same}
 use lib.Ieee.Back.{round-whole, whole-unique}
@@ -231,14 +230,6 @@ asks-neg (inf false) a b = absurd (true≢false (sym a))
 asks-neg (fin false m e) a b = absurd (let z : m * up e * 1 < 0 * 1 * down e = ltb-true _ _ a in let y : 0 * 1 * down e ≡ 0 = zero-mul (down e) in omega arith)
 asks-neg (fin true m e) a b =
     (lt→ltb (0 * 1 * down e) (m * up e * 1) (let k : 0 < m * up e * 1 + 0 * 1 * down e = ltb-true _ _ a in let y : 0 * 1 * down e ≡ 0 = zero-mul (down e) in omega arith), subst T (sym b) tt)
-
-neg-neg : (x : Float) → neg (neg x) ≡ x
-unfolding neg
-neg-neg nan = refl
-neg-neg (inf true) = refl
-neg-neg (inf false) = refl
-neg-neg (fin true m e) = refl
-neg-neg (fin false m e) = refl
 
 pub neg-near : (x r : Float) → lt x naught ≡ true → r ≡ roundAway (neg x) → neg r ≡ roundAway x
 unfolding lt neg roundAway

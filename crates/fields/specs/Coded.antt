@@ -3,7 +3,8 @@ use mathlib.Core.Option.{Option, none, some}
 use mathlib.Core.Path.{_≡_, refl, sym, ap, _∙_}
 use Prim.Native.Nat.{ℕ, zero, suc}
 use native.Mathlib.Omega.{arith}
-use Rattle.spec.specs.Refusal.{Refusal, truncated, wrongTag, tooLarge, overweight, outOfRange, repeated, shortBuffer, invalidTree, invalidFlags, totalBeyond, danglingIndex, tableTooWide, drawsExhausted, numberOf, codeOf, Result, refused, done, andThen, decide}
+use Rattle.spec.specs.Refusal.{Refusal, numberOf, codeOf, Result, refused, done, andThen, decide}
+use Rattle.network.specs.Codes.{code-zero}
 
 pub data Coded (A : Type 0) : Type 0 where
   number : ℕ → Coded A
@@ -18,22 +19,6 @@ abbrev pub unless : {A : Type 0} → ℕ → Coded A → Coded A
 unless zero x = x
 unless (suc k) x = number (suc k)
 
--- a refusal's number is not 0
-pub numbered : {A : Type 0} (r : Refusal) (x : Coded A) → unless (numberOf r) x ≡ number (numberOf r)
-numbered truncated x = refl
-numbered wrongTag x = refl
-numbered tooLarge x = refl
-numbered overweight x = refl
-numbered outOfRange x = refl
-numbered repeated x = refl
-numbered shortBuffer x = refl
-numbered invalidTree x = refl
-numbered invalidFlags x = refl
-numbered totalBeyond x = refl
-numbered danglingIndex x = refl
-numbered tableTooWide x = refl
-numbered drawsExhausted x = refl
-
 clash {ℓ} : {A : Type 0} {P : Type ℓ} (k : ℕ) (x : A) → number k ≡ value x → P
 clash k x e = absurd (let w : _≡_ {A = ℕ} 0 1 = cc in omega arith)
 
@@ -42,13 +27,8 @@ pub decided-no : {A : Type 0} (o : Option Refusal) (k : ℕ) (x : Coded A) (y : 
 decided-no none k x y e = absurd (omega arith)
 decided-no (some r) k x y e = ap number e
 
--- none has been found
-pub decided-none : (o : Option Refusal) → 0 ≡ codeOf o → o ≡ none
-decided-none none e = refl
-decided-none (some r) e = clash (numberOf r) (tt {0}) (sym (numbered r (value (tt {0}))) ∙ ap (λ k. unless k (value (tt {0}))) (sym e))
-
 pub decided-yes : {A : Type 0} (o : Option Refusal) (x y : A) → 0 ≡ codeOf o → x ≡ y → unless 0 (value x) ≡ coded (decide o (done y))
-decided-yes o x y e q = ap value q ∙ ap (λ p. coded (decide p (done y))) (sym (decided-none o e))
+decided-yes o x y e q = ap value q ∙ ap (λ p. coded (decide p (done y))) (sym (code-zero o e))
 
 -- what follows an answer
 pub followed : {A B : Type 0} (r : Result A) (f : A → Result B) (k : ℕ) (x : A) → unless k (value x) ≡ coded r → coded (andThen r f) ≡ unless k (coded (f x))

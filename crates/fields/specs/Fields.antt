@@ -11,14 +11,15 @@ use lib.ListN.{length, getD, set, take, drop, length-drop}
 use lib.Seq.{drop-cons, length-take-le, getD-set-same, getD-set-other}
 use borrow.Author.Tests.{ltb-false, leb-false}
 use Rattle.spec.specs.Memory.{placed}
-use Rattle.spec.specs.Refusal.{Refusal, tooLarge, codeOf, Result, refused, done, decide}
+use Rattle.spec.specs.Refusal.{Refusal, tooLarge, codeOf, Result, done, decide}
 use Rattle.spec.specs.Network.{Network, leafCount, indexCount}
 use Rattle.spec.specs.Layout.{networkOf, firsts}
-use Rattle.spec.specs.File.{plain, flagged, target, Due, leavesDue, treeDue, askDue, endDue, Reading, indexBytes, takeWeights, takeLeaf, takeOutputs, takeTree, takeFlags, takeTarget}
-use Rattle.laws.specs.Booleans.{by-cases, or-none}
+use Rattle.spec.specs.File.{plain, flagged, Due, leavesDue, treeDue, askDue, endDue, Reading, takeWeights, takeLeaf, takeOutputs, takeTree, takeFlags, takeTarget}
+use Rattle.laws.specs.Booleans.{or-none}
 use Rattle.network.specs.Layouts.{layout-leaf-count, layout-index-count, layout-more-leaves, firsts-whole}
+use Rattle.network.specs.Codes.{code-zero}
 use Rattle.payloads.specs.Payload.{weightsRefusal, leafRefusal, outputsRefusal, treeRefusal, flagsRefusal}
-use Rattle.fields.specs.Coded.{Coded, number, value, coded, unless, decided-no, decided-yes, decided-none}
+use Rattle.fields.specs.Coded.{value, coded, unless, decided-no, decided-yes}
 use Rattle.fields.specs.Steps.{part}
 use Rattle.fields.specs.Scans.{stopped, bare, withTree, asking, treeIn, Lists, lists, netIn, readingIn}
 use Rattle.fields.specs.declared.Scan.{Scan}
@@ -92,7 +93,7 @@ module _ (p : List ℕ) where
 
   pub weights-fit : 0 ≡ codeOf (weightsRefusal p) → length p ≤ 256
   unfolding weightsRefusal
-  weights-fit e = ltb-false 256 (length p) (cond-none (ltb 256 (length p)) tooLarge _ (decided-none (weightsRefusal p) e))
+  weights-fit e = ltb-false 256 (length p) (cond-none (ltb 256 (length p)) tooLarge _ (code-zero (weightsRefusal p) e))
 
   pub leaf-decide : (N : Network) (m k : ℕ) → indexCount N ≡ m → leafCount N ≡ k
       → takeLeaf N p ≡ decide (leafRefusal m k p) (done (after leavesDue (record { leaves = N .leaves ++ (p ∷ []); outputs = []; weights = N .weights })))
@@ -104,7 +105,7 @@ module _ (p : List ℕ) where
   pub leaf-fits : (m k : ℕ) → 0 ≡ codeOf (leafRefusal m k p) → (length p ≤ 32) × (k < 128)
   unfolding leafRefusal
   leaf-fits m k e =
-      let (a, b) = or-none (ltb 32 (length p)) (leb 128 k) (cond-none (ltb 32 (length p) || leb 128 k) tooLarge _ (decided-none (leafRefusal m k p) e)) in
+      let (a, b) = or-none (ltb 32 (length p)) (leb 128 k) (cond-none (ltb 32 (length p) || leb 128 k) tooLarge _ (code-zero (leafRefusal m k p) e)) in
       (ltb-false 32 (length p) a, leb-false 128 k b)
 
   pub outputs-decide : (N : Network) (m : ℕ) → indexCount N ≡ m
@@ -116,7 +117,7 @@ module _ (p : List ℕ) where
 
   pub outputs-fit : (m : ℕ) → 0 ≡ codeOf (outputsRefusal m p) → length p ≤ 32
   unfolding outputsRefusal
-  outputs-fit m e = ltb-false 32 (length p) (cond-none (ltb 32 (length p)) tooLarge _ (decided-none (outputsRefusal m p) e))
+  outputs-fit m e = ltb-false 32 (length p) (cond-none (ltb 32 (length p)) tooLarge _ (code-zero (outputsRefusal m p) e))
 
   pub tree-decide : (N : Network) (k : ℕ) → leafCount N ≡ k
       → takeTree N p ≡ decide (treeRefusal k p) (done (record { due = askDue; read = record { network = N; tree = some p; ask = plain } }))

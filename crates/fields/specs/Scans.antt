@@ -1,11 +1,11 @@
 -- What a scan stands for. Assumes nothing.
 use mathlib.Core.Bool.{Bool, true, false, cond}
-use mathlib.Core.List.{List, [], _∷_}
+use mathlib.Core.List.{List}
 use mathlib.Core.Option.{Option, none, some}
-use mathlib.Core.Path.{_≡_, refl, sym, ap, _∙_}
-use Prim.Native.Nat.{ℕ, zero, suc, _+_, _≤_, _<_}
+use mathlib.Core.Path.{_≡_, refl}
+use Prim.Native.Nat.{ℕ, zero, suc, _≤_}
 use native.Mathlib.Omega.{arith}
-use lib.ListN.{length, getD}
+use lib.ListN.{getD}
 use Rattle.spec.specs.Network.{Network}
 use Rattle.spec.specs.Layout.{networkOf}
 use Rattle.spec.specs.File.{Ask, plain, flagged, target, Contents, Due, weightsDue, leavesDue, treeDue, askDue, endDue, Reading}

@@ -1,34 +1,18 @@
 -- Reading from a place of the file on: no bytes left, part of a header, and a whole field. Assumes nothing.
-use mathlib.Core.Bool.{Bool, true, false, not, cond}
+use mathlib.Core.Bool.{true, false, not, cond}
 use mathlib.Core.List.{List, [], _∷_}
 use mathlib.Core.Path.{_≡_, refl, sym, ap, _∙_}
-use Prim.Native.Nat.{ℕ, zero, suc, _+_, _*_, _-_, _<_, _≤_}
-use native.Mathlib.Numerals.{add-one}
+use Prim.Native.Nat.{ℕ, suc, _+_, _*_, _-_, _<_, _≤_}
 use native.Mathlib.Omega.{arith}
 use lib.Dec.{ltb}
-use lib.ListN.{length, getD, take, drop, length-drop, drop-of-length-le}
+use lib.ListN.{length, getD, take, drop, length-drop}
 use lib.Seq.{drop-cons, drop-drop}
 use borrow.Author.Tests.{lt-ltb, le-ltb}
-use Rattle.spec.specs.Refusal.{truncated, wrongTag, Check, check, Result, refused, done, andThen, checked}
+use Rattle.spec.specs.Refusal.{truncated, wrongTag, check, Result, refused, done, andThen, checked}
 use Rattle.spec.specs.File.{Contents, Reading, allowed, mayEnd, takeField, readFields}
+use Rattle.laws.specs.Results.{then-same}
+use Rattle.laws.specs.FileDecisions.{fuel}
 use Rattle.fields.specs.Coded.{Coded, number, value, coded, unless, followed}
-
-and-then-same : {A B : Type 0} (r : Result A) (f g : A → Result B) → ((x : A) → f x ≡ g x) → andThen r f ≡ andThen r g
-and-then-same (refused k) f g h = refl
-and-then-same (done x) f g h = h x
-
--- fuel beyond the file's length decides nothing
-enough : (f g : ℕ) (s : Reading) (bytes : List ℕ) → length bytes < f → length bytes < g → readFields f s bytes ≡ readFields g s bytes
-enough zero g s bytes h k = absurd (omega arith)
-enough (suc f) zero s bytes h k = absurd (omega arith)
-enough (suc f) (suc g) s [] h k = refl
-enough (suc f) (suc g) s (t ∷ []) h k = refl
-enough (suc f) (suc g) s (t ∷ high ∷ []) h k = refl
-enough (suc f) (suc g) s (t ∷ high ∷ low ∷ bytes) h k =
-    let n = high * 256 + low in
-    ap (checked (check (not (allowed (s .due) t)) wrongTag ∷ check (ltb (length bytes) n) truncated ∷ []))
-    (and-then-same (takeField s t (take n bytes)) (λ s′. readFields f s′ (drop n bytes)) (λ s′. readFields g s′ (drop n bytes))
-    (λ s′. enough f g s′ (drop n bytes) (omega (arith, length-drop n bytes)) (omega (arith, length-drop n bytes))))
 
 -- reading bytes to their end
 unfoldable pub readAll : Reading → List ℕ → Result Contents
@@ -54,8 +38,8 @@ read-field s t high low n bytes e =
     ap (λ k. checked (check (not (allowed (s .due) t)) wrongTag ∷ check (ltb (length bytes) k) truncated ∷ [])
     (andThen (takeField s t (take k bytes)) λ s′. readFields (suc (suc (suc (length bytes)))) s′ (drop k bytes))) (sym e)
     ∙ ap (checked (check (not (allowed (s .due) t)) wrongTag ∷ check (ltb (length bytes) n) truncated ∷ []))
-    (and-then-same (takeField s t (take n bytes)) (λ s′. readFields (suc (suc (suc (length bytes)))) s′ (drop n bytes)) (λ s′. readAll s′ (drop n bytes))
-    (λ s′. enough (suc (suc (suc (length bytes)))) (suc (length (drop n bytes))) s′ (drop n bytes) (omega (arith, length-drop n bytes)) (omega arith)))
+    (then-same (takeField s t (take n bytes)) (λ s′. readFields (suc (suc (suc (length bytes)))) s′ (drop n bytes)) (λ s′. readAll s′ (drop n bytes))
+    (λ s′. fuel (suc (suc (suc (length bytes)))) (suc (length (drop n bytes))) s′ (drop n bytes) (omega (arith, length-drop n bytes)) (omega arith)))
 
 -- a part of the file
 abbrev pub part : List ℕ → ℕ → ℕ → List ℕ

@@ -1,15 +1,14 @@
 -- Field after field to the file's end. Assumes nothing.
-use mathlib.Core.Bool.{Bool, true, false, cond}
-use mathlib.Core.List.{List, []}
+use mathlib.Core.Bool.{true, false, cond}
+use mathlib.Core.List.{List}
 use mathlib.Core.Path.{_≡_, refl, sym, ap, _∙_}
 use Prim.Native.Nat.{ℕ, zero, suc, _+_, _-_, _*_, _≤_, _<_}
 use native.Mathlib.Omega.{arith}
 use lib.ListN.{length, getD, drop, drop-of-length-le}
-use Rattle.spec.specs.Refusal.{truncated, Result, refused, done}
-use Rattle.spec.specs.Layout.{networkOf}
-use Rattle.spec.specs.File.{Reading, allowed, mayEnd, takeField, nothingRead}
+use Rattle.spec.specs.Refusal.{truncated, refused, done}
+use Rattle.spec.specs.File.{allowed, mayEnd, takeField, nothingRead}
 use Rattle.network.specs.Layouts.{layout-empty}
-use Rattle.fields.specs.Coded.{Coded, number, value, coded, unless}
+use Rattle.fields.specs.Coded.{number, value, coded, unless}
 use Rattle.fields.specs.Steps.{part, readAll, read-end, onward, onward-header, onward-tag, onward-truncated, onward-taken}
 use Rattle.fields.specs.Scans.{stopped, dueOf, Lists, netIn, readIn, readingIn}
 use Rattle.fields.specs.Fields.{Sound, Taken}

@@ -1,7 +1,7 @@
 -- Vertices that have not moved are entered again. Assumes nothing.
-use mathlib.Core.Bool.{Bool, true, false, cond}
+use mathlib.Core.Bool.{true, false, cond}
 use mathlib.Core.Path.{_≡_, refl, sym, ap, _∙_, subst}
-use mathlib.Core.List.{List, [], _∷_}
+use mathlib.Core.List.{List, []}
 use Prim.Native.Nat.{ℕ, suc, _+_, _≤_, _<_}
 use native.Mathlib.Omega.{arith}
 use native.Mathlib.Numerals.{add-one}
@@ -11,7 +11,7 @@ use lib.ListN.{length, getD, set, take, List·getD-eq-default, length-set}
 use lib.Seq.{getD-set-same, getD-set-other}
 use Rattle.spec.specs.Lists.{memb}
 use Rattle.spec.specs.Hypergraph.{foldOver}
-use Rattle.spec.specs.Fm.{Queue, enteredAs, enteredAgain}
+use Rattle.spec.specs.Fm.{Queue, enteredAgain}
 use Rattle.slots.specs.Slots.{held}
 use Rattle.partition.specs.Folds.{fold-next}
 use Rattle.partition.specs.Layout.{graphIn, sidesIn}

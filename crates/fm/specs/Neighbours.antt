@@ -1,8 +1,8 @@
 -- After a vertex has moved, the pins of its nets are entered again. Assumes nothing.
-use mathlib.Core.Bool.{Bool, true, _&&_}
+use mathlib.Core.Bool.{true}
 use mathlib.Core.Path.{_≡_, sym, ap, _∙_, subst}
 use mathlib.Core.List.{List, map}
-use Prim.Native.Nat.{ℕ, _+_, _*_, _≤_, _<_}
+use Prim.Native.Nat.{ℕ, _+_, _≤_, _<_}
 use native.Mathlib.Omega.{arith}
 use borrow.Author.Tests.{ltb-true}
 use lib.Dec.{ltb}
@@ -10,25 +10,22 @@ use lib.Ieee.{Float}
 use lib.ListN.{length, getD, take}
 use lib.Seq.{sets, getD-take}
 use Rattle.spec.specs.Lists.{keep, range}
-use Rattle.spec.specs.Members.{All}
 use Rattle.spec.specs.Hypergraph.{foldOver, netsAt, allPins}
 use Rattle.spec.specs.Fm.{Queue}
 use Rattle.laws.specs.Booleans.{and-left}
+use Rattle.laws.specs.ListLaws.{kept-each}
+use Rattle.laws.specs.MemberLaws.{all-at}
 use Rattle.slots.specs.Slots.{held}
-use Rattle.slots.specs.Rising.{risingOf}
+use Rattle.slots.specs.Rising.{risingOf, listed-all, rising-few}
 use Rattle.partition.specs.Layout.{netIn, graphIn, Laid}
-use Rattle.partition.specs.Gains.{nets-at, rising-few, listed-nets}
+use Rattle.partition.specs.Gains.{nets-at}
 use Rattle.queue.specs.Enters.{Place}
 use Rattle.fm.specs.Again.{Stamped, Under, againIn, Locks}
-use Rattle.fm.specs.NetAgain.{kept-each, all-at}
 use Rattle.fm.specs.NetsAgain.{NetsAgain}
 
 net-held : (ws : List ℕ) (s k : ℕ) → k < length (risingOf ws 4 s) → (held ws 4 s (getD (risingOf ws 4 s) k 0) ≡ true) × (getD (risingOf ws 4 s) k 0 < 256)
 unfolding risingOf
-net-held ws s k b = all-at (λ v. (held ws 4 s v ≡ true) × (v < 256)) (keep (held ws 4 s) (range 256)) k (kept-each (held ws 4 s) 0 256) b
-
-pub own-few : (ws : List ℕ) (s r : ℕ) → r ≡ length (risingOf ws 4 s) → r ≤ 256
-own-few ws s r e = omega (arith, rising-few ws s)
+net-held ws s k b = all-at (λ v. (held ws 4 s v ≡ true) × (v < 256)) (keep (held ws 4 s) (range 256)) k 0 (kept-each (held ws 4 s) 0 256) b
 
 -- the nets of v, put into a list, are nets
 pub own-under : (ws : List ℕ) (o : Place) (out out′ : List ℕ) (v r : ℕ) → Laid ws (o .nets) (o .vertices) (o .sides) (o .m) (o .n) → v < o .n
@@ -36,7 +33,7 @@ pub own-under : (ws : List ℕ) (o : Place) (out out′ : List ℕ) (v r : ℕ) 
 own-under ws o out out′ v r h b e f l k q =
     let (x, y) = net-held ws (o .vertices + v) k (omega (arith, e)) in
     let z : getD (risingOf ws 4 (o .vertices + v)) k 0 ≡ getD out′ k 0 =
-    ap (λ w. getD w k 0) (sym (listed-nets ws out out′ (o .vertices + v) r e f l)) ∙ getD-take r out′ k 0 q in
+    ap (λ w. getD w k 0) (sym (listed-all ws out out′ 4 (o .vertices + v) r e f l)) ∙ getD-take r out′ k 0 q in
     subst (λ (w : ℕ). w < o .m) z
     (ltb-true _ (o .m) (and-left (ltb (getD (risingOf ws 4 (o .vertices + v)) k 0) (o .m)) _ (sym (h .crossed v (getD (risingOf ws 4 (o .vertices + v)) k 0) b y) ∙ x)))
 
@@ -53,5 +50,5 @@ module _ (ws : List ℕ) (o : Place) (weights : List ℕ) (locked : ℕ) where
         queue = λ vw moves k. a .queue vw moves k
             ∙ ap (λ z. foldOver (againIn ws o weights locked vw moves) (allPins (map (netIn ws (o .nets) weights) z)) q) p
             ∙ ap (λ z. foldOver (againIn ws o weights locked vw moves) (allPins z) q) (sym (nets-at ws (o .nets) (o .vertices) (o .sides) (o .m) (o .n) weights h v vw b));
-        stamps = λ k s u. omega (arith, a .stamps k s u, c, rising-few ws (o .vertices + v));
+        stamps = λ k s u. omega (arith, a .stamps k s u, c, rising-few ws 4 (o .vertices + v));
       }

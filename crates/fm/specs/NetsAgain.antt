@@ -1,7 +1,7 @@
 -- The pins of a list of nets are entered again. Assumes nothing.
 use mathlib.Core.Path.{_≡_, refl, sym, ap, _∙_, subst}
-use mathlib.Core.List.{List, [], _∷_, _++_, map, append-assoc}
-use Prim.Native.Nat.{ℕ, zero, suc, _+_, _*_, _≤_, _<_}
+use mathlib.Core.List.{List, [], _∷_, _++_, map, append-assoc, append-nil}
+use Prim.Native.Nat.{ℕ, _+_, _*_, _<_}
 use native.Mathlib.Omega.{arith}
 use native.Mathlib.Numerals.{add-one}
 use lib.Ieee.{Float}
@@ -15,10 +15,6 @@ use Rattle.partition.specs.Layout.{netIn}
 use Rattle.queue.specs.Enters.{Place}
 use Rattle.fm.specs.Again.{Stamped, againIn, Locks}
 use Rattle.fm.specs.NetAgain.{NetAgain}
-
-append-nil : (l : List ℕ) → l ++ [] ≡ l
-append-nil [] = refl
-append-nil (x ∷ l) = ap (λ k. x ∷ k) (append-nil l)
 
 module _ (ws : List ℕ) (o : Place) (weights : List ℕ) (locked : ℕ) where
   -- the pins of the nets of a list

@@ -1,5 +1,5 @@
 -- One move: the sides, the vertices that have moved, the sums, and the neighbours entered again. Assumes nothing.
-use mathlib.Core.Bool.{Bool, true, false, _||_, cond}
+use mathlib.Core.Bool.{Bool, true, false, _||_, cond, or-comm}
 use mathlib.Core.Path.{_≡_, refl, sym, ap, _∙_, subst}
 use mathlib.Core.List.{List, _∷_}
 use Prim.Native.Nat.{ℕ, suc, _+_, _-_, _*_, _/_, _≤_, _<_}
@@ -15,10 +15,10 @@ use Rattle.spec.specs.Floats.{zeroFloat}
 use Rattle.spec.specs.Hypergraph.{Hypergraph, Sides, foldOver, allPins, netsAt, moved}
 use Rattle.spec.specs.Fm.{Queue, Gains, Pass, enteredAgain, counted, afterMove}
 use Rattle.laws.specs.Booleans.{clash}
+use Rattle.laws.specs.ListLaws.{kept-few}
 use Rattle.slots.specs.Slots.{held, withSet, held-with}
 use Rattle.draws.specs.Cursor.{wordsAt}
 use Rattle.partition.specs.Layout.{graphIn}
-use Rattle.partition.specs.Gains.{kept-few}
 use Rattle.queue.specs.Queues.{queueOf}
 use Rattle.queue.specs.Enters.{place}
 use Rattle.fm.specs.Again.{Stamped, Under}
@@ -36,12 +36,6 @@ madeMove maxw v G p = afterMove G maxw v (p .queue) (moved G v (p .sides)) (coun
 abbrev afterAs : Hypergraph → ℕ → Queue → Sides → Gains → Bool → Pass
 afterAs G v q S g b =
     record { sides = S; queue = cond b q (foldOver (enteredAgain G (S .part) (g .moves)) (allPins (netsAt G v)) q); gains = g; over = b }
-
-or-comm : (a b : Bool) → (a || b) ≡ (b || a)
-or-comm true true = refl
-or-comm true false = refl
-or-comm false true = refl
-or-comm false false = refl
 
 module _ (nets vertices sides m : ℕ) (vw : List Float) (M : Lists) (R : Run) (h : Stands (place nets vertices sides m (length vw)) M R)
     (v : ℕ) (b : v < length vw) (free : memb v (movesIn M R) ≡ false) where

@@ -1,15 +1,14 @@
 -- The lists of numbers stand for the frontier of a tree: its members, and its opened nodes, the latest first. Assumes nothing.
-use mathlib.Core.Bool.{Bool, true, false, cond}
-use mathlib.Core.List.{List, [], _∷_, _++_, map}
+use mathlib.Core.Bool.{Bool, cond}
+use mathlib.Core.List.{List, [], _∷_, map}
 use mathlib.Core.Option.{Option, none, some}
 use mathlib.Core.Path.{_≡_, refl, sym, ap, ap₂, _∙_, subst}
 use Prim.Native.Nat.{ℕ, zero, suc, _+_, _-_, _^_, _≤_, _<_}
-use native.Mathlib.Numerals.{add-one}
 use native.Mathlib.Omega.{arith}
 use lib.Dec.{eqb, ltb}
 use lib.ListN.{length, getD, set, take, length-set, length-append}
 use lib.Seq.{getD-set-same, getD-set-other, getD-take}
-use borrow.Author.Tests.{eq-eqb, ne-eqb, lt-ltb, le-ltb, ltb-true, ltb-false, eqb-true, eqb-false}
+use borrow.Author.Tests.{eq-eqb, ne-eqb, ltb-true, ltb-false}
 use Rattle.spec.specs.Lists.{sumOf}
 use Rattle.spec.specs.Members.{All}
 use Rattle.spec.specs.Network.{Network}
@@ -18,7 +17,8 @@ use Rattle.spec.specs.Improve.{workOf, Front, swapRemove, MostWork, member, ope
 use Rattle.spec.specs.Improve as spec
 use Rattle.laws.specs.Booleans.{by-cases}
 use Rattle.laws.specs.MemberLaws.{all-append}
-use Rattle.frontier.specs.Opens.{moreRank, ranks, nothing, leftAt, rightAt, State, state, openAt, openMost, openings, freed}
+use Rattle.laws.specs.FlatLaws.{leftOf, rightOf}
+use Rattle.frontier.specs.Opens.{moreRank, ranks, nothing, State, state, openAt, openMost, openings, freed}
 use Rattle.frontier.specs.Costs.{costBelow}
 use Rattle.frontier.specs.Ranks.{more-leaf, more-than, more-not}
 use Rattle.frontier.specs.Swaps.{all-swap, swapped-numbers, swap-length, number-at}
@@ -30,7 +30,7 @@ module _ (N : Network) (flag : ℕ → Bool) (kids works : List ℕ) (n : ℕ) w
   abbrev pub Read : Tree → Type 0
   Read (leaf i) = i < n
   Read (node v l r) =
-      (n ≤ v) × (leftAt kids n v ≡ number l) × (rightAt kids n v ≡ number r) × (getD works v 0 ≡ workOf N flag (node v l r)) × Read l × Read r
+      (n ≤ v) × (leftOf kids n v ≡ number l) × (rightOf kids n v ≡ number r) × (getD works v 0 ≡ workOf N flag (node v l r)) × Read l × Read r
 
   -- ---- the member of most work ----
 
@@ -118,8 +118,8 @@ module _ (N : Network) (flag : ℕ → Bool) (kids works : List ℕ) (n : ℕ) w
         count = omega (arith, f .count, length-append (swapRemove p (fr .members)) (l ∷ r ∷ []), swap-length p (fr .members) h);
         opens = omega (arith, f .opens);
         members =
-            swapped-numbers (s .members) (fr .members) m p (leftAt kids n (getD (s .members) p 0)) (rightAt kids n (getD (s .members) p 0)) l r a (omega (arith, f .count)) (f .count)
-            (f .members) (ap (leftAt kids n) at ∙ d .1) (ap (rightAt kids n) at ∙ d .2);
+            swapped-numbers (s .members) (fr .members) m p (leftOf kids n (getD (s .members) p 0)) (rightOf kids n (getD (s .members) p 0)) l r a (omega (arith, f .count)) (f .count)
+            (f .members) (ap (leftOf kids n) at ∙ d .1) (ap (rightOf kids n) at ∙ d .2);
         opened =
             ap (freed (set (s .opened) (m - 1) (getD (s .members) p 0))) (let z : m + 1 - 1 ≡ suc (m - 1) = omega (arith, f .opens) in z)
             ∙ freed-next (s .opened) (m - 1) (getD (s .members) p 0) (omega (arith, f .opens))

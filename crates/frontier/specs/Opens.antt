@@ -1,9 +1,10 @@
 -- Members opened one after the other, on lists of node numbers. Definitions only. Assumes nothing.
 use mathlib.Core.Bool.{cond}
 use mathlib.Core.List.{List, [], _∷_}
-use Prim.Native.Nat.{ℕ, zero, suc, _+_, _-_, _*_}
+use Prim.Native.Nat.{ℕ, zero, suc, _+_, _-_}
 use lib.Dec.{eqb, ltb}
 use lib.ListN.{getD, set, take}
+use Rattle.laws.specs.FlatLaws.{leftOf, rightOf}
 use Rattle.frontier.specs.declared.Most.{Most}
 
 abbrev pub nothing : Most
@@ -19,13 +20,6 @@ abbrev pub ranks : ℕ → List ℕ → Most → ℕ → List ℕ → Most
 ranks n works s p [] = s
 ranks n works s p (v ∷ vs) = ranks n works (moreRank n works s p v) (suc p) vs
 
--- the children of inner node v
-abbrev pub leftAt : List ℕ → ℕ → ℕ → ℕ
-leftAt kids n v = getD kids ((v - n) * 2) 0
-
-abbrev pub rightAt : List ℕ → ℕ → ℕ → ℕ
-rightAt kids n v = getD kids ((v - n) * 2 + 1) 0
-
 -- the members at the front of a list, and one opened node less at the front of another
 pub record State : Type 0 where
   pub members : List ℕ
@@ -40,7 +34,7 @@ unfoldable pub openAt : List ℕ → ℕ → ℕ → State → State
 openAt kids n p s =
     let v = getD (s .members) p 0 in
     state
-    (set (set (set (s .members) p (getD (s .members) (s .count - 1) 0)) (s .count - 1) (leftAt kids n v)) (s .count) (rightAt kids n v))
+    (set (set (set (s .members) p (getD (s .members) (s .count - 1) 0)) (s .count - 1) (leftOf kids n v)) (s .count) (rightOf kids n v))
     (set (s .opened) (s .count - 1) v)
     (s .count + 1)
 

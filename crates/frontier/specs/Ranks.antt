@@ -1,12 +1,10 @@
 -- The loop over the members for the one of most work. Assumes nothing.
-use mathlib.Core.List.{List, [], _∷_}
-use mathlib.Core.Path.{_≡_, refl, sym, ap, _∙_, subst}
-use Prim.Native.Nat.{ℕ, zero, suc, _+_, _-_, _≤_, _<_}
+use mathlib.Core.List.{List}
+use mathlib.Core.Path.{_≡_, sym, ap, _∙_}
+use Prim.Native.Nat.{ℕ, _+_, _≤_, _<_}
 use native.Mathlib.Numerals.{add-one}
-use native.Mathlib.Omega.{arith}
-use lib.Dec.{ltb}
 use lib.ListN.{length, getD, take, drop, drop-of-length-le}
-use lib.Seq.{drop-cons, getD-take, length-take-le}
+use lib.Seq.{drop-cons, getD-take}
 use borrow.Author.Tests.{lt-ltb, le-ltb}
 use Rattle.frontier.specs.Opens.{moreRank, ranks, nothing}
 use Rattle.frontier.specs.declared.Most.{Most}

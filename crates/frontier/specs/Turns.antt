@@ -1,27 +1,27 @@
 -- One member opened, case by case, and the loop that opens. Assumes nothing.
-use mathlib.Core.Bool.{true, false}
 use mathlib.Core.List.{List}
 use mathlib.Core.Path.{_≡_, refl, sym, ap, _∙_}
-use Prim.Native.Nat.{ℕ, zero, suc, _+_, _-_, _*_, _≤_, _<_}
+use Prim.Native.Nat.{ℕ, _+_, _-_, _≤_}
 use native.Mathlib.Numerals.{add-one}
 use native.Mathlib.Omega.{arith}
 use lib.Dec.{eqb}
 use lib.ListN.{length, getD, set, take, length-set}
 use borrow.Author.Tests.{eq-eqb, ne-eqb}
 use Rattle.laws.specs.Booleans.{by-cases}
-use Rattle.frontier.specs.Opens.{ranks, nothing, leftAt, rightAt, State, state, openAt, openMost, openings}
+use Rattle.laws.specs.FlatLaws.{leftOf, rightOf}
+use Rattle.frontier.specs.Opens.{ranks, nothing, State, state, openAt, openMost, openings}
 use Rattle.frontier.specs.declared.Most.{Most}
 
 -- the writes of one opening
 pub open-is : (kids members opened a b d e : List ℕ) (n m p v last l r : ℕ) → v ≡ getD members p 0 → last ≡ getD members (m - 1) 0
-    → l ≡ leftAt kids n v → r ≡ rightAt kids n v → a ≡ set members p last → b ≡ set a (m - 1) l → d ≡ set b m r → e ≡ set opened (m - 1) v
+    → l ≡ leftOf kids n v → r ≡ rightOf kids n v → a ≡ set members p last → b ≡ set a (m - 1) l → d ≡ set b m r → e ≡ set opened (m - 1) v
     → state d e (m + 1) ≡ openAt kids n p (state members opened m)
 unfolding openAt
 open-is kids members opened a b d e n m p v last l r hv hl el er ea eb ed ee =
-    let x : d ≡ set (set (set members p (getD members (m - 1) 0)) (m - 1) (leftAt kids n (getD members p 0))) m (rightAt kids n (getD members p 0)) =
+    let x : d ≡ set (set (set members p (getD members (m - 1) 0)) (m - 1) (leftOf kids n (getD members p 0))) m (rightOf kids n (getD members p 0)) =
     ed
-    ∙ ap (λ q. set q m r) (eb ∙ ap (λ q. set q (m - 1) l) (ea ∙ ap (set members p) hl) ∙ ap (set (set members p (getD members (m - 1) 0)) (m - 1)) (el ∙ ap (leftAt kids n) hv))
-    ∙ ap (set (set (set members p (getD members (m - 1) 0)) (m - 1) (leftAt kids n (getD members p 0))) m) (er ∙ ap (rightAt kids n) hv) in
+    ∙ ap (λ q. set q m r) (eb ∙ ap (λ q. set q (m - 1) l) (ea ∙ ap (set members p) hl) ∙ ap (set (set members p (getD members (m - 1) 0)) (m - 1)) (el ∙ ap (leftOf kids n) hv))
+    ∙ ap (set (set (set members p (getD members (m - 1) 0)) (m - 1) (leftOf kids n (getD members p 0))) m) (er ∙ ap (rightOf kids n) hv) in
     let y : e ≡ set opened (m - 1) (getD members p 0) = ee ∙ ap (set opened (m - 1)) hv in
     λ i. state (x i) (y i) (m + 1)
 

@@ -24,10 +24,11 @@ use Rattle.parts.specs.Lists.{nodesIn, frontIn, kidsIn}
 use Rattle.start.specs.Leaves.{putAll}
 use Rattle.greedynodes.specs.Lends.{lends-layout}
 use Rattle.greedynodes.specs.Begin.{Fits, Asks}
-use Rattle.greedynodes.specs.Counted.{counted-range, nothing-over, light-front}
+use Rattle.greedynodes.specs.Counted.{counted-range, light-front}
 use Rattle.greedynodes.specs.Ends.{Greedied, isRefused, isBuilt}
 use Rattle.greedynodes.specs.Within.{leavesIn}
 use Rattle.greedynodes.specs.Copied.{copiedTo, copied-over}
+use Rattle.cells.specs.Cells.{over-nil}
 
 -- what greedy over all leaves answers: 65536 if it is refused; else the children of the array stand at the front of `kids`
 pub data Whole (N : Network) (kids₀ kids : List ℕ) (r : ℕ) : Type 0 where
@@ -81,7 +82,7 @@ module _ (m n o : ℕ) (weights counts cells outputs : List ℕ) (lent : Lent we
           leaf = λ v e. omega (arith, from-memb v 0 n (ap (memb v) (sym all-leaves) ∙ e));
           once = λ v. subst (λ (l : List ℕ). count v l ≤ 1) (sym all-leaves) (leaves-single n v);
           array = refl;
-          written = nothing-over kids;
+          written = sym (over-nil kids);
         }
 
     greedy-is : greedy N ≡ arrayOf (greedyFrom N [] (leavesOf leaves))
@@ -124,4 +125,4 @@ module _ (N : Network) (tree w₀ w : List ℕ) (r : ℕ) (whole : Whole N w₀ 
       go : Whole N w₀ w r → Grown N tree tree′ r
       go (isTooWide z g) = absurd (x z)
       go (isPlan z a g v l) =
-          isGrown z a g (et ∙ copied-over tree [] w₀ w (flatOf a) n (nothing-over tree) v (omega (arith, flat-length a, l, en)) b) l
+          isGrown z a g (et ∙ copied-over tree [] w₀ w (flatOf a) n (sym (over-nil tree)) v (omega (arith, flat-length a, l, en)) b) l

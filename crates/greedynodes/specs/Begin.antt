@@ -7,7 +7,7 @@ use native.Mathlib.Omega.{arith}
 use lib.Dec.{eqb, ltb}
 use lib.ListN.{length, getD, length-map}
 use borrow.Author.Tests.{le-ltb, ltb-false}
-use Rattle.spec.specs.Lists.{memb, count, from, range, sumOf}
+use Rattle.spec.specs.Lists.{memb, count, from, range}
 use Rattle.spec.specs.Members.{All}
 use Rattle.spec.specs.Memory.{filled, over}
 use Rattle.spec.specs.Network.{Network, leafCount, indexCount, legs}
@@ -16,16 +16,14 @@ use Rattle.spec.specs.Tree.{Tree, leaf, numbers, Pair, flatOf, Describes}
 use Rattle.spec.specs.Price.{lists}
 use Rattle.spec.specs.Greedy.{Live, sizeOf, trees, slots, startOf, leavesOf}
 use Rattle.laws.specs.Booleans.{by-cases, clash, or-intror}
-use Rattle.laws.specs.ListLaws.{memb-head, memb-one, memb-range, from-memb, count-not-memb, range-length}
-use Rattle.laws.specs.Walks.{inners}
-use Rattle.laws.specs.GreedyForest.{Forest, Topped, fresh}
+use Rattle.laws.specs.ListLaws.{memb-head, memb-one, memb-range, from-memb, count-not-memb, range-length, memb-at}
+use Rattle.laws.specs.GreedyForest.{Forest, Topped, fresh, leaves-count, leaves-flat}
 use Rattle.laws.specs.GreedyMerging.{Sound, trees-slots, start-sound}
 use Rattle.cells.specs.Cells.{filled-length, filled-at}
 use Rattle.slots.specs.Slots.{held, withSet-length, held-with, next-slot}
-use Rattle.slots.specs.Writes.{among}
+use Rattle.slots.specs.Writes.{among, memb-firsts}
 use Rattle.slots.specs.Weigh.{weighed, either}
 use Rattle.network.specs.Layouts.{firsts-all}
-use Rattle.rows.specs.Known.{at-member}
 use Rattle.rows.specs.Renewed.{Kept, stale}
 use Rattle.merging.specs.Listed.{listed, stateAt}
 use Rattle.merging.specs.Ruled.{outer}
@@ -33,7 +31,7 @@ use Rattle.parts.specs.Lists.{listsOf}
 use Rattle.merging.specs.Holds.{Given, Ghost}
 use Rattle.merging.specs.Connect.{Start}
 use Rattle.start.specs.Leaves.{startWords, withLeaves, leaves-length, leaves-held, leaves-other, withInside, outsideSet, withOutside, withSizes, putAll, put-length, put-at}
-use Rattle.greedynodes.specs.Lends.{Lends, among-memb, leaf-size, others-named}
+use Rattle.greedynodes.specs.Lends.{Lends, leaf-size, others-named}
 
 -- ---- lists ----
 
@@ -54,14 +52,6 @@ trees-of : (l : List ℕ) (k : ℕ) → trees (slots k (leavesOf l)) ≡ leavesO
 trees-of l k = trees-slots k (leavesOf l)
 
 -- ---- the forest of leaves, over any array ----
-
-leaves-count : (v : ℕ) (l : List ℕ) → sumOf (λ t. count v (numbers t)) (leavesOf l) ≡ count v l
-leaves-count v [] = refl
-leaves-count v (i ∷ l) = by-cases (eqb v i) (λ e. rw e (omega (arith, leaves-count v l))) (λ e. rw e (omega (arith, leaves-count v l)))
-
-leaves-flat : (l : List ℕ) → sumOf inners (leavesOf l) ≡ 0
-leaves-flat [] = refl
-leaves-flat (i ∷ l) = omega (arith, leaves-flat l)
 
 leaves-each : (n : ℕ) (a : List Pair) (l : List ℕ) → ((v : ℕ) → memb v l ≡ true → v < n) → All (λ t. Describes n a t × Topped t) (leavesOf l)
 leaves-each n a [] h = tt
@@ -144,7 +134,7 @@ module _ (N : Network) (a : List Pair) (W n made : ℕ) (weights counts cells ou
         λ i. record { pairs = a; live = p i; next = q i }
 
     leaf-low : (u : ℕ) → u < tables → getD leaves u 0 < n
-    leaf-low u h = asks .leaf (getD leaves u 0) (at-member leaves u h)
+    leaf-low u h = asks .leaf (getD leaves u 0) (memb-at leaves u h)
 
     -- the sets
     abbrev words₁ : List ℕ
@@ -177,7 +167,7 @@ module _ (N : Network) (a : List Pair) (W n made : ℕ) (weights counts cells ou
         inside : (i : ℕ) → i < n → held (withInside W leaves ws₀) W 257 i ≡ memb i leaves
         inside i h =
             held-with ws₀ W 257 (among leaves 0 (length leaves)) i (omega (arith, room)) (omega (arith, fewLeaves))
-            ∙ among-memb leaves 0 (length leaves) i ∙ ap (memb i) (firsts-all leaves)
+            ∙ sym (memb-firsts leaves 0 (length leaves) i) ∙ ap (memb i) (firsts-all leaves)
 
     -- the other lists
     module _ (sizes₀ live₀ rows₀ : List ℕ) (bs : 256 ≤ length sizes₀) (bl : 256 ≤ length live₀) (br : 256 ≤ length rows₀)

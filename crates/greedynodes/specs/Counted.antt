@@ -1,13 +1,12 @@
 -- The leaves of a whole network, counted up, and its weights, for whoever plans them all. Assumes nothing.
-use mathlib.Core.Path.{_≡_, refl, sym, _∙_}
-use mathlib.Core.List.{List, [], _∷_}
+use mathlib.Core.Path.{_≡_, sym, _∙_}
+use mathlib.Core.List.{List}
 use Prim.Native.Nat.{ℕ, _≤_, _<_}
 use native.Mathlib.Omega.{arith}
 use native.Mathlib.Decide.{decLe}
 use lib.ListN.{length, getD, take, List·getD-eq-default}
 use lib.Seq.{ext-getD, getD-take, length-take-le}
 use Rattle.spec.specs.Lists.{range}
-use Rattle.spec.specs.Memory.{over}
 use Rattle.laws.specs.ListLaws.{range-length}
 use Rattle.slots.specs.Weigh.{Light}
 use Rattle.start.specs.Leaves.{putAll, put-length, put-at}
@@ -20,11 +19,6 @@ counted-range l n h =
     ext-getD 0 (take n (putAll (λ i. i) l n)) (range n) (e ∙ sym (range-length 0 n)) (λ i b.
     getD-take n (putAll (λ i. i) l n) i 0 (omega (arith, e)) ∙ put-at (λ i. i) l n i (omega (arith, e)) (omega (arith, e))
     ∙ sym (range-at 0 n i (omega (arith, e)) ∙ omega arith))
-
-pub nothing-over : (l : List ℕ) → l ≡ over l []
-unfolding over
-nothing-over [] = refl
-nothing-over (x ∷ l) = refl
 
 -- a weight past the front is 0
 pub light-front : (m : ℕ) (weights : List ℕ) → m ≤ length weights → ((j : ℕ) → j < m → getD weights j 0 ≤ 8) → Light (take m weights)

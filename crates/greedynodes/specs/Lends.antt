@@ -1,45 +1,34 @@
 -- Lent lists that stand for a network; the size of a leaf's table by its set. Assumes nothing.
-use mathlib.Core.Bool.{Bool, true, false, not, _&&_, _||_, cond, or-false, or-assoc}
+use mathlib.Core.Bool.{Bool, true, false, not, _&&_, _||_, cond, or-false, or-assoc, or-self}
 use mathlib.Core.Path.{_≡_, refl, sym, _∙_, ap, ap₂}
 use mathlib.Core.List.{List, [], _∷_}
 use Prim.Native.Nat.{ℕ, zero, suc, _+_, _*_, _≤_, _<_}
 use native.Mathlib.Omega.{arith}
-use native.Mathlib.Numerals.{add-one}
 use lib.Dec.{eqb, ltb}
-use lib.ListN.{length, getD, take, drop}
-use lib.Seq.{getD-drop}
+use lib.ListN.{length, getD, take}
 use borrow.Author.Tests.{lt-ltb, ltb-true, ltb-false, eqb-true}
 use Rattle.spec.specs.Lists.{memb, count, keep, from, range, anyb, sumOf}
-use Rattle.spec.specs.Layout.{firsts, networkOf}
+use Rattle.spec.specs.Layout.{networkOf}
 use Rattle.spec.specs.Network.{Network, leafCount, indexCount, weight, legs, named}
 use Rattle.spec.specs.NetworkClaims.{Accepted}
 use Rattle.spec.specs.Tree.{leaf, below}
 use Rattle.spec.specs.Price.{lists, bits}
 use Rattle.spec.specs.Greedy.{sizeOf, leavesOf}
 use Rattle.laws.specs.Booleans.{by-cases, and-right, eqb-sym}
-use Rattle.laws.specs.ListLaws.{memb-append, memb-keep, any-ext, from-memb, count-memb, count-not-memb}
+use Rattle.laws.specs.ListLaws.{memb-keep, any-ext, from-memb, count-memb, count-not-memb}
 use Rattle.laws.specs.Counts.{count-in, count-out, sum-same}
-use Rattle.network.specs.Layouts.{firsts-none, firsts-more, firsts-take, firsts-all, layout-leaf-count, layout-weights, layout-outputs, layout-legs}
+use Rattle.network.specs.Layouts.{firsts-take, firsts-all, layout-leaf-count, layout-weights, layout-outputs, layout-legs}
 use Rattle.slots.specs.Slots.{held}
-use Rattle.slots.specs.Writes.{among}
+use Rattle.slots.specs.Writes.{among, memb-firsts, leafHas}
 use Rattle.slots.specs.Weigh.{weighed, either}
 use Rattle.merging.specs.Tables.{weighed-bits}
-use Rattle.start.specs.Leaves.{leafSet, others}
-
--- the places of a list as a list
-pub among-memb : (l : List ℕ) (base n j : ℕ) → among l base n j ≡ memb j (firsts n (drop base l))
-among-memb l base zero j = sym (ap (memb j) (firsts-none (drop base l)))
-among-memb l base (suc n) j =
-    ap₂ (λ (b : Bool) (k : ℕ). b || eqb j k) (among-memb l base n j) (sym (getD-drop base l n 0))
-    ∙ ap (λ (b : Bool). memb j (firsts n (drop base l)) || b) (sym (or-false (eqb j (getD (drop base l) n 0))))
-    ∙ sym (memb-append j (firsts n (drop base l)) (getD (drop base l) n 0 ∷ []))
-    ∙ ap (memb j) (sym (firsts-more n (drop base l)) ∙ ap (λ (k : ℕ). firsts k (drop base l)) (add-one n))
+use Rattle.start.specs.Leaves.{others}
 
 -- the lists stand for a network of n leaves
 pub record Lends (N : Network) (n : ℕ) (weights counts legs outputs : List ℕ) : Type 0 where
   pub leaves : n ≡ leafCount N
   pub weighed : weights ≡ N .weights
-  pub legs-are : (i j : ℕ) → i < n → leafSet counts legs i j ≡ memb j (Rattle.spec.specs.Network.legs N i)
+  pub legs-are : (i j : ℕ) → i < n → leafHas counts legs i j ≡ memb j (Rattle.spec.specs.Network.legs N i)
   pub outputs-are : (j : ℕ) → among outputs 0 (length outputs) j ≡ memb j (N .outputs)
 
 -- those of a record do
@@ -49,8 +38,8 @@ lends-layout m n o weights counts cells outputs hm ho =
     record {
       leaves = sym (layout-leaf-count m n o weights counts cells outputs);
       weighed = sym (layout-weights m n o weights counts cells outputs ∙ firsts-take m weights hm);
-      legs-are = λ i j h. among-memb cells (i * 32) (getD counts i 0) j ∙ ap (memb j) (sym (layout-legs m n o weights counts cells outputs i h));
-      outputs-are = λ j. among-memb (take o outputs) 0 (length (take o outputs)) j
+      legs-are = λ i j h. sym (memb-firsts cells (i * 32) (getD counts i 0) j) ∙ ap (memb j) (sym (layout-legs m n o weights counts cells outputs i h));
+      outputs-are = λ j. sym (memb-firsts (take o outputs) 0 (length (take o outputs)) j)
           ∙ ap (memb j) (firsts-all (take o outputs) ∙ sym (layout-outputs m n o weights counts cells outputs ∙ firsts-take o outputs ho));
     }
 
@@ -94,10 +83,6 @@ bits-is : (N : Network) (l : List ℕ) → bits N (λ j. false) l ≡ sumOf (λ 
 bits-is N [] = refl
 bits-is N (j ∷ l) = ap (λ (x : ℕ). weight N j + x) (bits-is N l)
 
-or-self : (b : Bool) → (b || b) ≡ b
-or-self true = refl
-or-self false = refl
-
 -- a slot with the set of a leaf's indices weighs what the leaf's table has
 pub leaf-size : (N : Network) → Accepted N → (ws : List ℕ) (W u v : ℕ) → indexCount N ≤ W * 64 → v < leafCount N
     → ((j : ℕ) → j < W * 64 → held ws W u j ≡ memb j (lists N (leaf v)))
@@ -119,11 +104,11 @@ any-last p n = go 0 n ∙ ap (λ (i : ℕ). anyb p (range n) || p i) (let e : 0 
         ap (λ (b : Bool). p k || b) (go (suc k) n ∙ ap (λ (i : ℕ). anyb p (from (suc k) n) || p i) (let e : suc k + n ≡ k + suc n = omega arith in e))
         ∙ sym (or-assoc (p k) (anyb p (from (suc k) n)) (p (k + suc n)))
 
-others-any : (counts legs : List ℕ) (inside : ℕ → Bool) (n j : ℕ) → others counts legs inside n j ≡ anyb (λ i. not (inside i) && leafSet counts legs i j) (range n)
+others-any : (counts legs : List ℕ) (inside : ℕ → Bool) (n j : ℕ) → others counts legs inside n j ≡ anyb (λ i. not (inside i) && leafHas counts legs i j) (range n)
 others-any counts legs inside zero j = refl
 others-any counts legs inside (suc n) j =
-    ap (λ (b : Bool). b || (not (inside n) && leafSet counts legs n j)) (others-any counts legs inside n j)
-    ∙ sym (any-last (λ i. not (inside i) && leafSet counts legs i j) n)
+    ap (λ (b : Bool). b || (not (inside n) && leafHas counts legs n j)) (others-any counts legs inside n j)
+    ∙ sym (any-last (λ i. not (inside i) && leafHas counts legs i j) n)
 
 -- is a leaf below one of the leaves of a list
 below-leaves : (l : List ℕ) (i : ℕ) → anyb (λ t. below t i) (leavesOf l) ≡ memb i l

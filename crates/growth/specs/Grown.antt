@@ -1,7 +1,7 @@
 -- One turn of a growth, by the slots. Assumes nothing.
 use mathlib.Core.Bool.{Bool, true, false, cond}
 use mathlib.Core.Path.{_≡_, refl, sym, ap, _∙_}
-use mathlib.Core.List.{List, [], _∷_, map}
+use mathlib.Core.List.{List}
 use mathlib.Core.Option.{Option, none, some}
 use Prim.Native.Nat.{ℕ, zero, suc, _+_, _-_, _≤_, _<_}
 use native.Mathlib.Omega.{arith}
@@ -12,7 +12,7 @@ use native.Mathlib.Numerals.{add-one}
 use Rattle.spec.specs.Memory.{filled}
 use Rattle.spec.specs.Draws.{Words, Drawn, drawn, draw, indexDraw}
 use Rattle.spec.specs.Hypergraph.{until, foldOver, Net, Hypergraph, netsAt}
-use Rattle.spec.specs.Bisection.{Growth, Strongest, half, strongest, linkedBy, grownOn, grownBy, growthTurn, ended, grown}
+use Rattle.spec.specs.Bisection.{Growth, Strongest, half, strongest, linkedBy, grownOn, growthTurn, ended, grown}
 use Rattle.slots.specs.Rising.{risingOf}
 use Rattle.draws.specs.Cursor.{wordsAt}
 use Rattle.partition.specs.Folds.{fold-map}

@@ -1,16 +1,14 @@
 -- How strongly vertices are connected to the side that grows, in lent lists. Assumes nothing.
 use mathlib.Core.Bool.{Bool, true, false, cond}
 use mathlib.Core.Path.{_≡_, refl, sym, ap, _∙_}
-use mathlib.Core.List.{List, [], _∷_, _++_}
+use mathlib.Core.List.{List, [], _∷_}
 use mathlib.Core.Option.{Option, none, some}
-use Prim.Native.Nat.{ℕ, zero, suc, _+_, _-_, _≤_, _<_}
-use native.Mathlib.Omega.{arith}
-use native.Mathlib.Numerals.{add-one}
+use Prim.Native.Nat.{ℕ, _+_}
 use lib.Dec.{eqb}
 use lib.Ieee.{Float, binary64, add, mul, neg, lt}
-use lib.ListN.{length, getD, set, take, length-set}
+use lib.ListN.{length, getD, set, length-set}
 use borrow.Author.Tests.{eq-eqb, ne-eqb}
-use Rattle.spec.specs.Lists.{from, range}
+use Rattle.spec.specs.Lists.{range}
 use Rattle.spec.specs.Floats.{zeroFloat, micro, wholeFloat}
 use Rattle.spec.specs.Draws.{Words, draw, unitDraw}
 use Rattle.spec.specs.Hypergraph.{foldOver}
@@ -61,23 +59,6 @@ module _ (part : List ℕ) (links : List Float) (words : List ℕ) (u at next : 
 
 pub offered-other : (part : List ℕ) (links : List Float) (u : ℕ) (c : Strongest) → (getD part u 0 ≡ 0 → ⊥) → c ≡ offeredIn part links u c
 offered-other part links u c d = sym (rw (ne-eqb (getD part u 0) 0 d))
-
--- ---- folds over a range ----
-
-from-more : (k n : ℕ) → from k (suc n) ≡ from k n ++ ((k + n) ∷ [])
-from-more k zero = ap (λ (x : ℕ). x ∷ []) (omega arith)
-from-more k (suc n) =
-    let e : suc k + n ≡ k + suc n = omega arith in
-    ap (λ (l : List ℕ). k ∷ l) (from-more (suc k) n ∙ ap (λ (x : ℕ). from (suc k) n ++ (x ∷ [])) e)
-
-fold-append : {S : Type 0} (f : ℕ → S → S) (k l : List ℕ) (s : S) → foldOver f (k ++ l) s ≡ foldOver f l (foldOver f k s)
-fold-append f [] l s = refl
-fold-append f (x ∷ k) l s = fold-append f k l (f x s)
-
-pub range-next : {S : Type 0} (f : ℕ → S → S) (s g r : S) (k : ℕ) → g ≡ foldOver f (range k) s → r ≡ f k g → r ≡ foldOver f (range (k + 1)) s
-range-next f s g r k p q =
-    let z : 0 + k ≡ k = omega arith in
-    q ∙ ap (f k) p ∙ sym (ap (λ (n : ℕ). foldOver f (range n) s) (add-one k) ∙ ap (λ l. foldOver f l s) (from-more 0 k ∙ ap (λ (x : ℕ). range k ++ (x ∷ [])) z) ∙ fold-append f (range k) (k ∷ []) s)
 
 -- ---- connections ----
 

@@ -13,7 +13,7 @@ use Rattle.spec.specs.Hypergraph.{sideOf}
 use Rattle.spec.specs.Bisection.{membersAt, leftHalf, rightHalf}
 use Rattle.laws.specs.Booleans.{by-cases}
 use Rattle.laws.specs.BisectionHalves.{halves-length}
-use Rattle.cells.specs.Cells.{over-nil, over-fits, over-snoc}
+use Rattle.cells.specs.Cells.{over-nil, over-fits, over-snoc, over-all}
 
 -- is a vertex on side 0, or, where that is asked for, on another
 abbrev pub onSide : Bool → List ℕ → ℕ → Bool
@@ -94,10 +94,6 @@ module _ (b t : Bool) (e : t ≡ b) (out : List ℕ) (k l : ℕ) where
   leaf-left h = (ap (λ (z : Bool). placeAfter z k) (sym h ∙ e), ap (λ (z : Bool). putAt z out k l) (sym h ∙ e))
 
 -- ---- both halves ----
-
--- a list that is as long takes the place of another
-over-all : (d s : List ℕ) → length s ≡ length d → over d s ≡ s
-over-all d s e = over-fits d s (omega (arith, e)) ∙ ap (λ l. s ++ l) (drop-of-length-le d {i = length s} (omega (arith, e))) ∙ append-nil s
 
 -- what was copied to the front of a list stands there
 pub copied-front : (others leaves : List ℕ) (n : ℕ) → n ≡ length leaves → n ≤ length others → take n (copied others leaves n) ≡ leaves

@@ -14,6 +14,7 @@ use Rattle.spec.specs.Draws.{drawn}
 use Rattle.spec.specs.Bisection.{membersAt, leftHalf, rightHalf, bisect}
 use Rattle.laws.specs.Booleans.{by-cases}
 use Rattle.laws.specs.BisectionHalves.{onZero, halves-length}
+use Rattle.laws.specs.ListLaws.{no-members}
 use Rattle.draws.specs.Cursor.{wordsAt}
 
 module _ (N : Network) (leaves : List ℕ) (eps : Float) (words : List ℕ) (at : ℕ) where
@@ -47,10 +48,6 @@ all-picked p k (x ∷ l) h =
     (λ e. rw e (ap (λ r. x ∷ r) (all-picked p (suc k) l (rw e at h))))
     (λ e. let z : suc (length (membersAt (λ v. not (p v)) (suc k) l)) ≡ 0 = rw e at h in absurd (omega arith))
 
-nothing : (l : List ℕ) → length l ≡ 0 → l ≡ []
-nothing [] h = refl
-nothing (x ∷ l) h = absurd (omega arith)
-
 module _ (N : Network) (leaves : List ℕ) (eps : Float) (words : List ℕ) (at : ℕ) (part : List ℕ) (next : ℕ)
     (ep : Partitioned N leaves eps words at part next)
   where
@@ -69,7 +66,7 @@ module _ (N : Network) (leaves : List ℕ) (eps : Float) (words : List ℕ) (at 
             let r : length (rightHalf sides leaves) ≡ 0 = omega (arith, eh .0, q, halves-length sides leaves) in
             isWhole refl sides (sym ep) (sym e ∙ h)
             (ap (λ (b : Bool). eqb (length (leftHalf sides leaves)) 0 || b) (eq-eqb (length (rightHalf sides leaves)) 0 r) ∙ or-true (eqb (length (leftHalf sides leaves)) 0))
-            (eh .1 ∙ ap₂ (λ (x y : List ℕ). x ++ y) (all-picked (onZero sides) 0 leaves r) (nothing (rightHalf sides leaves) r) ∙ append-nil leaves)
+            (eh .1 ∙ ap₂ (λ (x y : List ℕ). x ++ y) (all-picked (onZero sides) 0 leaves r) (no-members (rightHalf sides leaves) r) ∙ append-nil leaves)
 
         -- none goes left, or some do and some do not
         pub cut-some : (left ≡ length leaves → ⊥) → CutBy N leaves eps words at leaves′ left next
@@ -79,7 +76,7 @@ module _ (N : Network) (leaves : List ℕ) (eps : Float) (words : List ℕ) (at 
             let z : length (leftHalf sides leaves) ≡ 0 = eqb-true (length (leftHalf sides leaves)) 0 q in
             isWhole (eh .0 ∙ z) sides (sym ep) (sym e ∙ h)
             (ap (λ (b : Bool). b || eqb (length (rightHalf sides leaves)) 0) q)
-            (eh .1 ∙ ap₂ (λ (x y : List ℕ). x ++ y) (nothing (leftHalf sides leaves) z) (none-picked (onZero sides) 0 leaves z)))
+            (eh .1 ∙ ap₂ (λ (x y : List ℕ). x ++ y) (no-members (leftHalf sides leaves) z) (none-picked (onZero sides) 0 leaves z)))
             (λ q.
             let z : length (leftHalf sides leaves) ≡ 0 → ⊥ = eqb-false (length (leftHalf sides leaves)) 0 q in
             isCut (omega (arith, z, eh .0)) (omega (arith, n, eh .0, halves-length sides leaves)) sides (sym ep) (sym e ∙ h) (eh .0) (eh .1))

@@ -1,8 +1,8 @@
 -- From what the reader answers to the host's answer. Assumes nothing.
 use mathlib.Core.Path.{_≡_, refl, sym, ap, ap₂, _∙_, subst}
-use mathlib.Core.List.{List, [], _∷_, _++_}
+use mathlib.Core.List.{List, _++_}
 use mathlib.Core.Option.{Option, none, some}
-use Prim.Native.Nat.{ℕ, suc, _+_, _-_, _≤_, _<_}
+use Prim.Native.Nat.{ℕ, _-_, _≤_, _<_}
 use native.Mathlib.Omega.{arith}
 use lib.ListN.{length, getD, take, drop, length-append}
 use lib.Seq.{take-at, take-append-le}
@@ -10,11 +10,12 @@ use Rattle.spec.specs.Memory.{filled}
 use Rattle.spec.specs.Refusal.{Refusal, numberOf, Result, refused, done}
 use Rattle.spec.specs.Network.{Network, leafCount, indexCount}
 use Rattle.spec.specs.File.{Ask, plain, flagged, target, Contents, flagBytes, treeBytes, treeWritten, flagsWritten, readOf}
-use Rattle.spec.specs.FileClaims.{Bytes, LawfulTree, LawfulAsk, RoomForTree, RoomForFlags}
+use Rattle.spec.specs.FileClaims.{LawfulTree, LawfulAsk, RoomForTree, RoomForFlags}
 use Rattle.spec.specs.Host.{listingCall, hostCall, Answered}
 use Rattle.laws.specs.FileReads.{reads-just}
 use Rattle.laws.specs.FileFields.{accepted-parts}
 use Rattle.laws.specs.FileLists.{placed-front, valid-length}
+use Rattle.laws.specs.FileBytes.{all-bytes}
 use Rattle.cells.specs.Cells.{filled-length}
 use Rattle.network.specs.Layouts.{leaf-count}
 use Rattle.network.specs.Record.{netOf}
@@ -61,10 +62,6 @@ flags-part N t (flagged f) l (h, b) r =
 
 -- ---- the answer ----
 
-all-bytes : (l : List ℕ) → ((i : ℕ) → getD l i 0 < 256) → Bytes l
-all-bytes [] h = tt
-all-bytes (x ∷ l) h = (h 0, all-bytes l (λ i. h (suc i)))
-
 -- after an answer: the network is small, the lists have their places, and what is left is to price
 pub record Whole (file : List ℕ) (f : Found) (R : Record) (kids flags : List ℕ) : Type 0 where
   pub few : R .«leaf_count» ≤ 128
@@ -95,7 +92,7 @@ module _ (file a b : List ℕ) (h : length a ≡ 254) (k : length b ≡ 256) whe
   done-cases (refused r) e bytes q n s t = absurd (let w : _≡_ {A = ℕ} 0 1 = cc in omega arith)
   done-cases (done c) {f} {R} {kids} {flags} e bytes q n s t =
       let found : f ≡ record { tree = treeAnswer (c .tree); ask = askAnswer (c .ask) } = cc in
-      let (lawful, (r, u), _) = reads-just 254 256 file c (all-bytes file bytes) .0 (sym e) in
+      let (lawful, (r, u), _) = reads-just 254 256 file c (all-bytes file (λ i _. bytes i)) .0 (sym e) in
       let (i, x) = tree-part (c .network) (c .tree) (c .ask) a (lawful .tree) (subst (λ p. RoomForTree (c .network) p (c .tree)) (sym h) r) in
       let (j, y) = flags-part (c .network) (c .tree) (c .ask) b (lawful .ask) (subst (λ p. RoomForFlags (c .network) p (c .ask)) (sym k) u) in
       let places : placesOf (f .tree) ≡ length (treeBytes (c .tree)) = ap (λ z. placesOf (z .tree)) found ∙ places-are (c .tree) in

@@ -11,8 +11,7 @@ use borrow.Author.Tests.{le-ltb, eq-eqb}
 use Rattle.laws.specs.Booleans.{or-introl, or-intror}
 use Rattle.cells.specs.Loop.{turns, turns-invariant}
 use Rattle.slots.specs.Slots.{held}
-use Rattle.slots.specs.Writes.{among}
-use Rattle.start.specs.Leaves.{leafSet}
+use Rattle.slots.specs.Writes.{among, leafHas}
 use Rattle.mesh.specs.Stays.{Stays, stays-then}
 use Rattle.mesh.specs.Entries.{emptied, emptied-stays, emptied-held, entered, entered-length, entered-stays, entered-held}
 use Rattle.mesh.specs.Crossed.{one-more}
@@ -46,7 +45,7 @@ module _ (nets : ℕ) (counts legs leaves : List ℕ) where
   module _ (ws : List ℕ) where
     pub record Raws (v : ℕ) (t : List ℕ) : Type 0 where
       pub stays : Stays (nets * 2) ((nets + 256) * 2) ws t
-      pub holds : (j x : ℕ) → j < 256 → x < 128 → held t 2 (nets + j) x ≡ (ltb x v && leafSet counts legs (getD leaves x 0) j)
+      pub holds : (j x : ℕ) → j < 256 → x < 128 → held t 2 (nets + j) x ≡ (ltb x v && leafHas counts legs (getD leaves x 0) j)
 
     module _ (n : ℕ) (low : (v k : ℕ) → v < n → k < getD counts (getD leaves v 0) 0 → getD legs (getD leaves v 0 * 32 + k) 0 < 256) (room : (nets + 256) * 2 ≤ length ws) where
       step : (v : ℕ) (t : List ℕ) → v < n → Raws v t → Raws (suc v) (leafPutAt v t)
@@ -58,7 +57,7 @@ module _ (nets : ℕ) (counts legs leaves : List ℕ) where
             holds = λ j x lj lx.
                 entered-held 2 nets legs (l * 32) v t (getD counts l 0) 256 j x (λ k c. low v k b c) lj (omega (arith, h .stays .same)) (omega arith)
                 ∙ ap (λ y. y || (among legs (l * 32) (getD counts l 0) j && eqb x v)) (h .holds j x lj lx)
-                ∙ one-more (λ y. leafSet counts legs (getD leaves y 0) j) x v;
+                ∙ one-more (λ y. leafHas counts legs (getD leaves y 0) j) x v;
           }
 
       -- RAW NETS
@@ -69,6 +68,6 @@ module _ (nets : ℕ) (counts legs leaves : List ℕ) where
           (record {
             stays = emptied-stays 2 nets ws 256 256 (omega arith);
             holds = λ j x lj lx. emptied-held 2 nets ws 256 j x lj room (omega arith)
-                ∙ sym (ap (λ (b : Bool). b && leafSet counts legs (getD leaves x 0) j) (le-ltb x 0 (omega arith)));
+                ∙ sym (ap (λ (b : Bool). b && leafHas counts legs (getD leaves x 0) j) (le-ltb x 0 (omega arith)));
           })
           step

@@ -15,17 +15,16 @@ use Rattle.spec.specs.Network.{Network, indexCount, weight}
 use Rattle.spec.specs.NetworkClaims.{Accepted}
 use Rattle.spec.specs.Hypergraph.{Net, nets≥2, netOf, netsOver, ones, hypergraphOf}
 use Rattle.laws.specs.Booleans.{and-left}
-use Rattle.laws.specs.ListLaws.{keep-ext}
+use Rattle.laws.specs.ListLaws.{keep-ext, memb-at}
 use Rattle.network.specs.Layouts.{map-range-ext}
-use Rattle.start.specs.Leaves.{leafSet}
 use Rattle.greedynodes.specs.Lends.{Lends}
 use Rattle.partition.specs.Layout.{netIn, graphIn}
 use Rattle.matching.specs.Meshed.{Meshed}
 use Rattle.mesh.specs.Stays.{Stays, stays-then, stays-wider}
 use Rattle.mesh.specs.Fronts.{rising-front}
-use Rattle.mesh.specs.Crossed.{memb-at}
 use Rattle.mesh.specs.Compact.{Within}
 use Rattle.mesh.specs.Mesh.{Built}
+use Rattle.slots.specs.Writes.{leafHas}
 use Rattle.hypergraph.specs.Raw.{among-at, raw, Raws, raws}
 
 -- lent lists stand for a network, and the leaves of a list are some of its leaves
@@ -81,17 +80,17 @@ module _ (N : Network) (weights counts legs leaves : List ℕ) (h : Names N weig
   r = subst (Raws nets counts legs leaves ws (length leaves)) (sym er) (raws nets counts legs leaves ws (length leaves) low (omega arith))
 
   abbrev pin : ℕ → ℕ → Bool
-  pin j x = ltb x (length leaves) && leafSet counts legs (getD leaves x 0) j
+  pin j x = ltb x (length leaves) && leafHas counts legs (getD leaves x 0) j
 
   no-pin : (j x : ℕ) → length leaves ≤ x → pin j x ≡ false
-  no-pin j x b = ap (λ t. t && leafSet counts legs (getD leaves x 0) j) (le-ltb x (length leaves) b)
+  no-pin j x b = ap (λ t. t && leafHas counts legs (getD leaves x 0) j) (le-ltb x (length leaves) b)
 
   net-is : (j : ℕ) → j < length weights → netIn ws₁ nets weights j ≡ netOf N leaves j
   net-is j b =
       ap₂ (λ (p : List ℕ) (w : ℕ). netWith p w)
       (rising-front ws₁ 2 (nets + j) (length leaves) (pin j) (few .1) (λ x c. r .holds j x (omega (arith, few .0)) c) (no-pin j)
       ∙ keep-ext (pin j) (λ v. memb j (Rattle.spec.specs.Network.legs N (getD leaves v 0))) (length leaves)
-      (λ x c. ap (λ t. t && leafSet counts legs (getD leaves x 0) j) (lt-ltb x (length leaves) c) ∙ h .lends .legs-are (getD leaves x 0) j (leaf-at x c)))
+      (λ x c. ap (λ t. t && leafHas counts legs (getD leaves x 0) j) (lt-ltb x (length leaves) c) ∙ h .lends .legs-are (getD leaves x 0) j (leaf-at x c)))
       (ap (λ l. getD l j 0) (h .lends .weighed))
     where
       netWith : List ℕ → ℕ → Net
@@ -112,6 +111,6 @@ module _ (N : Network) (weights counts legs leaves : List ℕ) (h : Names N weig
         graph-is = λ i. record { weights = (ev ∙ ap (λ (k : ℕ). filled k (wholeFloat 1)) same ∙ all-ones leaves) i; nets = nets-are i };
         meshed = eb .meshed;
         within = eb .within (λ j v b c q. ltb-true v (length leaves)
-            (and-left (ltb v (length leaves)) (leafSet counts legs (getD leaves v 0) j) (sym (r .holds j v (omega (arith, few .0)) c) ∙ q)));
+            (and-left (ltb v (length leaves)) (leafHas counts legs (getD leaves v 0) j) (sym (r .holds j v (omega (arith, few .0)) c) ∙ q)));
         stays = stays-then _ _ ws ws₁ ws₂ (stays-wider _ _ _ _ ws ws₁ (omega arith) (omega arith) (r .stays)) (eb .stays);
       }

@@ -10,7 +10,7 @@ use lib.ListN.{length, getD, List·getD-eq-default}
 use borrow.Author.Tests.{eqb-true, ltb-true, ltb-false, le-ltb, leb-false, lt-leb}
 use Rattle.spec.specs.Lists.{memb, anyb, count}
 use Rattle.spec.specs.Refusal.{Refusal, truncated, wrongTag, tooLarge, overweight, outOfRange, repeated, shortBuffer, invalidTree, invalidFlags, totalBeyond, danglingIndex, tableTooWide, drawsExhausted, numberOf, passes}
-use Rattle.spec.specs.Network.{Network, leafCount, indexCount, weight, legs, InRange, maxLeaves, maxIndices, maxLegs, maxOutputs, maxWeight, repeats, anyOutOfRange, accepted}
+use Rattle.spec.specs.Network.{Network, leafCount, indexCount, weight, legs, maxLeaves, maxIndices, maxLegs, maxOutputs, maxWeight, repeats, anyOutOfRange, accepted}
 use Rattle.spec.specs.NetworkClaims.{DistinctNumbers, Accepted, AcceptedMeans}
 use Rattle.laws.specs.ListLaws.{any-intro, count-memb, count-not-memb}
 use Rattle.laws.specs.Booleans.{by-cases, or-introl, or-intror, or-none, clash, eqb-self}

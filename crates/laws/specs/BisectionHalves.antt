@@ -1,6 +1,6 @@
 -- LAW B2: halves shrink, and so the number of leaves is fuel enough for bisection. Assumes nothing.
-use mathlib.Core.Path.{_≡_, refl, sym, ap, _∙_}
-use mathlib.Core.Bool.{Bool, true, false, not, _||_, cond}
+use mathlib.Core.Path.{_≡_, refl, ap, _∙_}
+use mathlib.Core.Bool.{Bool, not, _||_, cond}
 use mathlib.Core.List.{List, [], _∷_}
 use Prim.Native.Nat.{ℕ, zero, suc, _+_, _<_, _≤_, max}
 use native.Mathlib.Omega.{arith}
@@ -16,8 +16,9 @@ use Rattle.spec.specs.Refusal.{drawsExhausted, Result, refused, done, andThen}
 use Rattle.spec.specs.Draws.{Words, Drawn}
 use Rattle.spec.specs.Hypergraph.{sideOf, hypergraphOf}
 use Rattle.spec.specs.Bisection.{Halved, membersAt, leftHalf, rightHalf, smallEnd, joinHalves, halves, split, bisect, bisectRec}
-use Rattle.spec.specs.BisectionClaims.{Shrink, HalvesShrink, FuelEnough}
+use Rattle.spec.specs.BisectionClaims.{HalvesShrink, FuelEnough}
 use Rattle.laws.specs.Booleans.{by-cases, or-none}
+use Rattle.laws.specs.Results.{then-same}
 
 -- ---- the members that pass a test, and the others ----
 
@@ -60,10 +61,6 @@ halves-shrink part leaves l r =
     }
 
 -- ---- fuel ----
-
-then-same : {A B : Type 0} (r : Result A) (f g : A → Result B) → ((x : A) → f x ≡ g x) → andThen r f ≡ andThen r g
-then-same (refused k) f g h = refl
-then-same (done x) f g h = h x
 
 module _ (N : Network) (eps : Float) (cutoff : ℕ) where
   abbrev Go : Type 0

@@ -1,74 +1,42 @@
 -- LAW B1: bisection's answer is a valid array. Each half makes one tree, over an array that grows at its end. Assumes nothing.
 use mathlib.Core.Path.{_≡_, refl, sym, ap, _∙_, subst}
-use mathlib.Core.Bool.{Bool, true, false, not, _||_, cond}
-use mathlib.Core.List.{List, [], _∷_, _++_, append-assoc}
+use mathlib.Core.Bool.{Bool, true, false, _||_, cond}
+use mathlib.Core.List.{List, [], _∷_, _++_}
 use Prim.Native.Nat.{ℕ, zero, suc, _+_, _-_, _≤_, _<_, max}
 use native.Mathlib.Omega.{arith}
 use native.Mathlib.Nat.{lt-of-not-le}
 use lib.Dec.{eqb, ltb, leb}
 use lib.Ieee.{Float}
 use lib.ListN.{length, length-append, length-map}
-use borrow.Author.Tests.{eqb-true, eqb-false, eq-eqb, lt-ltb, le-ltb, ltb-true, ltb-false}
-use Rattle.spec.specs.Lists.{memb, count, range, from, sumOf}
+use borrow.Author.Tests.{eqb-true, eqb-false, eq-eqb, lt-ltb, ltb-true, ltb-false}
+use Rattle.spec.specs.Lists.{count, range, from, sumOf}
 use Rattle.spec.specs.Members.{All}
 use Rattle.spec.specs.Network.{Network, leafCount}
-use Rattle.spec.specs.Tree.{Tree, leaf, number, numbers, Pair, Describes, valid, ValidTree}
-use Rattle.spec.specs.Refusal.{drawsExhausted, Result, refused, done, andThen}
+use Rattle.spec.specs.Tree.{Tree, leaf, numbers, Pair, Describes, valid, ValidTree}
+use Rattle.spec.specs.Refusal.{drawsExhausted, refused, done}
 use Rattle.spec.specs.Draws.{Words, Drawn, lentWords}
-use Rattle.spec.specs.Greedy.{State, plus, joined, merge, least, connect, sharingPairs, bySize, Built, joinOn, joinAll, trees, leavesOf, startOf, greedyFrom}
-use Rattle.spec.specs.Hypergraph.{sideOf, hypergraphOf}
-use Rattle.spec.specs.Bisection.{imbalance, Halved, withWords, leftHalf, rightHalf, smallEnd, joinHalves, halves, split, bisect, bisectRec, bisectedFrom, Bisected, bisection}
+use Rattle.spec.specs.Greedy.{joined, Built, joinAll, leavesOf, startOf, greedyFrom}
+use Rattle.spec.specs.Hypergraph.{hypergraphOf}
+use Rattle.spec.specs.Bisection.{imbalance, Halved, leftHalf, rightHalf, smallEnd, joinHalves, halves, split, bisect, bisectRec, bisectedFrom, Bisected, bisection}
 use Rattle.spec.specs.BisectionClaims.{BisectionValid}
 use Rattle.laws.specs.Booleans.{by-cases, or-none}
-use Rattle.laws.specs.MemberLaws.{all-map}
-use Rattle.laws.specs.ListLaws.{count-memb, count-not-memb, count-append, memb-append, sum-length, range-length, from-memb, from-above, memb-from}
+use Rattle.laws.specs.ListLaws.{count-memb, count-append, sum-length, range-length}
 use Rattle.laws.specs.Counts.{count-in, count-out, sum-same}
 use Rattle.laws.specs.Results.{not-done, done-same, and-then}
 use Rattle.laws.specs.Walks.{tree-valid, inners, length-inners}
-use Rattle.laws.specs.GreedyForest.{Takes, takes-head, Topped, fresh, fresh-none, Forest, describes-more, join-forest, leaves-count, leaves-flat, leaf-topped, forest-valid}
-use Rattle.laws.specs.GreedyMerging.{turn-cases}
-use Rattle.laws.specs.GreedyLaws.{from-state, greedy-builds}
+use Rattle.laws.specs.GreedyForest.{takes-head, Topped, fresh, fresh-none, Forest, describes-more, join-forest, leaves-count, leaves-flat, leaf-topped, forest-valid}
+use Rattle.laws.specs.GreedyLaws.{greedy-builds}
 use Rattle.laws.specs.BisectionHalves.{members-all, members-count, halves-length, onZero}
+use Rattle.laws.specs.GreedyLists.{Extends, extends-trans, finish-extends}
 
 -- ---- greedy only adds nodes ----
 
-abbrev Grows : List Pair → List Pair → Type 0
-Grows a b = (m : List Pair) × (b ≡ a ++ m)
-
-same-grows : (a : List Pair) → Grows a a
-same-grows a = ([], sym (append-nil a))
-  where
-    append-nil : (l : List Pair) → l ++ [] ≡ l
-    append-nil [] = refl
-    append-nil (x ∷ l) = ap (λ k. x ∷ k) (append-nil l)
-
-then-grows : (a b c : List Pair) → Grows a b → Grows b c → Grows a c
-then-grows a b c (m, p) (k, q) = (m ++ k, q ∙ ap (λ l. l ++ k) p ∙ append-assoc a m k)
-
-grows-length : (a b : List Pair) → Grows a b → length a ≤ length b
+grows-length : (a b : List Pair) → Extends a b → length a ≤ length b
 grows-length a b (m, p) = omega (arith, ap length p, length-append a m)
 
-connect-grows : (N : Network) (n₀ fuel : ℕ) (s s′ : State) → connect N n₀ fuel s ≡ done s′ → Grows (s .pairs) (s′ .pairs)
-connect-grows N n₀ zero s s′ e = subst (λ (z : State). Grows (s .pairs) (z .pairs)) (done-same s s′ e) (same-grows (s .pairs))
-connect-grows N n₀ (suc fuel) s s′ e =
-    turn-cases N (sharingPairs N n₀ (s .live)) s (λ s′. connect N n₀ fuel s′) s′ e
-    (λ p q. subst (λ (z : State). Grows (s .pairs) (z .pairs)) q (same-grows (s .pairs)))
-    (λ c l p w q. then-grows (s .pairs) (merge N (least N c l) s .pairs) (s′ .pairs) (_, refl) (connect-grows N n₀ fuel (merge N (least N c l) s) s′ q))
-
-join-grows : (N : Network) (a : List Pair) (t : Tree) (l : List Tree) → Grows a (joinOn N a t l .pairs)
-join-grows N a t [] = same-grows a
-join-grows N a t (u ∷ l) = then-grows a (plus a t u) _ (_, refl) (join-grows N (plus a t u) (joined N a t u) l)
-
-all-grows : (N : Network) (a : List Pair) (l : List Tree) → Grows a (joinAll N a l .pairs)
-all-grows N a [] = same-grows a
-all-grows N a (t ∷ l) = join-grows N a t l
-
-greedy-grows : (N : Network) (a : List Pair) (ts : List Tree) (b : Built) → greedyFrom N a ts ≡ done b → Grows a (b .pairs)
+greedy-grows : (N : Network) (a : List Pair) (ts : List Tree) (b : Built) → greedyFrom N a ts ≡ done b → Extends a (b .pairs)
 unfolding greedyFrom
-greedy-grows N a ts b e =
-    from-state N (connect N (length ts) (length ts) (startOf a ts)) b e λ s p q.
-    then-grows a (s .pairs) (b .pairs) (connect-grows N (length ts) (length ts) (startOf a ts) s p)
-    (subst (λ (z : Built). Grows (s .pairs) (z .pairs)) q (all-grows N (s .pairs) (bySize N (trees (s .live)))))
+greedy-grows N a ts b e = finish-extends N (length ts) (length ts) (startOf a ts) b e
 
 -- ---- the forest of some leaves, over any array ----
 
@@ -103,7 +71,7 @@ record Half (N : Network) (leaves : List ℕ) (a : List Pair) (h : Halved) : Typ
   top : Tree
   tops : h .built .tops ≡ top ∷ []
   forest : Forest (leafCount N) (λ v. count v leaves) (leafCount N + length a) (length a + length leaves) (h .built .pairs) (top ∷ [])
-  grows : Grows a (h .built .pairs)
+  grows : Extends a (h .built .pairs)
 
 fresh-add : (lo mid hi v : ℕ) → lo ≤ mid → mid ≤ hi → fresh lo mid v + fresh mid hi v ≡ fresh lo hi v
 fresh-add lo mid hi v p q =
@@ -122,9 +90,6 @@ from-fresh lo k v =
     (by-cases (ltb v (lo + k))
     (λ f. rw f (count-in v lo k (ltb-false v lo e) (ltb-true v (lo + k) f)))
     (λ f. rw f (count-out v lo k (λ x y. omega (arith, ltb-false v (lo + k) f))))))
-
-below-memb : (n v : ℕ) (l : List ℕ) → Below n l → memb v l ≡ true → v < n
-below-memb n v l h e = lt-of-not-le (λ q. omega (arith, below-count n v l h q, count-memb v l e))
 
 -- a tree over so many leaves has one inner node less
 half-inners : (n : ℕ) (l : List ℕ) (a b : List Pair) (u : Tree) → Below n l → Forest n (λ v. count v l) (n + length a) (length a + length l) b (u ∷ [])
@@ -196,7 +161,7 @@ module _ (N : Network) (eps : Float) (cutoff : ℕ) where
             tops = refl;
             forest = join-forest N (y .built .pairs) (f .top ∷ g .top ∷ []) (g .top ∷ []) [] (t ∷ []) (f .top) (g .top) both
                 (takes-head (f .top) (g .top ∷ [])) (takes-head (g .top) []) (takes-head t []);
-            grows = then-grows a (x .built .pairs) _ (f .grows) (then-grows (x .built .pairs) (y .built .pairs) _ (g .grows) (_, refl));
+            grows = extends-trans a (x .built .pairs) _ (f .grows) (extends-trans (x .built .pairs) (y .built .pairs) _ (g .grows) (_, refl));
           })
 
   abbrev Rec : ℕ → Type 0

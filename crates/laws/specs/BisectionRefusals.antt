@@ -10,7 +10,7 @@ use lib.ListN.{length}
 use Rattle.spec.specs.Lists.{range}
 use Rattle.spec.specs.Network.{Network, leafCount}
 use Rattle.spec.specs.Tree.{Tree, Pair}
-use Rattle.spec.specs.Refusal.{Refusal, tableTooWide, drawsExhausted, Result, refused, done, andThen}
+use Rattle.spec.specs.Refusal.{Refusal, tableTooWide, drawsExhausted, Result, refused, done}
 use Rattle.spec.specs.Draws.{Words, Drawn, lentWords}
 use Rattle.spec.specs.Greedy.{Cand, State, Built, anyWide, turn, merge, least, connect, sharingPairs, finish, startOf, leavesOf, greedyFrom}
 use Rattle.spec.specs.Hypergraph.{hypergraphOf}

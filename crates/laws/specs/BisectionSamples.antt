@@ -5,17 +5,17 @@ use mathlib.Core.Path.{_≡_, refl}
 use Prim.Native.Nat.{ℕ, suc, _*_, _%_, _^_}
 use mathlib.Core.Option.{some}
 use lib.ListN.{drop}
-use lib.Ieee.{Float, round, add, sub, mul, div, neg, lt, le, eq, ofInt}
+use lib.Ieee.{round, add, sub, mul, div, neg, lt, le, eq, ofInt}
 use Rattle.spec.specs.Lists.{range}
 use Rattle.spec.specs.Floats.{decimal, wholeFloat, roundAway, roundTo}
 use Rattle.spec.specs.Draws.{unitOf, drawn, lentWords}
-use Rattle.spec.specs.Network.{Network, named}
+use Rattle.spec.specs.Network.{named}
 use Rattle.spec.specs.Price.{kept}
 use Rattle.spec.specs.Refusal.{drawsExhausted, refused, done}
 use Rattle.spec.specs.Greedy.{greedyFrom}
 use Rattle.spec.specs.Hypergraph.{Net, Hypergraph, hypergraphOf, cut}
 use Rattle.spec.specs.Fm.{gain, fm}
-use Rattle.spec.specs.Coarsen.{coarsen, Level}
+use Rattle.spec.specs.Coarsen.{coarsen}
 use Rattle.spec.specs.Bisection.{initial, imbalance, bisect, bisection}
 use Rattle.laws.specs.Samples.{pair, network}
 

@@ -1,10 +1,10 @@
 -- Laws of Booleans and of tests of numbers, beside those of `mathlib.Core.Bool` and `borrow.Author.Tests`. Assumes nothing.
 use mathlib.Core.Path.{_≡_, refl, sym, ap, _∙_}
-use mathlib.Core.Bool.{Bool, true, false, not, _&&_, _||_, cond, true≢false}
-use Prim.Native.Nat.{ℕ, _≤_}
+use mathlib.Core.Bool.{Bool, true, false, not, _&&_, _||_, cond, true≢false, or-assoc, or-comm}
+use Prim.Native.Nat.{ℕ, _≤_, _+_}
 use native.Mathlib.Omega.{arith}
-use lib.Dec.{eqb}
-use borrow.Author.Tests.{eqb-true, eqb-false, eq-eqb, ne-eqb}
+use lib.Dec.{eqb, ltb}
+use borrow.Author.Tests.{eqb-true, eqb-false, eq-eqb, ne-eqb, lt-ltb, le-ltb, ltb-true, ltb-false}
 
 -- cases of a test, with the equation
 pub by-cases {ℓ} : {P : Type ℓ} (b : Bool) → (b ≡ true → P) → (b ≡ false → P) → P
@@ -47,6 +47,9 @@ or-swap true true c = refl
 or-swap true false c = refl
 or-swap false b c = refl
 
+pub or-turn : (a b c : Bool) → (a || (b || c)) ≡ (c || (a || b))
+or-turn a b c = sym (or-assoc a b c) ∙ or-comm (a || b) c
+
 pub or-mid : (a b c d : Bool) → (a || b || (c || d)) ≡ (a || c || (b || d))
 or-mid true b c d = refl
 or-mid false b c d = or-swap b c d
@@ -87,3 +90,14 @@ eqb-sym a b =
 pub cond-le : (b : Bool) (n : ℕ) → cond b 0 n ≤ n
 cond-le true n = omega arith
 cond-le false n = omega arith
+
+pub cond-most : (b : Bool) (n : ℕ) → cond b n 0 ≤ n
+cond-most true n = omega arith
+cond-most false n = omega arith
+
+-- one number more under the limit changes no other
+pub ltb-next : (v k : ℕ) → (v ≡ k → ⊥) → ltb v k ≡ ltb v (k + 1)
+ltb-next v k f =
+    by-cases (ltb v k)
+    (λ q. q ∙ sym (lt-ltb v (k + 1) (omega (arith, ltb-true v k q))))
+    (λ q. q ∙ sym (le-ltb v (k + 1) (omega (arith, ltb-false v k q, f))))

@@ -1,17 +1,17 @@
 -- Networks made step by step: an accepted network is made of accepted additions, and an addition is refused as the network would be. Assumes nothing.
-use mathlib.Core.Path.{_≡_, refl, sym, ap, _∙_, subst}
+use mathlib.Core.Path.{_≡_, refl, sym, ap, _∙_}
 use mathlib.Core.Bool.{Bool, true, false, _||_}
 use mathlib.Core.List.{List, [], _∷_, _++_, append-assoc, append-nil}
 use mathlib.Core.Logic.{_↔_}
 use mathlib.Core.Option.{Option, none, some}
-use Prim.Native.Nat.{ℕ, _≤_}
+use Prim.Native.Nat.{ℕ}
 use native.Mathlib.Omega.{arith}
 use lib.Dec.{ltb, leb}
 use lib.ListN.{length, length-append}
 use borrow.Author.Tests.{ltb-false, le-ltb}
 use Rattle.spec.specs.Lists.{memb, anyb}
 use Rattle.spec.specs.Refusal.{Refusal, Result, refused, done, decide, passes}
-use Rattle.spec.specs.Network.{Network, indexCount, maxIndices, maxLeaves, maxLegs, maxOutputs, maxWeight, repeats, anyOutOfRange, refusalOf, accepted}
+use Rattle.spec.specs.Network.{Network, maxIndices, maxLegs, maxOutputs, maxWeight, repeats, refusalOf, accepted}
 use Rattle.spec.specs.Building.{ifAccepted, addWeight, addLeaf, addOutput}
 use Rattle.spec.specs.BuildingClaims.{addAll, built, BuiltJust, AdditionsRefused}
 use Rattle.spec.specs.File.{weightsChecks}

@@ -21,17 +21,13 @@ use Rattle.spec.specs.Hypergraph.{hypergraphOf}
 use Rattle.spec.specs.Bisection.{imbalance, Halved, withWords, leftHalf, rightHalf, smallEnd, joinHalves, halves, split, bisect, bisectRec, bisectedFrom, bisection}
 use Rattle.spec.specs.EndClaims.{Partitioned, TwoHalves, Comes, itself, inLeft, inRight, SmallEnd, few, whole, Met, WideEnd, WideByGreedy, SpentPart, SpentByDraws}
 use Rattle.laws.specs.Booleans.{by-cases, or-cases, or-none, or-introl, or-intror}
-use Rattle.laws.specs.ListLaws.{range-length}
+use Rattle.laws.specs.ListLaws.{range-length, no-members}
 use Rattle.laws.specs.Results.{refused-same, not-refused, then-refused}
 use Rattle.laws.specs.GreedyForest.{leaves-single}
 use Rattle.laws.specs.BisectionHalves.{members-all, members-count, halves-length, onZero, fuel-enough}
 use Rattle.laws.specs.GreedyFrom.{refuses-from}
 
 -- ---- what a refusal comes from ----
-
-no-members : {A : Type 0} (l : List A) → length l ≡ 0 → l ≡ []
-no-members [] e = refl
-no-members (x ∷ l) e = absurd (omega arith)
 
 module _ (N : Network) (eps : Float) (cutoff : ℕ) where
   abbrev left : List ℕ → Drawn (List ℕ) → List ℕ

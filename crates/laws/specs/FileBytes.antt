@@ -6,7 +6,7 @@ use mathlib.Core.Option.{Option, none, some, Option·some-injective}
 use Prim.Native.Nat.{ℕ, zero, suc, _+_, _-_, _%_, _≤_, _<_}
 use native.Mathlib.Omega.{arith}
 use lib.Dec.{ltb, leb}
-use lib.ListN.{length, getElem?}
+use lib.ListN.{length, getElem?, getD}
 use borrow.Author.Tests.{ltb-true, ltb-false, leb-false}
 use Rattle.spec.specs.Lists.{memb}
 use Rattle.spec.specs.Members.{All}
@@ -120,3 +120,8 @@ files-are-bytes c h =
   where
     join : (x y : List ℕ) → Bytes x → Bytes y → Bytes (x ++ y)
     join x y = all-append (λ b. b < 256) x y
+
+-- a list whose every place holds a byte
+pub all-bytes : (l : List ℕ) → ((k : ℕ) → k < length l → getD l k 0 < 256) → Bytes l
+all-bytes [] h = tt
+all-bytes (x ∷ l) h = (h 0 (omega arith), all-bytes l (λ k b. h (suc k) (omega arith)))

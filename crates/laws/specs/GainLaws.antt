@@ -2,7 +2,7 @@
 use Prim.Native.Nat.{ℕ, zero, suc, _+_, _-_, _^_, _<_, _≤_}
 use mathlib.Core.Path.{_≡_, refl, sym, ap, ap₂, _∙_, subst}
 use mathlib.Core.List.{List, [], _∷_, map}
-use mathlib.Core.Bool.{Bool, true, false, cond, _&&_, not}
+use mathlib.Core.Bool.{Bool, true, false, cond, _&&_, not, and-comm, and-false}
 use native.Mathlib.Omega.{arith}
 use lib.Dec.{T, ltb, eqb, le→leb, lt→ltb}
 use borrow.Author.Tests.{lt-ltb, le-ltb, ltb-true, ltb-false, eqb-true, eqb-false, eq-eqb, ne-eqb}
@@ -17,7 +17,7 @@ use Rattle.spec.specs.Floats.{wholeFloat}
 use Rattle.spec.specs.Hypergraph.{foldOver, Net, sideOf, otherSide, pinsOn, isCut}
 use Rattle.spec.specs.Fm.{gainNet, gainAt, gain}
 use Rattle.spec.specs.FmClaims.{WholeNet, asNet, wholeGraph, madeUncut, newlyCut, LawfulNet, GainIs}
-use Rattle.laws.specs.Booleans.{by-cases, or-none, clash}
+use Rattle.laws.specs.Booleans.{by-cases, or-none, clash, cond-most}
 use Rattle.laws.specs.MemberLaws.{all-map}
 use Rattle.laws.specs.WholeFloats.{add-whole, sub-whole}
 
@@ -115,10 +115,6 @@ module _ (part : List ℕ) (v s : ℕ) where
   abbrev step : Net → Float → Float
   step e g = gainNet (pinsOn part s (e .pins)) (pinsOn part (otherSide s) (e .pins)) (e .weight) g
 
-  cond-most : (b : Bool) (w : ℕ) → cond b w 0 ≤ w
-  cond-most true w = omega arith
-  cond-most false w = omega arith
-
   fold-nets : (nets : List WholeNet) (a b : ℕ) → a + sumOf (λ e. e .bits) nets ≤ 2 ^ 52 → b + sumOf (λ e. e .bits) nets ≤ 2 ^ 52
       → foldOver step (keep (λ (e : Net). memb v (e .pins)) (map asNet nets)) (F a b) ≡ F (a + bitsIf alone nets) (b + bitsIf clear nets)
   fold-nets [] a b p q =
@@ -201,13 +197,7 @@ pub cut-by : (part pins : List ℕ) → isCut part pins ≡ cutBy (pinsOn part 0
 cut-by part pins = ap₂ (λ a b. a && b) (any-kept (λ u. eqb (sideOf part u) 0) pins) (any-kept (λ u. eqb (sideOf part u) 1) pins)
 
 cut-swap : (a b : ℕ) → cutBy a b ≡ cutBy b a
-cut-swap a b = and-swap (not (eqb a 0)) (not (eqb b 0))
-  where
-    and-swap : (x y : Bool) → (x && y) ≡ (y && x)
-    and-swap true true = refl
-    and-swap true false = refl
-    and-swap false true = refl
-    and-swap false false = refl
+cut-swap a b = and-comm (not (eqb a 0)) (not (eqb b 0))
 
 -- h pins here and l there before, k and m after
 uncut-numbers : (h l k m : ℕ) → h ≡ suc k → m ≡ suc l → 2 ≤ h + l → eqb h 1 ≡ (cutBy h l && not (cutBy k m))
@@ -216,11 +206,7 @@ uncut-numbers h l k m p q r =
     (λ e. let z : k ≡ 0 = eqb-true k 0 e in
     rw (e, eq-eqb h 1 (omega arith), ne-eqb h 0 (λ w. omega arith), ne-eqb l 0 (λ w. omega arith)))
     (λ e. let z : k ≡ 0 → ⊥ = eqb-false k 0 e in
-    rw (e, ne-eqb h 1 (λ w. z (omega arith)), ne-eqb h 0 (λ w. omega arith), ne-eqb m 0 (λ w. omega arith)) (and-no (not (eqb l 0))))
-  where
-    and-no : (b : Bool) → false ≡ (b && false)
-    and-no true = refl
-    and-no false = refl
+    rw (e, ne-eqb h 1 (λ w. z (omega arith)), ne-eqb h 0 (λ w. omega arith), ne-eqb m 0 (λ w. omega arith)) (sym (and-false (not (eqb l 0)))))
 
 cut-numbers : (h l k m : ℕ) → h ≡ suc k → m ≡ suc l → 2 ≤ h + l → eqb l 0 ≡ (not (cutBy h l) && cutBy k m)
 cut-numbers h l k m p q r =

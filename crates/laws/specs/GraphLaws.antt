@@ -6,7 +6,6 @@ use mathlib.Core.List.{List, [], _∷_, map}
 use mathlib.Core.Option.{none, some, Option·some-injective, Option·none-ne-some}
 use Prim.Native.Nat.{ℕ, zero, suc, _+_, _*_, _≤_, _<_}
 use native.Mathlib.Omega.{arith}
-use native.Mathlib.Nat.{suc-mul}
 use lib.Dec.{leb}
 use borrow.Author.Tests.{leb-true}
 use lib.Ieee.{Float, binary64, mul, lt}
@@ -23,7 +22,7 @@ use Rattle.spec.specs.GraphClaims.{Pinned, Lawful, LeavesLawful, LevelLawful, C
 use Rattle.laws.specs.Accepted.{accepted-means}
 use Rattle.laws.specs.Booleans.{by-cases, and-right}
 use Rattle.laws.specs.MemberLaws.{all-intro, in-memb}
-use Rattle.laws.specs.ListLaws.{memb-keep, from-memb, from-above, range-length, sum-map}
+use Rattle.laws.specs.ListLaws.{memb-keep, from-memb, from-above, range-length, sum-map, sum-bound}
 use Rattle.laws.specs.KeyNumbers.{kept-less}
 
 -- ---- pins: the numbers of a stretch that pass a test ----
@@ -89,10 +88,6 @@ ones-length : (l : List ℕ) → length (ones l) ≡ length l
 ones-length [] = refl
 ones-length (x ∷ l) = ap suc (ones-length l)
 
-sum-most : (f : ℕ → ℕ) (b : ℕ) (l : List ℕ) → ((x : ℕ) → f x ≤ b) → sumOf f l ≤ length l * b
-sum-most f b [] h = omega arith
-sum-most f b (x ∷ l) h = omega (arith, h x, sum-most f b l h, suc-mul (length l) b)
-
 module _ (N : Network) (ls : List ℕ) where
   abbrev test : ℕ → ℕ → Bool
   test j v = memb j (legs N (getD ls v 0))
@@ -106,7 +101,7 @@ module _ (N : Network) (ls : List ℕ) where
   leaves-lawful-of a =
       let m = indexCount N in
       let A = accepted-means N .0 a in
-      let most : sumOf (weight N) (range m) ≤ length (range m) * maxWeight = sum-most (weight N) maxWeight (range m) (A .weightsFit) in
+      let most : sumOf (weight N) (range m) ≤ length (range m) * maxWeight = sum-bound (weight N) maxWeight (range m) (A .weightsFit) in
       let long : length (range m) ≡ m = range-length 0 m in
       record {
         whole = nets (length ls) test (weight N) (range m);

@@ -20,7 +20,7 @@ use Rattle.spec.specs.Fm.{Entry, above, Queue, waits, entryOf, orAbove, offered
 use Rattle.spec.specs.FmClaims.{ComesOff, live, Gives, nothing, alive, stale, HeapOf, Numbered, HeapGives, HeapRuns, HeapTaken, HeapLocked, HeapPushed}
 use Rattle.laws.specs.Booleans.{by-cases, clash, and-right, and-both, eqb-self, eqb-sym}
 use Rattle.laws.specs.MemberLaws.{all-append, all-parts, all-map, all-both, all-in, all-intro}
-use Rattle.laws.specs.ListLaws.{memb-from}
+use Rattle.laws.specs.ListLaws.{memb-from, keep-append}
 use Rattle.laws.specs.Lexicographic.{Order, not-before-self, by-number, then-by, order-of}
 use Rattle.laws.specs.FloatOrder.{by-float}
 
@@ -47,10 +47,6 @@ tie-vertex e f p q a b =
 -- ---- members kept ----
 
 module _ {A : Type 0} where
-  keep-append : (p : A → Bool) (a b : List A) → keep p (a ++ b) ≡ keep p a ++ keep p b
-  keep-append p [] b = refl
-  keep-append p (x ∷ a) b = by-cases (p x) (λ e. rw e (ap (λ (l : List A). x ∷ l) (keep-append p a b))) (λ e. rw e (keep-append p a b))
-
   keep-same : (p q : A → Bool) (l : List A) → All (λ x. p x ≡ q x) l → keep p l ≡ keep q l
   keep-same p q [] h = refl
   keep-same p q (x ∷ l) h = ap₂ (λ b (k : List A). cond b (x ∷ k) k) (h .0) (keep-same p q l (h .1))

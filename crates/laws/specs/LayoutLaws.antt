@@ -1,21 +1,22 @@
 -- Networks as lists with counts: what they hold, and that places past the counts are no part of them. Assumes nothing.
 use mathlib.Core.Path.{_≡_, refl, sym, ap, _∙_}
-use mathlib.Core.List.{List, [], _∷_, map}
+use mathlib.Core.List.{List, [], _∷_, map, _++_, map-append}
 use Prim.Native.Nat.{ℕ, zero, suc, _+_, _*_, _<_}
 use native.Mathlib.Nat.{zero-add, add-zero}
 use native.Mathlib.Omega.{arith}
+use native.Mathlib.Numerals.{add-one}
 use lib.ListN.{length, getD, drop, length-map}
 use lib.Seq.{ext-getD, getD-drop}
 use Rattle.spec.specs.Lists.{from, range}
-use Rattle.spec.specs.Network.{Network, leafCount, indexCount, weight, legs, maxLegs}
+use Rattle.spec.specs.Network.{Network, weight, legs, maxLegs}
 use Rattle.spec.specs.Layout.{firsts, rowAt, networkOf}
 use Rattle.spec.specs.BuildingClaims.{Holds, LaidOut, OneNetwork, SameWithinCounts}
-use Rattle.laws.specs.ListLaws.{range-length}
+use Rattle.laws.specs.ListLaws.{range-length, from-last}
 
 -- ---- a function of each number below n ----
 
 module _ {A : Type 0} (f : ℕ → A) where
-  from-at : (d : A) (k n i : ℕ) → i < n → getD (map f (from k n)) i d ≡ f (k + i)
+  pub from-at : (d : A) (k n i : ℕ) → i < n → getD (map f (from k n)) i d ≡ f (k + i)
   from-at d k zero i h = absurd (omega arith)
   from-at d k (suc n) zero h = ap f (sym (add-zero k))
   from-at d k (suc n) (suc i) h = from-at d (suc k) n i (omega arith) ∙ ap f (omega arith)
@@ -33,6 +34,12 @@ module _ {A : Type 0} (f : ℕ → A) where
       let c : i < n = omega arith in
       h i c ∙ sym (map-range-at d n i c))
 
+  -- one number more
+  pub map-range-more : (n : ℕ) → map f (range (n + 1)) ≡ map f (range n) ++ (f n ∷ [])
+  map-range-more n =
+      ap (λ (k : ℕ). map f (range k)) (add-one n) ∙ ap (map f) (from-last 0 n)
+      ∙ map-append f (range n) ((0 + n) ∷ []) ∙ ap (λ (x : ℕ). map f (range n) ++ (f x ∷ [])) (zero-add n)
+
 -- ---- the first n numbers of a list ----
 
 pub firsts-length : (n : ℕ) (l : List ℕ) → length (firsts n l) ≡ n
@@ -46,6 +53,15 @@ firsts-at n l i h = map-range-at (λ k. getD l k 0) 0 n i h
 pub firsts-is : (n : ℕ) (l k : List ℕ) → length k ≡ n → ((i : ℕ) → i < n → getD k i 0 ≡ getD l i 0) → k ≡ firsts n l
 unfolding firsts
 firsts-is n l k e h = map-range-is (λ i. getD l i 0) 0 n k e h
+
+pub firsts-none : (l : List ℕ) → firsts 0 l ≡ []
+unfolding firsts
+firsts-none l = refl
+
+-- one more
+pub firsts-more : (n : ℕ) (l : List ℕ) → firsts (n + 1) l ≡ firsts n l ++ (getD l n 0 ∷ [])
+unfolding firsts
+firsts-more n l = map-range-more (λ k. getD l k 0) n
 
 -- ---- networks ----
 

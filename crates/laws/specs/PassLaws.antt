@@ -3,7 +3,7 @@ use mathlib.Core.Path.{_≡_, refl, sym, ap, _∙_, subst}
 use mathlib.Core.Bool.{true, not, _&&_}
 use mathlib.Core.List.{List, [], _∷_, map}
 use mathlib.Core.Option.{Option, none, some}
-use Prim.Native.Nat.{ℕ, suc, _+_, _-_, _*_, _^_, _≤_, _<_}
+use Prim.Native.Nat.{ℕ, suc, _-_, _*_, _^_, _≤_, _<_}
 use native.Mathlib.Omega.{arith}
 use lib.Dec.{ltb}
 use lib.Ieee.{Float, eq}
@@ -17,8 +17,8 @@ use Rattle.spec.specs.Fm.{gain, keyOf, Entry, Queue, waits, entryOf, largest, t
 use Rattle.spec.specs.Bisection.{multilevel}
 use Rattle.spec.specs.FmClaims.{WholeNet, asNet, LawfulNet, Gives, nothing, alive, stale, Numbered, HeapOf, Heaped, pushed, startHeap, pushedAgain, heapAfter}
 use Rattle.spec.specs.GraphClaims.{Pinned, Lawful, Sided, GainWhole, Starts, growth, brought, Comes, first, turn, next, PassSound, TurnsCome, PassesCome, PassesSound}
-use Rattle.laws.specs.MemberLaws.{all-map, all-intro, in-memb}
-use Rattle.laws.specs.ListLaws.{from-memb}
+use Rattle.laws.specs.MemberLaws.{all-map}
+use Rattle.laws.specs.ListLaws.{below-range}
 use Rattle.laws.specs.GainLaws.{gain-is}
 use Rattle.laws.specs.KeyNumbers.{keys-numbered}
 use Rattle.laws.specs.HeapLaws.{rest-all, heap-gives, heap-runs}
@@ -73,9 +73,6 @@ KeysOk q = All Sure (q .keys)
 
 abbrev BothOk : Heaped → Type 0
 BothOk x = KeysOk (x .queue) × All Numbered (x .heap)
-
-below-range : (n : ℕ) → All (λ u. u < n) (range n)
-below-range n = all-intro (λ u. u < n) (range n) (λ u i. let b : u < 0 + n = from-memb u 0 n (in-memb u (range n) i) in omega arith)
 
 module _ (G : Hypergraph) (h : Lawful G) (part : List ℕ) (s : Sided (vertexCount G) part) where
   entered-ok : (stamp v : ℕ) (q : Queue) → v < vertexCount G → KeysOk q → KeysOk (enteredAs G part stamp v q)

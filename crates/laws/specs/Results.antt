@@ -24,6 +24,10 @@ pub and-then {ℓ} : {A B : Type 0} {P : Type ℓ} (r : Result A) (f : A → Res
 and-then (refused k) f y e g = not-done k y e
 and-then (done x) f y e g = g x refl e
 
+pub then-same : {A B : Type 0} (r : Result A) (f g : A → Result B) → ((x : A) → f x ≡ g x) → andThen r f ≡ andThen r g
+then-same (refused k) f g h = refl
+then-same (done x) f g h = h x
+
 -- an answer is no refusal, and what a refusal comes from
 pub not-refused : {A : Type 0} {P : Type 0} (x : A) (k : Refusal) → _≡_ {A = Result A} (done x) (refused k) → P
 not-refused x k e = not-done k x (sym e)

@@ -1,7 +1,7 @@
 -- Valid trees of the same plan have the same prices: they differ only in the inner nodes' numbers and in which child stands left.
 -- Assumes nothing.
 use mathlib.Core.Path.{_≡_, refl, sym, ap, ap₂, _∙_, subst, fun-ext}
-use mathlib.Core.Bool.{Bool, true, false, not, _&&_, _||_, cond}
+use mathlib.Core.Bool.{Bool, true, false, not, _&&_, _||_, cond, or-comm}
 use mathlib.Core.List.{List, [], _∷_, _++_, map}
 use mathlib.Core.Logic.{_⊎_, inl, inr, ⊎-elim}
 use mathlib.Core.Option.{none, some}
@@ -14,7 +14,7 @@ use lib.ListN.{length}
 use borrow.Author.Tests.{eqb-true, ne-eqb}
 use Rattle.spec.specs.Lists.{memb, range, keep}
 use Rattle.spec.specs.Network.{Network, leafCount, indexCount, legs, named}
-use Rattle.spec.specs.Tree.{Tree, leaf, node, number, numbers, below, inner, innerOf, Pair, treeAt, root, valid, Describes, ValidTree, belowOf, Within}
+use Rattle.spec.specs.Tree.{Tree, leaf, node, number, numbers, below, inner, innerOf, Pair, treeAt, valid, Describes, ValidTree, belowOf, Within}
 use Rattle.spec.specs.TreeClaims.{SamePrices}
 use Rattle.spec.specs.Price.{kept, lists, listsOf, listAt, bits, stepAt, listing, work, total, largest, widest, sliceBits, priceOf, upTo}
 use Rattle.spec.specs.Improve.{weigh, workOf}
@@ -22,7 +22,7 @@ use Rattle.laws.specs.Booleans.{bool-ext, or-introl, or-intror, or-cases
 use Rattle.laws.specs.ListLaws.{memb-one, memb-head, three-cases, three-left, three-right, three-last}
 use Rattle.laws.specs.Walks.{Placed, placed-top, valid-placed, valid-tree, valid-means}
 use Rattle.laws.specs.Value.{Apart}
-use Rattle.laws.specs.Arrays.{number-in, once-apart, valid-once, valid-in, in-below, describes-shape}
+use Rattle.laws.specs.Arrays.{once-apart, valid-once, valid-in, in-below, describes-shape}
 use Rattle.laws.specs.TreePrices.{totalBelow}
 use Rattle.laws.specs.ImprovedWork.{listing-work}
 
@@ -37,12 +37,6 @@ Similar (node v l r) (node w x y) = (Similar l x × Similar r y) ⊎ (Similar l 
 -- the same leaves
 abbrev Same : Tree → Tree → Type 0
 Same t u = (i : ℕ) → below t i ≡ below u i
-
-or-comm : (a b : Bool) → (a || b) ≡ (b || a)
-or-comm true true = refl
-or-comm true false = refl
-or-comm false true = refl
-or-comm false false = refl
 
 similar-below : (t u : Tree) → Similar t u → Same t u
 similar-below (leaf i) (leaf k) e j = ap (λ x. eqb x j) e
@@ -281,7 +275,7 @@ module _ (n : ℕ) (a : List Pair) where
   placed-part s (node v l r) d (inr (inl p)) = placed-part s l (d .1) p
   placed-part s (node v l r) d (inr (inr p)) = placed-part s r (d .2) p
 
-  high-leaf : (t : Tree) → Describes n a t → (j : ℕ) → n ≤ j → below t j ≡ false
+  pub high-leaf : (t : Tree) → Describes n a t → (j : ℕ) → n ≤ j → below t j ≡ false
   high-leaf (leaf i) d j h = ne-eqb i j (λ q. omega arith)
   high-leaf (node v l r) d j h = ap₂ (λ x y. x || y) (high-leaf l (d .2) j h) (high-leaf r (d .3) j h)
 

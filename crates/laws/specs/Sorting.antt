@@ -5,7 +5,7 @@ use mathlib.Core.List.{List, [], _∷_}
 use Prim.Native.Nat.{ℕ, _≤_}
 use native.Mathlib.Omega.{arith}
 use lib.Dec.{eqb, ltb, leb}
-use borrow.Author.Tests.{eqb-true, ltb-true, ltb-false, leb-true, leb-false, not-true}
+use borrow.Author.Tests.{eqb-true, ltb-true, ltb-false, leb-true, leb-false, not-true, not-false}
 use Rattle.spec.specs.Lists.{keep}
 use Rattle.spec.specs.Members.{All, Ordered}
 use Rattle.spec.specs.Greedy.{sizeOf, insert, bySize}
@@ -74,10 +74,6 @@ module _ {A : Type 0} (key : A → ℕ) (R : ℕ → ℕ → Type 0) (past : A �
 cond-not : {B : Type 0} (b : Bool) (x y : B) → cond b x y ≡ cond (not b) y x
 cond-not true x y = refl
 cond-not false x y = refl
-
-not-false : (b : Bool) → not b ≡ false → b ≡ true
-not-false true e = refl
-not-false false e = sym e
 
 -- LAW G6
 pub rest-rises : RestRises

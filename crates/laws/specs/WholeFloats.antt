@@ -1,16 +1,15 @@
 -- Whole numbers up to 2 ^ 53 as f64s: sums and differences are exact. Assumes nothing.
-use mathlib.Core.Path.{_≡_, refl, sym, ap, _∙_, subst}
-use mathlib.Core.Bool.{Bool, true, false, not, cond, _&&_, _||_, Bool·beq, true≢false}
+use mathlib.Core.Path.{_≡_, refl, sym, ap, _∙_}
+use mathlib.Core.Bool.{Bool, true, false, not, cond, _&&_, Bool·beq}
 use Prim.Native.Nat.{ℕ, zero, suc, _+_, _-_, _*_, _^_, _≤_, _<_}
-use native.Mathlib.Nat.{mul-one, one-mul, add-mul, mul-sub, mul-comm, mul-assoc, mul-left-comm, mul-right-comm, mul-pos, mul-lt-mul-of-pos-right, mul-le-mul-right, mul-le-mul-left, lt-of-mul-lt-mul-right, lt-of-lt-of-le, lt-of-le-of-lt, le-of-eq, le-of-lt, le-of-mul-le-mul-right, le-trans, zero-lt-suc}
+use native.Mathlib.Nat.{mul-one, add-mul, mul-sub, mul-comm, mul-assoc, mul-right-comm, mul-pos, mul-lt-mul-of-pos-right, mul-le-mul-right, zero-lt-suc}
 use native.Mathlib.Omega.{arith}
-use lib.Dec.{T, ltb, leb, eqb, leb→le, ltb→lt}
-use borrow.Author.Tests.{lt-ltb, le-ltb, ltb-true, ltb-false, eqb-true}
-use lib.IntN.{ℤ, pos, negsuc, negℤ, subℕ, _+ℤ_, _-ℤ_}
-use lib.Ieee.{Float, nan, inf, fin, binary64, up, down, round, sum, add, neg, sub, mul, lt, le, ofInt, inFloat}
+use lib.Dec.{T, ltb, leb→le, ltb→lt}
+use borrow.Author.Tests.{lt-ltb, le-ltb, ltb-true, ltb-false}
+use lib.IntN.{ℤ, pos, negsuc, subℕ, _+ℤ_, _-ℤ_}
+use lib.Ieee.{Float, fin, binary64, up, down, round, sum, add, neg, sub, ofInt, inFloat}
 use lib.Ieee.Fits.{down-pos}
 use lib.Ieee.Exact.{HasValue}
-use lib.Ieee.Order.{round-mono}
 use lib.Ieee.Scale.{round-same}
 use lib.Ieee.Back.{round-whole}
 

@@ -9,7 +9,7 @@ use lib.ListN.{length, getD, drop, drop-of-length-le}
 use lib.Seq.{drop-cons}
 use Rattle.cells.specs.Loop.{turns, turns-none, turns-next, turns-keeps}
 use Rattle.slots.specs.Slots.{held, withSet, withSet-length, withSet-then}
-use Rattle.walk.specs.Check.{leftOf, rightOf}
+use Rattle.laws.specs.FlatLaws.{leftOf, rightOf}
 
 -- slot base + i holds i alone, for i below n
 unfoldable pub singles : ℕ → ℕ → List ℕ → ℕ → List ℕ

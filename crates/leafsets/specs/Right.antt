@@ -2,23 +2,22 @@
 use mathlib.Core.Path.{_≡_, refl, sym, _∙_, ap, ap₂, subst}
 use mathlib.Core.Bool.{Bool, true, false, _||_}
 use mathlib.Core.List.{List, [], _∷_, _++_}
-use mathlib.Core.Option.{Option, some, Option·some-injective}
+use mathlib.Core.Option.{Option, Option·some-injective}
 use Prim.Native.Nat.{ℕ, zero, suc, _+_, _-_, _*_, _≤_, _<_}
 use native.Mathlib.Omega.{arith}
 use native.Mathlib.Decide.{ℕ-discrete, decLe}
 use lib.Dec.{eqb}
 use lib.ListN.{length}
 use Rattle.spec.specs.Lists.{memb}
-use Rattle.spec.specs.Tree.{Tree, leaf, node, number, numbers, inner, innerOf, below, belowOf, Pair, Describes, treeAt, pairsOf, stepOrder}
+use Rattle.spec.specs.Tree.{Tree, leaf, node, number, numbers, inner, innerOf, belowOf, Pair, Describes, treeAt, pairsOf, stepOrder}
 use Rattle.spec.specs.Calls.{wrongTree}
 use Rattle.laws.specs.Booleans.{eqb-sym, clash}
 use Rattle.laws.specs.ListLaws.{memb-one, three-cases, three-left, three-right}
 use Rattle.laws.specs.Walks.{Placed, placed-top, describes-placed, valid-tree, valid-placed}
 use Rattle.laws.specs.Arrays.{number-in, valid-in}
-use Rattle.laws.specs.FlatLaws.{pair-at}
+use Rattle.laws.specs.FlatLaws.{pair-at, leftOf, rightOf}
 use Rattle.cells.specs.Loop.{turns}
 use Rattle.slots.specs.Slots.{held, withSet, next-slot, held-with, held-with-other}
-use Rattle.walk.specs.Check.{leftOf, rightOf}
 use Rattle.walk.specs.Order.{Low}
 use Rattle.walk.specs.Wrong.{not-wrong}
 use Rattle.leafsets.specs.Passes.{singles, joined, ups, joined-length, singles-length}

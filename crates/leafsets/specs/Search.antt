@@ -55,11 +55,6 @@ module _ (p : ℕ → Bool) where
   pub first-ends : (k n : ℕ) → n ≤ k → firstFrom p k (n - k) ≡ k
   first-ends k n h = let e : n - k ≡ 0 = omega arith in ap (firstFrom p k) e
 
-  pub first-le : (k m : ℕ) → firstFrom p k m ≤ k + m
-  first-le k zero = omega arith
-  first-le k (suc m) =
-      by-cases (p k) (λ e. rw e (omega arith)) (λ e. rw e (omega (arith, first-le (suc k) m)))
-
   pub first-ge : (k m : ℕ) → k ≤ firstFrom p k m
   first-ge k zero = omega arith
   first-ge k (suc m) =

@@ -10,34 +10,25 @@ use native.Mathlib.Decide.{decLe}
 use lib.Dec.{eqb, ltb}
 use lib.ListN.{length, getD, take, drop}
 use lib.Seq.{take-at}
-use borrow.Author.Tests.{eq-eqb, ne-eqb, eqb-true, lt-ltb, le-ltb}
+use borrow.Author.Tests.{eq-eqb, eqb-true, lt-ltb, le-ltb, not-true, not-false}
 use Rattle.spec.specs.Lists.{allb, anyb, from, range}
-use Rattle.spec.specs.Tree.{Tree, leaf, node, below, belowOf, Pair, Describes, treeAt, valid, pairsOf, stepOrder, agree, within, samePlan}
+use Rattle.spec.specs.Tree.{Tree, node, belowOf, Pair, treeAt, pairsOf, stepOrder, agree, within, samePlan}
 use Rattle.spec.specs.Memory.{over}
 use Rattle.spec.specs.Calls.{wrongTree}
-use Rattle.laws.specs.Booleans.{bool-ext, clash}
+use Rattle.laws.specs.Booleans.{bool-ext}
 use Rattle.laws.specs.ListLaws.{all-elim, all-intro, from-memb, memb-range}
 use Rattle.laws.specs.Walks.{valid-tree, valid-none}
 use Rattle.laws.specs.Arrays.{valid-inner}
+use Rattle.laws.specs.Sameness.{agree-eq, eq-agree}
+use Rattle.laws.specs.SamePrices.{high-leaf}
 use Rattle.slots.specs.Slots.{held, Words, held-digit, word-is, word-held}
 use Rattle.bits.specs.Digits.{digit}
 use Rattle.cells.specs.Cells.{over-length, over-fits}
 use Rattle.walk.specs.Order.{order-length}
 use Rattle.walk.specs.Wrong.{not-wrong}
-use Rattle.walk.specs.Marks.{was-false, was-true}
 use Rattle.leafsets.specs.Passes.{singles, ups, singles-length}
 use Rattle.leafsets.specs.Search.{sameWords, allFound}
 use Rattle.leafsets.specs.Right.{RightAt, singles-right, tree-right, leaf-set, ups-length}
-
-agree-eq : (x y : Bool) → agree x y ≡ true → x ≡ y
-agree-eq true y e = sym e
-agree-eq false true e = clash refl (sym e)
-agree-eq false false e = refl
-
-eq-agree : (x y : Bool) → x ≡ y → agree x y ≡ true
-eq-agree true y e = sym e
-eq-agree false true e = clash refl (sym e)
-eq-agree false false e = refl
 
 -- ---- the same words, the same leaves ----
 
@@ -109,10 +100,6 @@ found-within w ws n d e a b fits words x y =
 
 -- ---- a valid tree ----
 
-below-leaves : (n : ℕ) (a : List Pair) (t : Tree) → Describes n a t → (j : ℕ) → n ≤ j → below t j ≡ false
-below-leaves n a (leaf i) d j h = ne-eqb i j (λ q. omega arith)
-below-leaves n a (node v l r) d j h = ap₂ (λ (x y : Bool). x || y) (below-leaves n a l (d .2) j h) (below-leaves n a r (d .3) j h)
-
 right-long : (n : ℕ) (kids : List ℕ) → wrongTree n kids ≡ false → length (pairsOf kids) ≡ n - 1
 right-long zero kids e = valid-none (pairsOf kids) (not-wrong 0 kids e) ∙ omega arith
 right-long (suc m) kids e = let (t, w, ok) = valid-tree (suc m) (pairsOf kids) (omega arith) (not-wrong (suc m) kids e) in omega (arith, ok .inner)
@@ -122,7 +109,7 @@ right-leaves : (n : ℕ) (kids : List ℕ) → wrongTree n kids ≡ false → (v
 right-leaves n kids e v j h k l =
     let (t, w, ok) = valid-tree n (pairsOf kids) (omega arith) (not-wrong n kids e) in
     let i = valid-inner n (pairsOf kids) t ok v h (omega (arith, right-long n kids e)) in
-    ap (λ (o : Option Tree). belowOf o j) (i .here) ∙ below-leaves n (pairsOf kids) (node v (i .l) (i .r)) (i .described) j l
+    ap (λ (o : Option Tree). belowOf o j) (i .here) ∙ high-leaf n (pairsOf kids) (node v (i .l) (i .r)) (i .described) j l
 
 -- ---- two trees, one after the other ----
 
@@ -219,7 +206,7 @@ module _ (n : ℕ) (kids others ws v₁ v₂ v₃ v₄ : List ℕ) (c : ℕ) (sm
   unfolding samePlan
   one-way b e f =
       let q : within n (pairsOf kids) (pairsOf others) ≡ false
-      = sym (found .0) ∙ sym (ap₂ (λ (k m : ℕ). allFound 2 v₄ k (n * 2 + n) m) zero-n count) ∙ sym e ∙ was-false b f in
+      = sym (found .0) ∙ sym (ap₂ (λ (k m : ℕ). allFound 2 v₄ k (n * 2 + n) m) zero-n count) ∙ sym e ∙ not-true b f in
       rw q
 
   pub other-way : (b d : Bool) → b ≡ allFound 2 v₄ n (n * 2 + n) c → not b ≡ false → d ≡ allFound 2 v₄ (n * 2 + n) n c
@@ -227,7 +214,7 @@ module _ (n : ℕ) (kids others ws v₁ v₂ v₃ v₄ : List ℕ) (c : ℕ) (sm
   unfolding samePlan
   other-way b d e f g =
       let q : within n (pairsOf kids) (pairsOf others) ≡ true
-      = sym (found .0) ∙ sym (ap₂ (λ (k m : ℕ). allFound 2 v₄ k (n * 2 + n) m) zero-n count) ∙ sym e ∙ was-true b f in
+      = sym (found .0) ∙ sym (ap₂ (λ (k m : ℕ). allFound 2 v₄ k (n * 2 + n) m) zero-n count) ∙ sym e ∙ not-false b f in
       rw q (g ∙ ap₂ (λ (k m : ℕ). allFound 2 v₄ (n * 2 + n) k m) zero-n count ∙ found .1)
 
 -- the front of a list that an order is written over

@@ -3,10 +3,8 @@ use mathlib.Core.List.{List, _++_}
 use mathlib.Core.Option.{Option, none, some}
 use mathlib.Core.Path.{_≡_, refl, sym, ap, _∙_}
 use Prim.Native.Nat.{ℕ, _+_}
-use native.Mathlib.Omega.{arith}
 use lib.ListN.{length, length-append}
 use Rattle.spec.specs.Memory.{placed}
-use Rattle.spec.specs.Refusal.{Refusal, numberOf, Result, refused, done}
 use Rattle.spec.specs.Price.{Total, exact, beyond, Prices}
 use Rattle.spec.specs.Host.{bytesOf, totalBytes, widestBytes, headBytes}
 use Rattle.cells.specs.Cells.{placed-next}

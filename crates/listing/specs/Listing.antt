@@ -1,7 +1,7 @@
 -- The listing's bytes in the lent buffer, and the refusals before it. Assumes nothing.
 use mathlib.Core.Path.{_≡_, refl, sym, ap, ap₂, _∙_}
 use mathlib.Core.Bool.{true, false}
-use mathlib.Core.List.{List, [], _∷_}
+use mathlib.Core.List.{List}
 use Prim.Native.Nat.{ℕ, _+_, _*_, _-_, _≤_, _<_}
 use native.Mathlib.Omega.{arith}
 use lib.ListN.{length, take, drop}
@@ -23,8 +23,9 @@ use Rattle.network.specs.Record.{netOf}
 use Rattle.network.specs.Layouts.{leaf-count}
 use Rattle.network.specs.declared.Network.{Network as Record}
 use Rattle.pricing.specs.declared.Prices.{Prices as HandedPrices}
+use Rattle.pricing.specs.Handed.{flat-length}
 use Rattle.cost.specs.declared.Priced.the-variants.{Refused, Done}
-use Rattle.cost.specs.Answers.{answerOf, room, TreeCost}
+use Rattle.cost.specs.Answers.{answerOf, room}
 use Rattle.cost.specs.Back.{pricesFrom, of-refused, of-done}
 use Rattle.listing.specs.Head.{head-length}
 
@@ -35,11 +36,6 @@ pub record FullRoom (ws sets sizes works steps : List ℕ) : Type 0 where
   pub sizePlaces : length sizes ≡ 255
   pub workPlaces : length works ≡ 255
   pub stepNumbers : length steps ≡ 635
-
-flat-length : (l : List Step) → length (flatSteps l) ≡ length l * 5
-unfolding flatSteps
-flat-length [] = refl
-flat-length (c ∷ l) = omega (arith, flat-length l)
 
 module _ (N : Network) (flags kids : List ℕ) where
   -- where pricing answers, the network is accepted, the tree is valid, and the answer is the prices

@@ -2,7 +2,7 @@
 use mathlib.Core.Bool.{Bool, true, false, _&&_, _||_, cond}
 use mathlib.Core.Path.{_≡_, refl, sym, _∙_, ap, ap₂}
 use mathlib.Core.List.{List}
-use Prim.Native.Nat.{ℕ, zero, suc, _+_, _*_, _^_, _≤_, _<_}
+use Prim.Native.Nat.{ℕ, zero, suc, _+_, _*_, _^_, _<_}
 use native.Mathlib.Omega.{arith}
 use native.Mathlib.Nat.{suc-mul, pow-suc}
 use native.Mathlib.Numerals.{add-one}
@@ -15,6 +15,7 @@ use borrow.Author.Tests.{le-leb, lt-leb}
 use Rattle.cells.specs.Loop.{turns}
 use Rattle.bits.specs.Digits.{digit, ofDigits, digit-of, or-digits, and-digits, zero-digits}
 use Rattle.slots.specs.Slots.{held, wordOf, written, withSet, withSet-length, held-digit, word-is, written-other, written-next, place-eq}
+use Rattle.laws.specs.Booleans.{cond-most}
 
 -- how many of the first m slots of a list hold index j
 unfoldable pub holders : List ℕ → ℕ → List ℕ → ℕ → ℕ → ℕ
@@ -29,11 +30,7 @@ atLeast a ws W live m j = leb a (holders ws W live m j)
 digits-lt : (n : ℕ) (p : ℕ → Bool) → ofDigits n p < 2 ^ n
 unfolding ofDigits
 digits-lt zero p = omega arith
-digits-lt (suc n) p = omega (arith, digits-lt n (λ i. p (suc i)), pow-suc 2 n, low (p 0))
-  where
-    low : (b : Bool) → cond b 1 0 ≤ 1
-    low true = omega arith
-    low false = omega arith
+digits-lt (suc n) p = omega (arith, digits-lt n (λ i. p (suc i)), pow-suc 2 n, cond-most (p 0) 1)
 
 pub word-lt : (p : ℕ → Bool) (k : ℕ) → wordOf p k < 2 ^ 64
 unfolding wordOf

@@ -1,27 +1,23 @@
 -- Two searches over the same members that weigh alike find the same tree and try as many splits. Assumes nothing.
-use mathlib.Core.Bool.{Bool, true, false, not, _&&_, _||_, cond}
+use mathlib.Core.Bool.{Bool, not, _&&_, cond}
 use mathlib.Core.List.{List, [], _∷_}
 use mathlib.Core.Option.{Option, none}
-use mathlib.Core.Path.{_≡_, refl, sym, ap, ap₂, _∙_}
-use Prim.Native.Nat.{ℕ, zero, suc, _+_, _<_}
+use mathlib.Core.Path.{_≡_, refl, ap, ap₂, _∙_}
+use Prim.Native.Nat.{ℕ, zero, suc, _<_}
 use native.Mathlib.Omega.{arith}
 use lib.Dec.{eqb}
 use lib.ListN.{length}
-use Rattle.spec.specs.Lists.{from, range}
+use Rattle.spec.specs.Lists.{range}
 use Rattle.spec.specs.Members.{All}
 use Rattle.spec.specs.Improve.{Split, splitsOf, sumSubsets, Found, cheaper, joinedBy, overLimit, keeps, passed, splitWork, scan, cheapestBy, cheapest, splitCount}
-use Rattle.laws.specs.MemberLaws.{all-map}
 use Rattle.laws.specs.Searches.{Dealt, noMore, toPart, toRest, Cuts, cuts-cut}
+use Rattle.laws.specs.ListLaws.{below-range}
 
 -- what the members of a list have, those of its parts have
 dealt-all : (P : ℕ → Type 0) {l r s : List ℕ} → Dealt l r s → All P s → All P l × All P r
 dealt-all P noMore h = (tt, tt)
 dealt-all P (toPart d) h = let (a, b) = dealt-all P d (h .1) in ((h .0, a), b)
 dealt-all P (toRest d) h = let (a, b) = dealt-all P d (h .1) in (a, (h .0, b))
-
-pub all-range : (k n : ℕ) → All (λ p. p < k + n) (from k n)
-all-range k zero = tt
-all-range k (suc n) = (omega arith, all-map (λ p. p < suc k + n) (λ p. p < k + suc n) (from (suc k) n) (λ p h. omega arith) (all-range (suc k) n))
 
 sum-all : (P : ℕ → Type 0) (f g : List ℕ → ℕ) (l : List ℕ) → All P l → ((s : List ℕ) → All P s → f s ≡ g s) → sumSubsets f l ≡ sumSubsets g l
 sum-all P f g [] a h = h [] tt
@@ -59,14 +55,11 @@ module _ (m : ℕ) (has has′ : ℕ → ℕ → Bool) (ext ext′ : ℕ → Boo
     same-cheapest (suc most) s a =
         same-by (λ u. cheapest m has ext weigh limit most u) (λ u. cheapest m has′ ext′ weigh′ limit most u) (λ u b. same-cheapest most u b) s a
 
-    all-members : All (λ p. p < m) (range m)
-    all-members = all-map (λ p. p < 0 + m) (λ p. p < m) (range m) (λ p h. omega arith) (all-range 0 m)
-
     pub alike-found : cheapest m has ext weigh limit m (range m) ≡ cheapest m has′ ext′ weigh′ limit m (range m)
-    alike-found = same-cheapest m (range m) all-members
+    alike-found = same-cheapest m (range m) (below-range m)
 
     pub alike-tried : splitCount m has ext weigh limit ≡ splitCount m has′ ext′ weigh′ limit
     unfolding splitCount
     alike-tried =
         sum-all (λ p. p < m) (λ s. cond (passed m has ext weigh limit s) 0 (length (splitsOf s))) (λ s. cond (passed m has′ ext′ weigh′ limit s) 0 (length (splitsOf s)))
-        (range m) all-members (λ s a. ap (λ x. cond x 0 (length (splitsOf s))) (same-passed s a))
+        (range m) (below-range m) (λ s a. ap (λ x. cond x 0 (length (splitsOf s))) (same-passed s a))

@@ -1,7 +1,7 @@
 -- A set of local indices weighs what the set of indices that it stands for weighs. Assumes nothing.
-use mathlib.Core.Bool.{Bool, true, false, not, _&&_, cond}
-use mathlib.Core.List.{List, [], _∷_, _++_}
-use mathlib.Core.Path.{_≡_, refl, sym, ap, ap₂, _∙_}
+use mathlib.Core.Bool.{Bool, true, false, _&&_, cond}
+use mathlib.Core.List.{List, [], _∷_}
+use mathlib.Core.Path.{_≡_, refl, ap, _∙_}
 use Prim.Native.Nat.{ℕ, zero, suc, _+_, _-_, _≤_, _<_}
 use native.Mathlib.Omega.{arith}
 use lib.Dec.{ltb}
@@ -9,17 +9,10 @@ use lib.ListN.{length, getD}
 use borrow.Author.Tests.{lt-ltb, le-ltb}
 use Rattle.spec.specs.Lists.{keep, from, range, sumOf}
 use Rattle.laws.specs.Booleans.{by-cases, clash}
+use Rattle.laws.specs.ListLaws.{sum-same-from, sum-keep, sum-zero}
 use Rattle.slots.specs.Weigh.{weighed}
 
 -- ---- sums ----
-
-sum-keep : (g : ℕ → ℕ) (p : ℕ → Bool) (l : List ℕ) → sumOf g (keep p l) ≡ sumOf (λ x. cond (p x) (g x) 0) l
-sum-keep g p [] = refl
-sum-keep g p (x ∷ l) = by-cases (p x) (λ e. rw e (omega (arith, sum-keep g p l))) (λ e. rw e (omega (arith, sum-keep g p l)))
-
-sum-from : (f g : ℕ → ℕ) (k n : ℕ) → ((i : ℕ) → k ≤ i → i < k + n → f i ≡ g i) → sumOf f (from k n) ≡ sumOf g (from k n)
-sum-from f g k zero h = refl
-sum-from f g k (suc n) h = omega (arith, h k (omega arith) (omega arith), sum-from f g (suc k) n (λ i a b. h i (omega arith) (omega arith)))
 
 sum-two : (f : ℕ → ℕ) (k a b : ℕ) → sumOf f (from k (a + b)) ≡ sumOf f (from k a) + sumOf f (from (k + a) b)
 sum-two f k zero b =
@@ -30,10 +23,6 @@ sum-two f k (suc a) b =
     let e : suc a + b ≡ suc (a + b) = omega arith in
     let g : k + suc a ≡ suc k + a = omega arith in
     rw (e, g) (omega (arith, sum-two f (suc k) a b))
-
-sum-zeros : (k n : ℕ) → sumOf (λ i. 0) (from k n) ≡ 0
-sum-zeros k zero = refl
-sum-zeros k (suc n) = omega (arith, sum-zeros (suc k) n)
 
 -- over the places of a list, or over its members
 sum-places : (h : ℕ → ℕ) (l : List ℕ) → sumOf (λ i. h (getD l i 0)) (range (length l)) ≡ sumOf h l
@@ -84,11 +73,11 @@ module _ (M n : ℕ) (r flag : ℕ → Bool) (w : ℕ → ℕ) (wt : List ℕ) (
             ∙ sum-two (λ i. cond (q i) (getD wt i 0) 0) 0 (length L) (n - length L)
             ∙ omega (
               arith,
-              sum-from (λ i. cond (q i) (getD wt i 0) 0) (λ i. cond (q′ (getD L i 0)) (w (getD L i 0)) 0) 0 (length L) (λ i a b. first i (omega arith)),
-              sum-from (λ i. cond (q i) (getD wt i 0) 0) (λ i. 0) (0 + length L) (n - length L) (λ i a b. past i (omega arith) (omega arith)),
-              sum-zeros (0 + length L) (n - length L),
+              sum-same-from (λ i. cond (q i) (getD wt i 0) 0) (λ i. cond (q′ (getD L i 0)) (w (getD L i 0)) 0) 0 (length L) (λ i a b. first i (omega arith)),
+              sum-same-from (λ i. cond (q i) (getD wt i 0) 0) (λ i. 0) (0 + length L) (n - length L) (λ i a b. past i (omega arith) (omega arith)),
+              sum-zero (from (0 + length L) (n - length L)),
               sum-places (λ j. cond (q′ j) (w j) 0) L,
               sum-keep (λ j. cond (q′ j) (w j) 0) r (range M),
-              sum-from (λ j. cond (r j) (cond (q′ j) (w j) 0) 0) (λ j. cond (q′ j) (cond (flag j) 0 (w j)) 0) 0 M (λ j a b. one j (omega arith)),
+              sum-same-from (λ j. cond (r j) (cond (q′ j) (w j) 0) 0) (λ j. cond (q′ j) (cond (flag j) 0 (w j)) 0) 0 M (λ j a b. one j (omega arith)),
               sum-keep (λ j. cond (flag j) 0 (w j)) q′ (range M),
             )

@@ -2,22 +2,22 @@
 use mathlib.Core.Bool.{Bool, true, false, not, _&&_, _||_, cond, and-false}
 use mathlib.Core.List.{List, [], _∷_}
 use mathlib.Core.Option.{Option}
-use mathlib.Core.Path.{_≡_, refl, sym, ap, ap₂, _∙_, subst}
-use Prim.Native.Nat.{ℕ, zero, suc, _+_, _-_, _^_, _≤_, _<_}
+use mathlib.Core.Path.{_≡_, refl, sym, ap₂, _∙_}
+use Prim.Native.Nat.{ℕ, _+_, _^_, _≤_, _<_}
 use native.Mathlib.Omega.{arith}
-use lib.Dec.{eqb, ltb}
+use lib.Dec.{ltb}
 use lib.ListN.{length, getD}
-use Rattle.spec.specs.Lists.{memb, anyb, keep, from, range, sumOf}
+use borrow.Author.Tests.{not-true}
+use Rattle.spec.specs.Lists.{memb, anyb, keep, range, sumOf}
 use Rattle.spec.specs.Members.{All}
 use Rattle.spec.specs.Network.{Network, indexCount, weight}
 use Rattle.spec.specs.Tree.{Tree}
 use Rattle.spec.specs.Price.{lists, bits}
-use Rattle.spec.specs.Improve.{Split, weigh, otherMembers, keeps, splitWork, Front, member, locals, searched, triedAt}
-use Rattle.laws.specs.Booleans.{by-cases, clash, and-left, and-right, and-both, or-cases}
+use Rattle.spec.specs.Improve.{Split, weigh, otherMembers, keeps, splitWork, Front, member, searched, triedAt}
+use Rattle.laws.specs.Booleans.{and-left, and-right, or-cases}
 use Rattle.laws.specs.ListLaws.{any-intro, any-member, memb-range, from-memb, memb-keep}
 use Rattle.laws.specs.MemberLaws.{all-in, memb-in, in-memb, all-intro}
 use Rattle.slots.specs.Slots.{held}
-use Rattle.slots.specs.Weigh.{weighed}
 use Rattle.masks.specs.Tables.{memberHas, rootHas}
 use Rattle.subset.specs.Search.{limitOf, localBits, searchedIn, triedIn}
 use Rattle.locals.specs.Alike.{alike-found, alike-tried}
@@ -128,10 +128,6 @@ module _ (N : Network) (flag : ℕ → Bool) (t : Tree) (fr : Front) where
       where
         unsliced : (j : ℕ) → isUnsliced j ≡ true → flag j ≡ false
         unsliced j e = not-true (flag j) (and-left (not (flag j)) _ e)
-          where
-            not-true : (b : Bool) → not b ≡ true → b ≡ false
-            not-true true h = sym h
-            not-true false h = refl
 
     abbrev at : ℕ → ℕ
     at i = getD localsOf i 0

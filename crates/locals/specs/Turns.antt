@@ -1,17 +1,17 @@
 -- The local indices listed, the sets and the weights in local numbers: one turn of each loop, and its end. Assumes nothing.
-use mathlib.Core.Bool.{Bool, true, false, not, _&&_, cond}
+use mathlib.Core.Bool.{not, _&&_, cond}
 use mathlib.Core.List.{List}
-use mathlib.Core.Path.{_≡_, refl, sym, ap, ap₂, _∙_, subst}
-use Prim.Native.Nat.{ℕ, zero, suc, _+_, _*_, _^_, _≤_, _<_}
+use mathlib.Core.Path.{_≡_, sym, ap, _∙_, subst}
+use Prim.Native.Nat.{ℕ, _+_, _*_, _^_, _≤_, _<_}
 use native.Mathlib.Omega.{arith}
-use lib.Dec.{eqb, ltb}
+use lib.Dec.{eqb}
 use lib.ListN.{length, getD, set, length-set}
-use lib.Pow.{pow-lt, pow-mono, pow-pos}
-use lib.Seq.{getD-set-same, getD-set-other, sets}
-use borrow.Author.Tests.{eqb-true, eqb-false, lt-ltb, le-ltb, ltb-true, ltb-false}
+use lib.Pow.{pow-lt, pow-pos}
+use lib.Seq.{getD-set-same, getD-set-other}
+use borrow.Author.Tests.{eqb-true, eqb-false, lt-ltb, le-ltb}
 use Rattle.spec.specs.Memory.{filled}
-use Rattle.laws.specs.Booleans.{by-cases}
-use Rattle.cells.specs.Cells.{filled-all, filled-length}
+use Rattle.laws.specs.Booleans.{by-cases, ltb-next}
+use Rattle.cells.specs.Cells.{filled-all}
 use Rattle.slots.specs.Slots.{held, withSet, held-with, held-with-other, withSet-then}
 use Rattle.slots.specs.Rising.{risingOf, rising-with}
 use Rattle.locals.specs.Locals.{memberHave, isLocal, localList, localTest, localWeight, LocalSets}
@@ -97,10 +97,4 @@ weights-next weights local k j x a b ej ex e w i h =
     ap (λ l. getD l i 0) e
     ∙ getD-set-other a k i x 0 y
     ∙ w i long
-    ∙ ap (λ t. cond t (getD weights (getD local i 0) 0) 0) (same i y))
-  where
-    same : (i : ℕ) → (i ≡ k → ⊥) → ltb i k ≡ ltb i (k + 1)
-    same i f =
-        by-cases (ltb i k)
-        (λ e. e ∙ sym (lt-ltb i (k + 1) (omega (arith, ltb-true i k e))))
-        (λ e. e ∙ sym (le-ltb i (k + 1) (omega (arith, f, ltb-false i k e))))
+    ∙ ap (λ t. cond t (getD weights (getD local i 0) 0) 0) (ltb-next i k y))

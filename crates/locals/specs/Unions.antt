@@ -1,15 +1,15 @@
 -- The loops that make the set of flagged indices, and the union of the members' sets. Assumes nothing.
 use mathlib.Core.Bool.{Bool, true, false, not, _&&_, _||_, or-false, and-false}
 use mathlib.Core.List.{List}
-use mathlib.Core.Path.{_≡_, refl, sym, ap, ap₂, _∙_}
-use Prim.Native.Nat.{ℕ, zero, suc, _+_, _*_, _/_, _≤_, _<_}
+use mathlib.Core.Path.{_≡_, sym, ap, _∙_}
+use Prim.Native.Nat.{ℕ, _+_}
 use native.Mathlib.Numerals.{add-one}
 use native.Mathlib.Omega.{arith}
 use lib.Dec.{eqb, ltb}
 use lib.ListN.{length, getD, List·getD-eq-default}
 use borrow.Author.Tests.{eq-eqb, ne-eqb, lt-ltb, le-ltb, eqb-true, eqb-false, ltb-true, ltb-false}
 use Rattle.spec.specs.Calls.{flagAt}
-use Rattle.laws.specs.Booleans.{by-cases}
+use Rattle.laws.specs.Booleans.{by-cases, ltb-next}
 use Rattle.slots.specs.Slots.{held, withSet, withSet-ext, withSet-again, withSet-then}
 use Rattle.locals.specs.Locals.{memberHave}
 
@@ -27,17 +27,11 @@ module _ (ws : List ℕ) (W s : ℕ) (t : ℕ → Bool) where
   step k j h =
       by-cases (eqb j k)
       (λ e. let z : j ≡ k = eqb-true j k e in rw (e, lt-ltb j (k + 1) (omega arith)) (or-true (below t k j) (t j) (ap t z ∙ h)))
-      (λ e. let f : j ≡ k → ⊥ = eqb-false j k e in rw e (or-false (below t k j) ∙ ap (λ x. x && t j) (same-less j f)))
+      (λ e. let f : j ≡ k → ⊥ = eqb-false j k e in rw e (or-false (below t k j) ∙ ap (λ x. x && t j) (ltb-next j k f)))
     where
       or-true : (a b : Bool) → b ≡ true → (a || true) ≡ b
       or-true true b h = sym h
       or-true false b h = sym h
-
-      same-less : (j : ℕ) → (j ≡ k → ⊥) → ltb j k ≡ ltb j (k + 1)
-      same-less j f =
-          by-cases (ltb j k)
-          (λ e. e ∙ sym (lt-ltb j (k + 1) (omega (arith, ltb-true j k e))))
-          (λ e. e ∙ sym (le-ltb j (k + 1) (omega (arith, f, ltb-false j k e))))
 
   still : (k j : ℕ) → t k ≡ false → below t k j ≡ below t (k + 1) j
   still k j h =

@@ -1,5 +1,5 @@
 -- What each mask's table keeps, and how many bits that is, mask after mask. Assumes nothing.
-use mathlib.Core.Bool.{Bool, true, false, _&&_, _||_, or-self}
+use mathlib.Core.Bool.{Bool, _&&_, _||_, or-self}
 use mathlib.Core.List.{List, []}
 use mathlib.Core.Path.{_≡_, refl, sym, ap, ap₂, _∙_}
 use Prim.Native.Nat.{ℕ, _+_, _-_, _*_, _/_, _%_, _≤_, _<_}

@@ -1,21 +1,19 @@
 -- The places of a mask's bits, in the two ways in which they are listed; a mask with one bit is a power of two. Assumes nothing.
-use mathlib.Core.Bool.{Bool, true, false, cond}
-use mathlib.Core.List.{List, [], _∷_}
+use mathlib.Core.Bool.{Bool}
+use mathlib.Core.List.{[], _∷_, head-eq-of-cons-eq}
 use mathlib.Core.Path.{_≡_, refl, sym, ap, _∙_}
 use Prim.Native.Nat.{ℕ, zero, suc, _+_, _-_, _*_, _/_, _%_, _^_, _≤_, _<_}
 use native.Mathlib.Decide.{ℕ-discrete}
-use native.Mathlib.Nat.{pow-suc, two-pow-succ}
+use native.Mathlib.Nat.{two-pow-succ}
 use native.Mathlib.Omega.{arith}
 use lib.Bits.{bitAnd, and-step, and-self}
 use lib.Count.{trailingZeros}
 use lib.Dec.{eqb}
-use lib.ListN.{length}
 use Rattle.spec.specs.Lists.{keep, from}
-use Rattle.laws.specs.Booleans.{by-cases}
-use Rattle.laws.specs.Masks.{placesFrom, Lowest, lowest}
+use Rattle.laws.specs.Masks.{placesFrom, Lowest}
 use Rattle.bits.specs.Bit.{bit-zero, bit-suc}
 use Rattle.bits.specs.Digits.{digit}
-use Rattle.bits.specs.Lowest.{Tests, places, keep-places, places-step}
+use Rattle.bits.specs.Lowest.{places, keep-places, places-step}
 
 pub own-bits : (x : ℕ) → x < 2 ^ x
 own-bits zero = omega arith
@@ -45,15 +43,12 @@ both-places k (suc n) s =
     ∙ sym (both-places (suc k) n (s / 2)) in
     rw (first, later)
 
-head-same : (x y : ℕ) (k l : List ℕ) → x ∷ k ≡ y ∷ l → x ≡ y
-head-same x y k l e = cc
-
 -- the lowest place is the count of trailing zeros
 pub lowest-place : (n s : ℕ) (l : Lowest 0 n s (bitAnd s (s - 1))) → 1 ≤ s → s < 2 ^ n → l .place ≡ trailingZeros n s
 lowest-place n s l a b =
     let e : l .place ∷ placesFrom 0 n (bitAnd s (s - 1)) ≡ (0 + trailingZeros n s) ∷ places 0 n (bitAnd s (s - 1)) =
     sym (l .all) ∙ both-places 0 n s ∙ places-step 0 n s (omega arith) b in
-    omega (arith, head-same _ _ _ _ e)
+    omega (arith, head-eq-of-cons-eq e)
 
 -- ---- one bit ----
 

@@ -1,11 +1,10 @@
 -- The unions of the members' sets, from the lowest mask up. Assumes nothing.
-use mathlib.Core.Bool.{Bool, true, false, _||_, or-comm, or-false}
+use mathlib.Core.Bool.{_||_, or-comm, or-false}
 use mathlib.Core.List.{List, [], _∷_}
 use mathlib.Core.Path.{_≡_, refl, sym, ap, ap₂, _∙_}
-use Prim.Native.Nat.{ℕ, zero, suc, _+_, _-_, _*_, _^_, _≤_, _<_}
+use Prim.Native.Nat.{ℕ, _+_, _-_, _*_, _^_, _≤_, _<_}
 use native.Mathlib.Omega.{arith}
-use lib.Bits.{bitAnd, and-le-l, and-le-r, and-zero-l}
-use lib.Count.{trailingZeros}
+use lib.Bits.{bitAnd, and-le-r, and-zero-l}
 use lib.Dec.{eqb}
 use lib.ListN.{length}
 use borrow.Author.Tests.{eqb-true, eqb-false}
@@ -13,7 +12,7 @@ use Rattle.spec.specs.Lists.{anyb}
 use Rattle.laws.specs.Booleans.{by-cases}
 use Rattle.laws.specs.Masks.{placesFrom, Lowest, lowest}
 use Rattle.slots.specs.Slots.{held, withSet, withSet-length, held-with, held-with-other}
-use Rattle.masks.specs.Tables.{memberHas, rootHas, unionHas, United}
+use Rattle.masks.specs.Tables.{memberHas, unionHas, United}
 use Rattle.masks.specs.Singles.{own-bits, lowest-place, single-power, no-bits}
 
 -- ---- a mask without its lowest bit ----

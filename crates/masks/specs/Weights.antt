@@ -1,21 +1,19 @@
 -- The weights of a set of local indices: a word weighed place by place, and the two words of a slot. Assumes nothing.
-use mathlib.Core.Bool.{Bool, true, false, _||_, cond}
-use mathlib.Core.List.{List, [], _∷_, _++_}
-use mathlib.Core.Path.{_≡_, refl, sym, _∙_, ap, ap₂}
+use mathlib.Core.Bool.{Bool}
+use mathlib.Core.List.{List, []}
+use mathlib.Core.Path.{_≡_, refl, ap}
 use Prim.Native.Nat.{ℕ, zero, suc, _+_, _-_, _*_, _≤_, _<_}
 use native.Mathlib.Omega.{arith}
 use lib.Bits.{bitOr}
 use lib.Dec.{eqb}
 use lib.ListN.{getD}
-use borrow.Author.Tests.{eqb-true, eqb-false}
-use Rattle.spec.specs.Lists.{keep, from, range, sumOf}
-use Rattle.laws.specs.Booleans.{by-cases}
+use Rattle.spec.specs.Lists.{keep, from, sumOf}
 use Rattle.laws.specs.ListLaws.{sum-append}
 use Rattle.bits.specs.Bit.{bit, bit-lt}
 use Rattle.bits.specs.Digits.{digit}
 use Rattle.bits.specs.Lowest.{places}
 use Rattle.slots.specs.Rising.{keep-add}
-use Rattle.slots.specs.Weigh.{openWeight, weighed, either, weigh-next, weigh-none}
+use Rattle.slots.specs.Weigh.{openWeight, weighed, either, weigh-next, weighed-none}
 
 -- the weights of the places base + i of the set digits i of x, of its n lowest
 abbrev pub weightBelow : List ℕ → ℕ → ℕ → ℕ → ℕ
@@ -61,6 +59,6 @@ two-words ws wt a b p q hp hq =
     let x : a * 2 ≡ a * 2 + 0 = omega arith in
     let y : b * 2 ≡ b * 2 + 0 = omega arith in
     let first : 0 + p ≡ weighed wt [] (either ws 2 a b) 64 =
-    weigh-next ws 2 a b wt [] 0 0 (getD ws (a * 2) 0) (getD ws (b * 2) 0) p (weigh-none ws 2 a b wt []) (ap (λ k. getD ws k 0) x) (ap (λ k. getD ws k 0) y) hp in
+    weigh-next ws 2 a b wt [] 0 0 (getD ws (a * 2) 0) (getD ws (b * 2) 0) p (weighed-none wt [] (either ws 2 a b)) (ap (λ k. getD ws k 0) x) (ap (λ k. getD ws k 0) y) hp in
     let z : p ≡ weighed wt [] (either ws 2 a b) 64 = omega (arith, first) in
     weigh-next ws 2 a b wt [] 1 p (getD ws (a * 2 + 1) 0) (getD ws (b * 2 + 1) 0) q z refl refl hq

@@ -1,17 +1,14 @@
 -- The choice of a mate in lent lists, and a matching by slots. Assumes nothing.
-use mathlib.Core.Bool.{Bool, true, false, _&&_, cond}
-use mathlib.Core.Path.{_≡_, refl, sym, ap, _∙_}
-use mathlib.Core.List.{List, [], _∷_, _++_, map}
+use mathlib.Core.Bool.{Bool, true, false, _&&_, cond, and-false}
+use mathlib.Core.Path.{_≡_, sym, ap, _∙_}
+use mathlib.Core.List.{List}
 use mathlib.Core.Option.{Option, none, some}
-use Prim.Native.Nat.{ℕ, zero, suc, _+_, _-_, _≤_, _<_}
-use native.Mathlib.Omega.{arith}
-use lib.Dec.{eqb}
-use lib.ListN.{length, getD, set, take, length-set}
+use Prim.Native.Nat.{ℕ}
+use lib.ListN.{length, getD, set, length-set}
 use lib.Ieee.{Float, binary64, add, mul, lt, le}
 use Rattle.spec.specs.Floats.{zeroFloat, micro, wholeFloat}
-use Rattle.spec.specs.Draws.{Words, Drawn, drawn, draw, unitDraw}
-use Rattle.spec.specs.Hypergraph.{foldOver}
-use Rattle.spec.specs.Coarsen.{Choice, mated}
+use Rattle.spec.specs.Draws.{Words, draw, unitDraw}
+use Rattle.spec.specs.Coarsen.{Choice}
 use Rattle.draws.specs.Cursor.{wordsAt}
 
 abbrev pub mateIf : Bool → ℕ → Option ℕ
@@ -69,11 +66,7 @@ module _ (vw : List Float) (limit : Float) (words : List ℕ) (rating rating′ 
   pub looked-heavy : (y z : Float) → y ≡ getD vw v zeroFloat → z ≡ getD vw u zeroFloat → le (add binary64 y z) limit ≡ false
       → choiceOf best mate rating′ (wordsAt words next) ≡ looked vw limit v u (choiceOf best mate rating (wordsAt words at))
   looked-heavy y z ey ez q =
-      looked-by false (ap (λ t. lt best (noisy g noise) && t) (sym (λ i. le (add binary64 (ey i) (ez i)) limit) ∙ q) ∙ and-no (lt best (noisy g noise)))
-    where
-      and-no : (b : Bool) → (b && false) ≡ false
-      and-no true = refl
-      and-no false = refl
+      looked-by false (ap (λ t. lt best (noisy g noise) && t) (sym (λ i. le (add binary64 (ey i) (ez i)) limit) ∙ q) ∙ and-false (lt best (noisy g noise)))
 
 -- ---- a pair, by the list of mates ----
 

@@ -1,28 +1,28 @@
 -- A hypergraph in slots, without sides: the nets of a vertex, and a matching by them. Assumes nothing.
-use mathlib.Core.Bool.{Bool, true, false, not, _&&_, cond}
+use mathlib.Core.Bool.{Bool, false, _&&_, cond}
 use mathlib.Core.Path.{_≡_, refl, sym, ap, _∙_, subst}
-use mathlib.Core.List.{List, [], _∷_, _++_, map}
-use mathlib.Core.Option.{Option, none, some}
-use Prim.Native.Nat.{ℕ, zero, suc, _+_, _-_, _*_, _≤_, _<_}
+use mathlib.Core.List.{List, [], _∷_, _++_, map, append-nil}
+use mathlib.Core.Option.{none}
+use Prim.Native.Nat.{ℕ, _+_, _-_, _≤_, _<_}
 use native.Mathlib.Omega.{arith}
-use lib.Dec.{eqb, ltb}
+use lib.Dec.{ltb}
 use lib.Ieee.{Float}
-use lib.ListN.{length, getD, set, take, replicate}
-use lib.Seq.{sets, length-sets, length-take-le}
+use lib.ListN.{length, getD, take, replicate}
+use lib.Seq.{length-take-le}
 use borrow.Author.Tests.{lt-ltb, le-ltb, eq-eqb, ne-eqb}
-use Rattle.spec.specs.Lists.{memb, keep, from, range}
+use Rattle.spec.specs.Lists.{memb, keep, range}
 use Rattle.spec.specs.Memory.{filled}
 use Rattle.spec.specs.Floats.{zeroFloat}
-use Rattle.spec.specs.Draws.{Words, Drawn, drawn}
-use Rattle.spec.specs.Hypergraph.{foldOver, Net, Hypergraph, netsAt, vertexCount}
+use Rattle.spec.specs.Draws.{Drawn, drawn}
+use Rattle.spec.specs.Hypergraph.{foldOver, Net, Hypergraph, netsAt}
 use Rattle.spec.specs.Coarsen.{Ratings, Choice, ratedBy, ratings, lookedAt, mated, matched, shuffled, matching}
 use Rattle.laws.specs.Booleans.{by-cases}
-use Rattle.laws.specs.ListLaws.{keep-ext-from, keep-none-from, range-length}
+use Rattle.laws.specs.ListLaws.{keep-ext-from, keep-none-from, range-length, keep-map}
 use Rattle.slots.specs.Slots.{held}
 use Rattle.slots.specs.Rising.{risingOf, memb-rising, keep-add}
 use Rattle.draws.specs.Cursor.{wordsAt}
 use Rattle.partition.specs.Layout.{netIn, graphIn}
-use Rattle.partition.specs.Folds.{fold-map, take-sets}
+use Rattle.partition.specs.Folds.{fold-map}
 use Rattle.ratings.specs.Rated.{ratingsIn, ratedNet, ratedNets, rated-net}
 use Rattle.matching.specs.Order.{Below, below-shuffled, below-range}
 use Rattle.matching.specs.Choices.{mateIf, choiceOf, looked, matedIn}
@@ -34,57 +34,13 @@ pub record Meshed (ws : List ℕ) (nets vertices m n : ℕ) : Type 0 where
 
 -- ---- lists ----
 
-keep-map : {A B : Type 0} (p : B → Bool) (f : A → B) (l : List A) → keep p (map f l) ≡ map f (keep (λ x. p (f x)) l)
-keep-map p f [] = refl
-keep-map p f (x ∷ l) =
-    by-cases (p (f x))
-    (λ e. rw e (ap (λ k. f x ∷ k) (keep-map p f l)))
-    (λ e. rw e (keep-map p f l))
-
-append-nil : (l : List ℕ) → l ++ [] ≡ l
-append-nil [] = refl
-append-nil (x ∷ l) = ap (λ k. x ∷ k) (append-nil l)
-
 fold-ext : {A S : Type 0} (f g : A → S → S) (l : List A) (s : S) → ((x : A) (t : S) → f x t ≡ g x t) → foldOver f l s ≡ foldOver g l s
 fold-ext f g [] s h = refl
 fold-ext f g (x ∷ l) s h = ap (foldOver f l) (h x s) ∙ fold-ext f g l (g x s) h
 
--- ---- the nets of a vertex, put into a list ----
-
-keep-length : (p : ℕ → Bool) (l : List ℕ) → length (keep p l) ≤ length l
-keep-length p [] = omega arith
-keep-length p (u ∷ l) = by-cases (p u) (λ e. rw e (omega (arith, keep-length p l))) (λ e. rw e (omega (arith, keep-length p l)))
-
-kept-few : (p : ℕ → Bool) (n : ℕ) → length (keep p (range n)) ≤ n
-kept-few p n = omega (arith, keep-length p (range n), range-length 0 n)
-
--- the front of a list that holds one value
-pub front-filled : {A : Type 0} (x : A) (n m : ℕ) → n ≤ m → take n (replicate m x) ≡ filled n x
-unfolding filled
-front-filled x zero m h = refl
-front-filled x (suc n) zero h = absurd (omega arith)
-front-filled x (suc n) (suc m) h = ap (λ l. x ∷ l) (front-filled x n m (omega arith))
-
 -- how long the front of an array of 128 places is
 pub front-long : (n : ℕ) → n ≤ 128 → length {A = ℕ} (take n (replicate 128 0)) ≡ n
 front-long n h = length-take-le {A = ℕ} n (replicate 128 0) (omega arith)
-
-rising-few : (ws : List ℕ) (s : ℕ) → length (risingOf ws 4 s) ≤ 256
-unfolding risingOf
-rising-few ws s = kept-few (held ws 4 s) 256
-
-module _ (ws out out′ : List ℕ) (s r : ℕ) (e : r ≡ length (risingOf ws 4 s)) (f : out′ ≡ sets out 0 (risingOf ws 4 s)) (h : 256 ≤ length out) where
-  pub listed-few : r ≤ 256
-  listed-few = omega (arith, rising-few ws s)
-
-  pub listed-fits : r ≤ length out′
-  listed-fits = omega (arith, rising-few ws s, ap length f, length-sets out 0 (risingOf ws 4 s))
-
-  pub listed-nets : take r out′ ≡ risingOf ws 4 s
-  listed-nets = ap (λ k. take k out′) e ∙ ap (take (length (risingOf ws 4 s))) f ∙ take-sets out (risingOf ws 4 s) (omega (arith, rising-few ws s))
-
-  pub listed-length : length out′ ≡ length out
-  listed-length = ap length f ∙ length-sets out 0 (risingOf ws 4 s)
 
 module _ (ws : List ℕ) (nets vertices m n : ℕ) (weights : List ℕ) (vw : List Float) (maxw : Float) (h : Meshed ws nets vertices m n) where
   abbrev G : Hypergraph

@@ -1,6 +1,5 @@
 -- The drawn order of the vertices, place by place. Assumes nothing.
-use mathlib.Core.Bool.{Bool, true, false, cond}
-use mathlib.Core.Path.{_≡_, refl, sym, ap, _∙_}
+use mathlib.Core.Path.{_≡_, sym, ap, _∙_}
 use mathlib.Core.List.{List, [], _∷_, _++_}
 use Prim.Native.Nat.{ℕ, zero, suc, _+_, _-_, _≤_, _<_}
 use native.Mathlib.Omega.{arith}
@@ -8,23 +7,18 @@ use native.Mathlib.Numerals.{add-one}
 use lib.ListN.{length, getD, set, take, length-set}
 use lib.Seq.{take-suc-set, take-length}
 use Rattle.spec.specs.Lists.{from, range}
-use Rattle.spec.specs.Draws.{Words, Drawn, drawn, draw, indexDraw}
+use Rattle.spec.specs.Draws.{Drawn, drawn, draw, indexDraw}
 use Rattle.spec.specs.Coarsen.{swapped, shuffled}
 use Rattle.draws.specs.Cursor.{wordsAt}
+use Rattle.laws.specs.ListLaws.{from-last}
 
 -- ---- a list that counts up ----
-
-from-more : (k n : ℕ) → from k (suc n) ≡ from k n ++ ((k + n) ∷ [])
-from-more k zero = ap (λ (x : ℕ). x ∷ []) (omega arith)
-from-more k (suc n) =
-    let e : suc k + n ≡ k + suc n = omega arith in
-    ap (λ (l : List ℕ). k ∷ l) (from-more (suc k) n ∙ ap (λ (x : ℕ). from (suc k) n ++ (x ∷ [])) e)
 
 pub counted-next : (l : List ℕ) (k : ℕ) → k < length l → take k l ≡ range k → take (k + 1) (set l k k) ≡ range (k + 1)
 counted-next l k h e =
     let z : 0 + k ≡ k = omega arith in
     ap (λ (n : ℕ). take n (set l k k)) (add-one k) ∙ take-suc-set l k k h ∙ ap (λ t. t ++ (k ∷ [])) e
-    ∙ sym (ap (λ (n : ℕ). range n) (add-one k) ∙ from-more 0 k ∙ ap (λ (x : ℕ). range k ++ (x ∷ [])) z)
+    ∙ sym (ap (λ (n : ℕ). range n) (add-one k) ∙ from-last 0 k ∙ ap (λ (x : ℕ). range k ++ (x ∷ [])) z)
 
 pub counted-end : (l : List ℕ) (k n : ℕ) → n ≤ k → k ≤ n → length l ≡ n → take k l ≡ range k → l ≡ range n
 counted-end l k n a b h e =

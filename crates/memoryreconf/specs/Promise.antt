@@ -16,7 +16,7 @@ use Rattle.spec.specs.Tree.{pairsOf}
 use Rattle.spec.specs.Improve as spec
 use Rattle.spec.specs.Improve.{improve}
 use Rattle.spec.specs.Calls.{lent, lengthCheck, treeCheck, flagsCheck, beyondCheck, danglingCheck, flagAt, touches, improveWords, improveCall, workspaceAfter, improvedTree}
-use Rattle.spec.specs.Host.{limitNumber, improveNumbers, memoryImproveCall, improveAfter}
+use Rattle.spec.specs.Host.{limitNumber, memoryImproveCall, improveAfter}
 use Rattle.memory.specs.Call.{checked-append, decide-twice, untouched}
 use Rattle.memory.specs.Numbers.{orShort}
 use Rattle.reconf.specs.declared.Visited.{Visited}

@@ -1,6 +1,6 @@
 -- The lent lists after the two tables of the least pair were merged hold greedy's next state. Assumes nothing.
 use mathlib.Core.Bool.{Bool, true, false, not, _&&_, _||_, or-false, or-assoc}
-use mathlib.Core.Path.{_≡_, refl, sym, _∙_, ap, ap₂, subst}
+use mathlib.Core.Path.{_≡_, sym, _∙_, ap, ap₂, subst}
 use mathlib.Core.List.{List, [], _∷_, _++_}
 use Prim.Native.Nat.{ℕ, zero, suc, _+_, _*_, _/_, _≤_, _<_}
 use native.Mathlib.Omega.{arith}
@@ -16,7 +16,7 @@ use Rattle.spec.specs.Tree.{Tree, number, below, Pair}
 use Rattle.spec.specs.Price.{lists}
 use Rattle.spec.specs.Greedy.{Live, Cand, State, share, inOrder, before, tooWide, sizeOf, mergedSize, off, plus, joined, merge, connect, trees}
 use Rattle.spec.specs.GreedyClaims.{others}
-use Rattle.laws.specs.Booleans.{by-cases, or-cases, or-none, and-left, and-right, and-both, clash}
+use Rattle.laws.specs.Booleans.{by-cases, or-cases, or-none, and-left, and-right, and-both, clash, or-turn}
 use Rattle.laws.specs.ListLaws.{memb-append}
 use Rattle.laws.specs.GreedyMerging.{Sound, connect-sound}
 use Rattle.laws.specs.GreedyLists.{merged-size}
@@ -60,14 +60,6 @@ any-last : (p : Tree → Bool) (l : List Live) (x : Live) → anyb p (trees (l +
 any-last p [] x = or-false (p (x .tree))
 any-last p (z ∷ l) x =
     ap (λ (b : Bool). p (z .tree) || b) (any-last p l x) ∙ sym (or-assoc (p (z .tree)) (anyb p (trees l)) (p (x .tree)))
-
-or-back : (f g o : Bool) → (f || (g || o)) ≡ (o || (f || g))
-or-back true g true = refl
-or-back true g false = refl
-or-back false true true = refl
-or-back false true false = refl
-or-back false false true = refl
-or-back false false false = refl
 
 module _ (G : Given) (S : Ghost) (M : Lists) (H : Holds G S M) (y : ℕ) (c : Chosen G S M H y) where
   abbrev N : Network
@@ -202,7 +194,7 @@ module _ (G : Given) (S : Ghost) (M : Lists) (H : Holds G S M) (y : ℕ) (c : Ch
       same i =
           outside-is N (G .inRange) W (G .fits) (G .base) (G .lo) (G .all) (G .single) a tree L next (H .sound) (M .words) (H .enough)
           (small G S M H) (hold G S M H) (H .outside) f g inF inG apart i
-          ∙ or-back (below (tree f) i) (below (tree g) i) (anyb (λ w. below w i) (others s (record { first = entry tree f; second = entry tree g })))
+          ∙ or-turn (below (tree f) i) (below (tree g) i) (anyb (λ w. below w i) (others s (record { first = entry tree f; second = entry tree g })))
           ∙ sym (any-last (λ t. below t i) (off g (off f (listed tree L))) (record { slot = next; tree = joined N a (tree f) (tree g) }))
 
   -- ---- sizes and numbers ----

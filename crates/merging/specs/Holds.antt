@@ -14,9 +14,10 @@ use Rattle.laws.specs.Booleans.{clash, eqb-self}
 use Rattle.laws.specs.MemberLaws.{all-in}
 use Rattle.laws.specs.GreedyMerging.{Sound}
 use Rattle.laws.specs.GreedySlots.{entry, treeAfter}
+use Rattle.laws.specs.ListLaws.{memb-at}
 use Rattle.slots.specs.Slots.{held}
 use Rattle.parts.specs.Lists.{Lists}
-use Rattle.rows.specs.Known.{Rises, at-member, places-of, same-place, Share, TooWide, NotBefore, Known, alone, least, RowTo, none, over, pair}
+use Rattle.rows.specs.Known.{Rises, places-of, same-place, Share, TooWide, NotBefore, Known, alone, least, RowTo, none, over, pair}
 use Rattle.rows.specs.Renewed.{Kept}
 use Rattle.merging.specs.Listed.{listed, stateAt, listed-has}
 use Rattle.merging.specs.Tables.{HoldsList}
@@ -81,9 +82,9 @@ pub row-known : (N : Network) (n₀ : ℕ) (tree : ℕ → Tree) (L : List ℕ) 
     → ((j : ℕ) → j < q → Share N n₀ tree (getD L j 0) (getD L q 0) ≡ true → TooWide N n₀ tree (getD L j 0) (getD L q 0) ≡ false)
     → RowTo N n₀ tree L q q c → Known N n₀ tree L (getD L q 0) c
 row-known N n₀ tree L r q c b f (none e h) =
-    alone e (λ u m l. places-of L r u (getD L q 0) m (at-member L q b) l λ i k d t ei ek.
+    alone e (λ u m l. places-of L r u (getD L q 0) m (memb-at L q b) l λ i k d t ei ek.
     ap (λ (v : ℕ). Share N n₀ tree v (getD L q 0)) ei ∙ h i (omega (arith, d, same-place L r k q t b (sym ek))))
 row-known N n₀ tree L r q c b f (over e i l s w) = clash w (f i l s)
 row-known N n₀ tree L r q c b f (pair i e l s w h) =
-    least (getD L i 0) e (r i q l b) s w (λ u m t. places-of L r u (getD L q 0) m (at-member L q b) t λ j k d v ej ek.
+    least (getD L i 0) e (r i q l b) s w (λ u m t. places-of L r u (getD L q 0) m (memb-at L q b) t λ j k d v ej ek.
     subst (λ (v : ℕ). NotBefore N n₀ tree (getD L q 0) (getD L i 0) v) (sym ej) (h j (omega (arith, d, same-place L r k q v b (sym ek)))))

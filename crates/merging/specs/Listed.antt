@@ -14,7 +14,7 @@ use Rattle.spec.specs.Tree.{Tree, Pair}
 use Rattle.spec.specs.Refusal.{tableTooWide, refused, done}
 use Rattle.spec.specs.Greedy.{Live, Cand, share, inOrder, sharingPairs, before, tooWide, State, off, plus, joined, merge, connect}
 use Rattle.laws.specs.Booleans.{by-cases, or-cases, or-introl, or-intror, and-right, clash, eqb-self}
-use Rattle.laws.specs.ListLaws.{memb-keep}
+use Rattle.laws.specs.ListLaws.{memb-keep, keep-keep}
 use Rattle.laws.specs.MemberLaws.{all-in}
 use Rattle.laws.specs.GreedyMerging.{Rising}
 use Rattle.laws.specs.GreedyScan.{Pairing, pairs-has, pairs-are, turn-ends, turn-refuses, turn-merges}
@@ -131,13 +131,6 @@ off-listed tree u (v ∷ L) =
     by-cases (eqb v u)
     (λ e. rw e (off-listed tree u L))
     (λ e. rw e (ap (λ l. entry tree v ∷ l) (off-listed tree u L)))
-
-keep-keep : (p q : ℕ → Bool) (L : List ℕ) → keep q (keep p L) ≡ keep (λ v. p v && q v) L
-keep-keep p q [] = refl
-keep-keep p q (v ∷ L) =
-    by-cases (p v)
-    (λ e. rw e (ap (λ l. cond (q v) (v ∷ l) l) (keep-keep p q L)))
-    (λ e. rw e (keep-keep p q L))
 
 listed-ext : (t t′ : ℕ → Tree) (L : List ℕ) → ((u : ℕ) → memb u L ≡ true → t u ≡ t′ u) → listed t L ≡ listed t′ L
 listed-ext t t′ [] h = refl

@@ -14,16 +14,13 @@ use Rattle.spec.specs.Memory.{over}
 use Rattle.spec.specs.Tree.{Tree, number, Pair, flatOf}
 use Rattle.spec.specs.Greedy.{plus}
 use Rattle.laws.specs.Booleans.{by-cases}
-use Rattle.cells.specs.Cells.{over-past, over-snoc}
+use Rattle.laws.specs.ListLaws.{keep-length}
+use Rattle.cells.specs.Cells.{over-past, over-snoc, over-nil}
 use Rattle.merging.specs.Listed.{other, remaining}
 
 keep-snoc : (p : ℕ → Bool) (l : List ℕ) (v : ℕ) → keep p (l ++ (v ∷ [])) ≡ keep p l ++ cond (p v) (v ∷ []) []
 keep-snoc p [] v = refl
 keep-snoc p (u ∷ l) v = by-cases (p u) (λ e. rw e (ap (λ k. u ∷ k) (keep-snoc p l v))) (λ e. rw e (keep-snoc p l v))
-
-keep-length : (p : ℕ → Bool) (l : List ℕ) → length (keep p l) ≤ length l
-keep-length p [] = omega arith
-keep-length p (u ∷ l) = by-cases (p u) (λ e. rw e (omega (arith, keep-length p l))) (λ e. rw e (omega (arith, keep-length p l)))
 
 -- the k-th of a list is put at place t, unless it is one of the two
 abbrev pub keptAt : ℕ → ℕ → List ℕ → ℕ → ℕ → List ℕ
@@ -56,11 +53,7 @@ module _ (x y : ℕ) (l₀ : List ℕ) where
 
   pub remove-none : Removing 0 0 l₀
   unfolding over
-  remove-none = (nothing l₀, refl)
-    where
-      nothing : (l : List ℕ) → l ≡ over l []
-      nothing [] = refl
-      nothing (u ∷ l) = refl
+  remove-none = (sym (over-nil l₀), refl)
 
   pub remove-next : (i t : ℕ) (l r : List ℕ) (v t′ : ℕ) → i < length l₀ → Removing i t l → v ≡ getD l i 0
       → t′ ≡ placeAfter x y t v → r ≡ keptAt x y l t v → Removing (i + 1) t′ r

@@ -16,7 +16,7 @@ use Rattle.spec.specs.Tree.{Tree, node, below, Pair}
 use Rattle.spec.specs.Price.{kept, lists}
 use Rattle.spec.specs.Greedy.{Cand, State, off, joined, sizeOf, mergedSize, trees}
 use Rattle.spec.specs.GreedyClaims.{others}
-use Rattle.laws.specs.Booleans.{by-cases}
+use Rattle.laws.specs.Booleans.{by-cases, or-turn}
 use Rattle.laws.specs.ListLaws.{memb-keep-range}
 use Rattle.laws.specs.GreedyForest.{Takes}
 use Rattle.laws.specs.GreedyMerging.{Sound, Fine, takes₁, takes₂}
@@ -36,14 +36,6 @@ outer N ts j = memb j (N .outputs) || named N (λ i. not (anyb (λ t. below t i)
 
 -- ---- Booleans ----
 
-or-last : (o a b : Bool) → (o || (a || b)) ≡ (a || (b || o))
-or-last true true b = refl
-or-last true false true = refl
-or-last true false false = refl
-or-last false true b = refl
-or-last false false true = refl
-or-last false false false = refl
-
 leb-less : (a b n : ℕ) → leb (n + a) (n + b) ≡ leb a b
 leb-less a b n = elim (decLe a b) [ yes q ↦ le-leb (n + a) (n + b) (omega arith) ∙ sym (le-leb a b q) | no q ↦ lt-leb (n + a) (n + b) (omega arith) ∙ sym (lt-leb a b (omega arith)) ]
 
@@ -52,11 +44,11 @@ rule-bool : (F G A B : Bool) (rest : ℕ)
     → stays F G (leb 2 (cond F 1 0 + (cond G 1 0 + rest)) || (A || B)) (leb 3 (cond F 1 0 + (cond G 1 0 + rest)) || (A || B))
     ≡ ((F || G) && (A || (B || leb 1 rest)))
 rule-bool true true A B rest =
-    ap (λ (b : Bool). b || (A || B)) (ap (leb 3) (let e : 1 + (1 + rest) ≡ 2 + rest = omega arith in e) ∙ leb-less 1 rest 2) ∙ or-last (leb 1 rest) A B
+    ap (λ (b : Bool). b || (A || B)) (ap (leb 3) (let e : 1 + (1 + rest) ≡ 2 + rest = omega arith in e) ∙ leb-less 1 rest 2) ∙ sym (or-turn A B (leb 1 rest))
 rule-bool true false A B rest =
-    ap (λ (b : Bool). b || (A || B)) (ap (leb 2) (let e : 1 + (0 + rest) ≡ 1 + rest = omega arith in e) ∙ leb-less 1 rest 1) ∙ or-last (leb 1 rest) A B
+    ap (λ (b : Bool). b || (A || B)) (ap (leb 2) (let e : 1 + (0 + rest) ≡ 1 + rest = omega arith in e) ∙ leb-less 1 rest 1) ∙ sym (or-turn A B (leb 1 rest))
 rule-bool false true A B rest =
-    ap (λ (b : Bool). b || (A || B)) (ap (leb 2) (let e : 0 + (1 + rest) ≡ 1 + rest = omega arith in e) ∙ leb-less 1 rest 1) ∙ or-last (leb 1 rest) A B
+    ap (λ (b : Bool). b || (A || B)) (ap (leb 2) (let e : 0 + (1 + rest) ≡ 1 + rest = omega arith in e) ∙ leb-less 1 rest 1) ∙ sym (or-turn A B (leb 1 rest))
 rule-bool false false A B rest = refl
 
 any-takes : (p : Tree → Bool) (t : Tree) (rest ts : List Tree) → Takes t rest ts → anyb p ts ≡ (p t || anyb p rest)

@@ -11,10 +11,11 @@ use Rattle.spec.specs.Tree.{Tree}
 use Rattle.spec.specs.Refusal.{tableTooWide, refused, done}
 use Rattle.spec.specs.Greedy.{sizeOf, connect, merge}
 use Rattle.laws.specs.GreedySlots.{pairAt}
+use Rattle.laws.specs.ListLaws.{memb-at}
 use Rattle.live.specs.Holders.{withHolders}
 use Rattle.rows.specs.Rows.{renewedAll, leastOf}
 use Rattle.rows.specs.Pairs.{Says}
-use Rattle.rows.specs.Known.{Rises, at-member, Share, TooWide, Before, codeFor, RowTo}
+use Rattle.rows.specs.Known.{Rises, Share, TooWide, Before, codeFor, RowTo}
 use Rattle.rows.specs.Renewed.{rows-are}
 use Rattle.rows.specs.LeastRow.{LeastTo, nothing, tooBroad, at, least-is}
 use Rattle.merging.specs.Listed.{rising-rises, listed-ends, listed-refuses, listed-merges}
@@ -86,13 +87,13 @@ module _ (G : Given) (S : Ghost) (M : Lists) (H : Holds G S M) where
   outcome : (fuel c : ℕ) → LeastTo N n₀ tree L rows₁ (M .sizes) small sized (length L) c → Scanned fuel c
   outcome fuel c (nothing e h) = ends e (listed-ends N n₀ fuel (S .array) tree L (S .next) (H .sound .rising) h)
   outcome fuel c (tooBroad e i q l b s w) =
-      refuses e (listed-refuses N n₀ fuel (S .array) tree L (S .next) (H .sound .rising) (getD L i 0) (getD L q 0) (at-member L i (omega arith)) (at-member L q b) (rises i q l b) s w)
+      refuses e (listed-refuses N n₀ fuel (S .array) tree L (S .next) (H .sound .rising) (getD L i 0) (getD L q 0) (memb-at L i (omega arith)) (memb-at L q b) (rises i q l b) s w)
   outcome fuel c (at i q e l b z s w h) =
-      chooses (omega (arith, e, small (getD L q 0) (at-member L q b))) (subst Chosen (sym e)
+      chooses (omega (arith, e, small (getD L q 0) (memb-at L q b))) (subst Chosen (sym e)
       (record {
         x = getD L i 0;
-        inX = at-member L i (omega arith);
-        inY = at-member L q b;
+        inX = memb-at L i (omega arith);
+        inY = memb-at L q b;
         less = rises i q l b;
         code = z;
         shared = s;

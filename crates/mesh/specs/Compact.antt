@@ -1,5 +1,5 @@
 -- The nets of two pins or more, moved together. Assumes nothing.
-use mathlib.Core.Bool.{Bool, true, false, _||_, cond}
+use mathlib.Core.Bool.{Bool, true, false, _||_, cond, or-self}
 use mathlib.Core.Path.{_≡_, refl, sym, ap, ap₂, _∙_}
 use mathlib.Core.List.{List, [], _∷_, _++_, map, append-nil}
 use Prim.Native.Nat.{ℕ, zero, suc, _+_, _*_, _≤_, _<_}
@@ -10,13 +10,14 @@ use lib.Dec.{leb}
 use lib.ListN.{length, getD, set, length-set}
 use lib.Seq.{getD-set-same, getD-set-other}
 use borrow.Author.Tests.{le-leb, lt-leb}
-use Rattle.spec.specs.Lists.{keep, range}
+use Rattle.spec.specs.Lists.{range}
 use Rattle.spec.specs.Floats.{zeroFloat, wholeFloat}
 use Rattle.spec.specs.Hypergraph.{Net, nets≥2}
 use Rattle.laws.specs.Booleans.{by-cases}
-use Rattle.laws.specs.ListLaws.{keep-ext}
+use Rattle.laws.specs.ListLaws.{keep-ext, keep-append}
+use Rattle.laws.specs.LayoutLaws.{map-range-more}
 use Rattle.cells.specs.Loop.{turns, turns-invariant}
-use Rattle.network.specs.Layouts.{map-range-more, map-range-ext}
+use Rattle.network.specs.Layouts.{map-range-ext}
 use Rattle.slots.specs.Slots.{held, withSet, withSet-length, held-with, held-with-other}
 use Rattle.slots.specs.Rising.{risingOf}
 use Rattle.partition.specs.Layout.{netIn}
@@ -80,17 +81,6 @@ module _ (nets : ℕ) (weights : List ℕ) where
 -- the pins of m nets are vertices below n
 abbrev pub Within : List ℕ → ℕ → ℕ → ℕ → Type 0
 Within ws nets m n = (e v : ℕ) → e < m → v < 128 → held ws 2 (nets + e) v ≡ true → v < n
-
-or-self : (b : Bool) → (b || b) ≡ b
-or-self true = refl
-or-self false = refl
-
-keep-append : {A : Type 0} (p : A → Bool) (k l : List A) → keep p (k ++ l) ≡ keep p k ++ keep p l
-keep-append p [] l = refl
-keep-append p (x ∷ k) l =
-    by-cases (p x)
-    (λ e. rw e (ap (λ t. x ∷ t) (keep-append p k l)))
-    (λ e. rw e (keep-append p k l))
 
 module _ (ws : List ℕ) (nets : ℕ) (weights start : List ℕ) (m : ℕ) where
   -- after e of the m nets

@@ -1,23 +1,23 @@
 -- The nets of each vertex, made from the pins of each net. Assumes nothing.
-use mathlib.Core.Bool.{Bool, true, false, _&&_, _||_, or-false, or-assoc}
+use mathlib.Core.Bool.{Bool, true, false, _&&_, _||_, or-false, or-assoc, and-true}
 use mathlib.Core.Path.{_≡_, refl, sym, ap, ap₂, _∙_}
 use mathlib.Core.List.{List, [], _∷_}
 use Prim.Native.Nat.{ℕ, zero, suc, _+_, _*_, _≤_, _<_}
 use native.Mathlib.Omega.{arith}
 use native.Mathlib.Nat.{zero-add}
 use native.Mathlib.Decide.{ℕ-discrete}
+use native.Mathlib.Numerals.{add-one}
 use lib.Dec.{eqb, ltb}
 use lib.ListN.{length, getD, take}
 use lib.Seq.{getD-take}
-use borrow.Author.Tests.{eq-eqb, ne-eqb, lt-ltb, le-ltb, ltb-true, ltb-false}
+use borrow.Author.Tests.{eq-eqb, ne-eqb, lt-ltb, le-ltb}
 use Rattle.spec.specs.Lists.{memb, keep, range}
-use Rattle.laws.specs.Booleans.{by-cases, or-intror}
-use Rattle.laws.specs.ListLaws.{memb-head}
+use Rattle.laws.specs.Booleans.{ltb-next}
+use Rattle.laws.specs.ListLaws.{kept-below, memb-at}
 use Rattle.cells.specs.Loop.{turns, turns-ext, turns-invariant}
 use Rattle.slots.specs.Slots.{held}
 use Rattle.slots.specs.Writes.{among}
 use Rattle.slots.specs.Rising.{risingOf, memb-rising}
-use Rattle.partition.specs.Gains.{kept-below, kept-few}
 use Rattle.matching.specs.Meshed.{Meshed}
 use Rattle.mesh.specs.Stays.{Stays, stays-then, held-below}
 use Rattle.mesh.specs.Entries.{emptied, emptied-stays, emptied-held, entry, entered, entered-length, entered-stays, entered-held}
@@ -35,11 +35,6 @@ pub among-all : (l : List ℕ) (j : ℕ) → among l 0 (length l) j ≡ memb j l
 among-all [] j = refl
 among-all (x ∷ l) j = among-cons x l (length l) j ∙ ap (λ (b : Bool). eqb j x || b) (among-all l j)
 
-pub memb-at : (l : List ℕ) (k : ℕ) → k < length l → memb (getD l k 0) l ≡ true
-memb-at [] k h = absurd (omega arith)
-memb-at (x ∷ l) zero h = memb-head x l
-memb-at (x ∷ l) (suc k) h = or-intror (eqb (getD l k 0) x) (memb (getD l k 0) l) (memb-at l k (omega arith))
-
 kept-at : (p : ℕ → Bool) (n k : ℕ) → k < length (keep p (range n)) → getD (keep p (range n)) k 0 < n
 kept-at p n k h = kept-below p n (getD (keep p (range n)) k 0) (memb-at (keep p (range n)) k h)
 
@@ -47,32 +42,18 @@ rising-at : (ws : List ℕ) (W s k : ℕ) → k < length (risingOf ws W s) → g
 unfolding risingOf
 rising-at ws W s k h = rw (zero-add k) (kept-at (held ws W s) (W * 64) k h)
 
-pub rising-few : (ws : List ℕ) (W s : ℕ) → length (risingOf ws W s) ≤ W * 64
-unfolding risingOf
-rising-few ws W s = kept-few (held ws W s) (W * 64)
-
 -- what held for the numbers below e holds for those below suc e
 pub one-more : (a : ℕ → Bool) (x e : ℕ) → ((ltb x e && a x) || (a e && eqb x e)) ≡ (ltb x (suc e) && a x)
 one-more a x e =
     elim (ℕ-discrete x e) [
-      | yes q ↦ rw (eq-eqb x e q, le-ltb x e (omega arith), lt-ltb x (suc e) (omega arith)) (rw q (and-yes (a e)))
-      | no q ↦ rw (ne-eqb x e q) (or-no (ltb x e && a x) (a e) ∙ ap (λ (z : Bool). z && a x) (same q))
+      | yes q ↦ rw (eq-eqb x e q, le-ltb x e (omega arith), lt-ltb x (suc e) (omega arith)) (rw q (and-true (a e)))
+      | no q ↦ rw (ne-eqb x e q) (or-no (ltb x e && a x) (a e) ∙ ap (λ (z : Bool). z && a x) (ltb-next x e q ∙ ap (ltb x) (add-one e)))
     ]
   where
-    and-yes : (z : Bool) → (z && true) ≡ z
-    and-yes true = refl
-    and-yes false = refl
-
     or-no : (y z : Bool) → (y || (z && false)) ≡ y
     or-no true z = refl
     or-no false true = refl
     or-no false false = refl
-
-    same : (x ≡ e → ⊥) → ltb x e ≡ ltb x (suc e)
-    same q =
-        by-cases (ltb x e)
-        (λ h. h ∙ sym (lt-ltb x (suc e) (omega (arith, ltb-true x e h))))
-        (λ h. h ∙ sym (le-ltb x (suc e) (omega (arith, ltb-false x e h, q))))
 
 -- ---- net after net ----
 

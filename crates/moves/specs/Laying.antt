@@ -1,14 +1,14 @@
 -- A partition is laid into its two slots, vertex by vertex. Assumes nothing.
-use mathlib.Core.Bool.{Bool, true, false, _&&_, _||_}
+use mathlib.Core.Bool.{false, _&&_, _||_, or-true, or-false}
 use mathlib.Core.Path.{_≡_, refl, sym, ap, _∙_, subst}
 use mathlib.Core.List.{List}
 use Prim.Native.Nat.{ℕ, _+_, _*_, _≤_, _<_}
 use native.Mathlib.Omega.{arith}
 use native.Mathlib.Decide.{ℕ-discrete}
-use borrow.Author.Tests.{eq-eqb, ne-eqb, lt-ltb, le-ltb, ltb-true, ltb-false}
+use borrow.Author.Tests.{eq-eqb, ne-eqb, lt-ltb, le-ltb}
 use lib.Dec.{eqb, ltb}
 use lib.ListN.{length, getD}
-use Rattle.laws.specs.Booleans.{by-cases}
+use Rattle.laws.specs.Booleans.{ltb-next}
 use Rattle.slots.specs.Slots.{held, withSet, withSet-length, held-with, held-with-other}
 use Rattle.moves.specs.Kept.{Kept, kept-all, kept-then, kept-with}
 use Rattle.moves.specs.Split.{Split}
@@ -63,26 +63,12 @@ module _ (ws₀ : List ℕ) (sides : ℕ) (part : List ℕ) (few : length part �
         room = omega (arith, h .room, ap length e ∙ withSet-length ws 2 (sides + s) _);
       }
     where
-      more : (v : ℕ) → (v ≡ k → ⊥) → ltb v k ≡ ltb v (k + 1)
-      more v f =
-          by-cases (ltb v k)
-          (λ q. q ∙ sym (lt-ltb v (k + 1) (omega (arith, ltb-true v k q))))
-          (λ q. q ∙ sym (le-ltb v (k + 1) (omega (arith, ltb-false v k q, f))))
-
-      or-true : (x : Bool) → (x || true) ≡ true
-      or-true true = refl
-      or-true false = refl
-
-      or-false : (x : Bool) → (x || false) ≡ x
-      or-false true = refl
-      or-false false = refl
-
       here : (v : ℕ) → (ltb v k && eqb (getD part v 0) s || eqb v k) ≡ (ltb v (k + 1) && eqb (getD part v 0) s)
       here v =
           elim (ℕ-discrete v k) [
             | yes q ↦ ap (λ x. ltb v k && eqb (getD part v 0) s || x) (eq-eqb v k q) ∙ or-true (ltb v k && eqb (getD part v 0) s)
                 ∙ sym (ap (λ x. x && eqb (getD part v 0) s) (lt-ltb v (k + 1) (omega arith)) ∙ eq-eqb (getD part v 0) s (ap (λ (z : ℕ). getD part z 0) q ∙ sym es))
-            | no f ↦ ap (λ x. ltb v k && eqb (getD part v 0) s || x) (ne-eqb v k f) ∙ or-false (ltb v k && eqb (getD part v 0) s) ∙ ap (λ x. x && eqb (getD part v 0) s) (more v f)
+            | no f ↦ ap (λ x. ltb v k && eqb (getD part v 0) s || x) (ne-eqb v k f) ∙ or-false (ltb v k && eqb (getD part v 0) s) ∙ ap (λ x. x && eqb (getD part v 0) s) (ltb-next v k f)
           ]
 
       there : (v t : ℕ) → (t ≡ s → ⊥) → (ltb v k && eqb (getD part v 0) t) ≡ (ltb v (k + 1) && eqb (getD part v 0) t)
@@ -90,7 +76,7 @@ module _ (ws₀ : List ℕ) (sides : ℕ) (part : List ℕ) (few : length part �
           elim (ℕ-discrete v k) [
             | yes q ↦ ap (λ x. x && eqb (getD part v 0) t) (le-ltb v k (omega arith))
                 ∙ sym (ap (λ x. x && eqb (getD part v 0) t) (lt-ltb v (k + 1) (omega arith)) ∙ ne-eqb (getD part v 0) t (λ g. f (sym g ∙ ap (λ (z : ℕ). getD part z 0) q ∙ sym es)))
-            | no g ↦ ap (λ x. x && eqb (getD part v 0) t) (more v g)
+            | no g ↦ ap (λ x. x && eqb (getD part v 0) t) (ltb-next v k g)
           ]
 
   pub laying-all : (ws : List ℕ) (k : ℕ) → length part ≤ k → Laying ws₀ ws sides part k → Split ws sides (length part) part

@@ -1,5 +1,5 @@
 -- A partition in two slots of two words and in a list: a vertex goes from the one to the other. Assumes nothing.
-use mathlib.Core.Bool.{Bool, true, false, not, _&&_, _||_, cond}
+use mathlib.Core.Bool.{Bool, false, not, _&&_, _||_, cond, and-false, and-self, or-true, or-false}
 use mathlib.Core.Path.{_≡_, refl, sym, ap, _∙_, subst}
 use mathlib.Core.List.{List, map}
 use Prim.Native.Nat.{ℕ, zero, suc, _+_, _-_, _*_, _≤_, _<_}
@@ -10,11 +10,12 @@ use lib.Dec.{eqb}
 use lib.Ieee.{Float, binary64, add, sub}
 use lib.ListN.{length, getD, set, length-set, length-map}
 use lib.Seq.{getD-set-same, getD-set-other, ext-getD}
-use Rattle.spec.specs.Lists.{from, range}
+use Rattle.spec.specs.Lists.{range}
 use Rattle.spec.specs.Floats.{zeroFloat}
 use Rattle.spec.specs.Hypergraph.{Hypergraph, Sides, moved}
 use Rattle.laws.specs.Booleans.{eqb-self}
 use Rattle.laws.specs.ListLaws.{range-length}
+use Rattle.laws.specs.LayoutLaws.{from-at}
 use Rattle.slots.specs.Slots.{held, withSet, withSet-length, held-with, held-with-other}
 use Rattle.partition.specs.Layout.{sidesIn}
 use Rattle.queue.specs.Enters.{Place, Placed}
@@ -28,17 +29,12 @@ pub record Split (ws : List ℕ) (sides n : ℕ) (part : List ℕ) : Type 0 wher
 
 -- ---- as the gains want it ----
 
-map-at : (f : ℕ → ℕ) (k n v : ℕ) → v < n → getD (map f (from k n)) v 0 ≡ f (k + v)
-map-at f k zero v h = absurd (omega arith)
-map-at f k (suc n) zero h = ap f (omega arith)
-map-at f k (suc n) (suc v) h = map-at f (suc k) n v (omega arith) ∙ ap f (omega arith)
-
 module _ (ws : List ℕ) (sides n : ℕ) (part : List ℕ) (h : Split ws sides n part) where
   pub split-sides : sidesIn ws sides n ≡ part
   unfolding sidesIn
   split-sides =
       let l : length (map side (range n)) ≡ n = length-map (range n) side ∙ range-length 0 n in
-      ext-getD 0 (map side (range n)) part (l ∙ sym (h .long)) (λ v b. let c : v < n = omega (arith, l) in map-at side 0 n v c ∙ same v c)
+      ext-getD 0 (map side (range n)) part (l ∙ sym (h .long)) (λ v b. let c : v < n = omega (arith, l) in from-at side 0 0 n v c ∙ same v c)
     where
       side : ℕ → ℕ
       side v = cond (held ws 2 (sides + 1) v) 1 0
@@ -135,14 +131,6 @@ module _ (ws ws₁ ws₂ : List ℕ) (sides n : ℕ) (part : List ℕ) (v s t : 
         | no f ↦ ap (λ q. held ws 2 (sides + t) x || q) (ne-eqb x v f) ∙ or-false (held ws 2 (sides + t) x)
             ∙ h .slot t x (two .1) c ∙ sym (ap (λ (y : ℕ). eqb y t) (getD-set-other part v x t 0 f))
       ]
-    where
-      or-true : (q : Bool) → (q || true) ≡ true
-      or-true true = refl
-      or-true false = refl
-
-      or-false : (q : Bool) → (q || false) ≡ q
-      or-false true = refl
-      or-false false = refl
 
   -- what is not on the one side is on the other
   rest : (y : ℕ) → y < 2 → not (eqb y t) ≡ eqb y s
@@ -169,14 +157,6 @@ module _ (ws ws₁ ws₂ : List ℕ) (sides n : ℕ) (part : List ℕ) (v s t : 
         | no f ↦ ap (λ q. q && eqb (getD (set part v t) x 0) s) (h .slot s x (two .0) c ∙ sym (ap (λ (y : ℕ). eqb y s) (getD-set-other part v x t 0 f)))
             ∙ and-self (eqb (getD (set part v t) x 0) s)
       ]
-    where
-      and-false : (q : Bool) → (q && false) ≡ false
-      and-false true = refl
-      and-false false = refl
-
-      and-self : (q : Bool) → (q && q) ≡ q
-      and-self true = refl
-      and-self false = refl
 
   -- A VERTEX GOES TO THE OTHER SLOT
   pub shift-split : Split ws₂ sides n (set part v t)

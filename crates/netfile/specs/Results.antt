@@ -4,9 +4,7 @@ use mathlib.Core.List.{List, [], _∷_, _++_}
 use mathlib.Core.Option.{none, some}
 use mathlib.Core.Path.{_≡_, refl, sym, ap, ap₂, _∙_}
 use Prim.Native.Nat.{ℕ, zero, suc}
-use native.Mathlib.Omega.{arith}
 use lib.Dec.{ltb}
-use lib.ListN.{length}
 use Rattle.spec.specs.Lists.{anyb}
 use Rattle.spec.specs.Refusal.{Refusal, shortBuffer, numberOf, Result, refused, done, andThen, decide, checked}
 use Rattle.spec.specs.Network.{Network}

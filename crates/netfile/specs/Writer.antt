@@ -12,7 +12,7 @@ use Rattle.spec.specs.Refusal.{numberOf, Result, refused, done}
 use Rattle.spec.specs.Network.{Network}
 use Rattle.spec.specs.File.{Ask, plain, flagged, target, Contents, writeOf, bufferAfter}
 use Rattle.network.specs.Codes.{positive}
-use Rattle.netwrite.specs.Contents.{nothing, flags, treeOf, askOf}
+use Rattle.netwrite.specs.Contents.{treeOf, askOf}
 use Rattle.netwrite.specs.Answers.{wroteOf, Writes}
 use Rattle.netwrite.specs.declared.Wrote.{Wrote}
 use Rattle.netfile.specs.declared.Tree.{Tree}

@@ -1,29 +1,23 @@
 -- The two lists that the reader fills: when they are too short, and what is written. Assumes nothing.
-use mathlib.Core.Bool.{Bool, true, false, _||_, cond}
-use mathlib.Core.List.{List, [], _∷_, _++_, append-nil}
+use mathlib.Core.Bool.{Bool, true, false, _||_, or-false}
+use mathlib.Core.List.{List, _++_, append-nil}
 use mathlib.Core.Option.{Option, none, some}
 use mathlib.Core.Path.{_≡_, refl, sym, ap, ap₂, _∙_}
 use Prim.Native.Nat.{ℕ, zero, suc, _+_, _-_, _≤_, _<_}
-use native.Mathlib.Nat.{zero-add}
 use native.Mathlib.Omega.{arith}
 use lib.Dec.{ltb}
-use lib.ListN.{length, getD, take, drop, length-take, length-drop}
+use lib.ListN.{length, getD, take, drop, length-drop}
 use lib.Seq.{drop-drop, length-take-le}
 use Rattle.spec.specs.Lists.{anyb}
 use Rattle.spec.specs.Memory.{filled, placed}
-use Rattle.spec.specs.Network.{Network, leafCount, indexCount}
+use Rattle.spec.specs.Network.{Network, indexCount}
 use Rattle.spec.specs.Calls.{Lent}
-use Rattle.spec.specs.File.{Ask, plain, flagged, target, Contents, treeLent, flagsLent, treeWritten, flagsWritten}
+use Rattle.spec.specs.File.{Ask, plain, flagged, target, treeLent, flagsLent, treeWritten, flagsWritten}
 use Rattle.cells.specs.Cells.{filled-length, placed-length, placed-next, placed-fits}
 use Rattle.fields.specs.Steps.{part}
 use Rattle.fields.specs.Scans.{treeIn, askIn, Lists, netIn}
-use Rattle.fields.specs.Fields.{part-length, leaf-count, index-count}
+use Rattle.fields.specs.Fields.{leaf-count, index-count}
 use Rattle.fields.specs.declared.Scan.{Scan}
-use Rattle.netfile.specs.Answers.{treeAnswer, askAnswer}
-use Rattle.netfile.specs.declared.Tree.{Tree}
-use Rattle.netfile.specs.declared.Tree.the-variants.{Absent, Present}
-use Rattle.netfile.specs.declared.Ask.{Ask as Asked}
-use Rattle.netfile.specs.declared.Ask.the-variants.{Plain, Flagged, Target}
 
 -- is one of the lists too short
 abbrev pub lacking : List Lent → Bool
@@ -48,10 +42,6 @@ pub flags-written : (N : Network) (t : Option (List ℕ)) (a : Ask) (l : List �
 flags-written N t plain l = refl
 flags-written N t (flagged f) l = refl
 flags-written N t (target w) l = refl
-
-or-false : (b : Bool) → b ≡ (b || false)
-or-false true = refl
-or-false false = refl
 
 -- ---- what a scan points to ----
 
@@ -99,13 +89,13 @@ module _ (file : List ℕ) (s : Scan) where
 
   pub lack-flags : s .ask ≡ 1 → (l : Lists) (q : ℕ) → ltb q (s .«index_count») ≡ lacking (flagsLent (netIn s l) q askOf)
   lack-flags e l q =
-      or-false (ltb q (s .«index_count»))
+      sym (or-false (ltb q (s .«index_count»)))
       ∙ ap (λ m. ltb q m || false) (sym (index-count s l))
       ∙ ap (λ a. lacking (flagsLent (netIn s l) q a)) (sym (ask-flagged e))
 
   pub lack-tree : s .«has_tree» ≡ true → (l : Lists) (p nodes : ℕ) → nodes ≡ s .«leaf_count» - 1 → ltb p (nodes + nodes) ≡ lacking (treeLent (netIn s l) p treeOf)
   lack-tree e l p nodes q =
-      or-false (ltb p (nodes + nodes))
+      sym (or-false (ltb p (nodes + nodes)))
       ∙ ap (λ k. ltb p (k + k) || false) (q ∙ ap (λ n. n - 1) (sym (leaf-count s l)))
       ∙ ap (λ t. lacking (treeLent (netIn s l) p t)) (sym (tree-present e))
 

@@ -8,13 +8,18 @@ use lib.ListN.{length, getD, take, drop, length-drop}
 use Rattle.spec.specs.Lists.{anyb, range}
 use Rattle.spec.specs.Network.{maxLeaves, maxIndices, maxLegs, maxOutputs}
 use Rattle.spec.specs.Layout.{rowAt}
-use Rattle.network.specs.Layouts.{firsts-take, map-range-at, map-range-length}
+use Rattle.laws.specs.LayoutLaws.{map-range-at, map-range-length}
+use Rattle.network.specs.Layouts.{firsts-take}
 use Rattle.network.specs.Searches.{NoneBefore, any-next, any-found, any-end}
 
 -- ---- the leaves of lists with counts ----
 
 unfoldable pub leavesOf : ℕ → List ℕ → List ℕ → List (List ℕ)
 leavesOf n counts cells = map (rowAt counts cells) (range n)
+
+pub rows-length : (n : ℕ) (counts cells : List ℕ) → length (leavesOf n counts cells) ≡ n
+unfolding leavesOf
+rows-length n counts cells = map-range-length (rowAt counts cells) n
 
 -- leaf i has a count and its indices a place
 pub record Row (counts cells : List ℕ) (i : ℕ) : Type 0 where
@@ -46,19 +51,15 @@ row-part {counts} {cells} i r =
 
 -- a search over the leaves: b is what the test p says of the row, which is leaf i's
 module _ {n : ℕ} {counts cells : List ℕ} (r : Rows n counts cells) {p : List ℕ → Bool} {i : ℕ} (s : NoneBefore p (leavesOf n counts cells) i) where
-  leaves-length : length (leavesOf n counts cells) ≡ n
-  unfolding leavesOf
-  leaves-length = map-range-length (rowAt counts cells) n
-
   here : {row : List ℕ} {b : Bool} → i < n → row ≡ rowAt counts cells i → b ≡ p row → p (getD (leavesOf n counts cells) i []) ≡ b
   unfolding leavesOf
   here h leaf test = ap p (map-range-at (rowAt counts cells) [] n i h ∙ sym leaf) ∙ sym test
 
   pub leaves-next : {row : List ℕ} {b : Bool} → i < n → row ≡ rowAt counts cells i → b ≡ p row → b ≡ false → NoneBefore p (leavesOf n counts cells) (i + 1)
-  leaves-next h leaf test e = any-next s [] (omega (arith, leaves-length)) (here h leaf test ∙ e)
+  leaves-next h leaf test e = any-next s [] (omega (arith, rows-length n counts cells)) (here h leaf test ∙ e)
 
   pub leaves-found : {row : List ℕ} {b : Bool} → i < n → row ≡ rowAt counts cells i → b ≡ p row → b ≡ true → true ≡ anyb p (leavesOf n counts cells)
-  leaves-found h leaf test e = any-found s [] (omega (arith, leaves-length)) (here h leaf test ∙ e)
+  leaves-found h leaf test e = any-found s [] (omega (arith, rows-length n counts cells)) (here h leaf test ∙ e)
 
   pub leaves-end : n ≤ i → false ≡ anyb p (leavesOf n counts cells)
-  leaves-end h = any-end s (omega (arith, leaves-length))
+  leaves-end h = any-end s (omega (arith, rows-length n counts cells))

@@ -1,22 +1,23 @@
 -- The number of a network's refusal, from lists with counts, and what follows where it is 0. Assumes nothing.
 use mathlib.Core.Path.{_≡_, refl, sym, ap, _∙_}
-use mathlib.Core.Bool.{Bool, true, false, _||_, cond}
-use mathlib.Core.List.{List, [], _∷_, map}
+use mathlib.Core.Bool.{Bool, true, false, _||_, cond, or-false}
+use mathlib.Core.List.{List, map}
 use mathlib.Core.Option.{Option, none, some}
-use Prim.Native.Nat.{ℕ, zero, suc, _+_, _*_, _≤_, _<_}
+use Prim.Native.Nat.{ℕ, _+_, _*_, _≤_, _<_}
 use native.Mathlib.Omega.{arith}
-use lib.Dec.{eqb, ltb}
+use lib.Dec.{ltb}
 use lib.ListN.{length, getD, take, drop}
 use borrow.Author.Tests.{lt-ltb, le-ltb, ltb-false}
-use Rattle.spec.specs.Lists.{memb, anyb, range}
+use Rattle.spec.specs.Lists.{anyb, range}
 use Rattle.spec.specs.Refusal.{Refusal, truncated, wrongTag, tooLarge, overweight, outOfRange, repeated, shortBuffer, invalidTree, invalidFlags, totalBeyond, danglingIndex, tableTooWide, drawsExhausted, codeOf, numberOf, passes}
 use Rattle.spec.specs.Network.{Network, leafCount, indexCount, legs, maxLeaves, maxIndices, maxLegs, maxOutputs, maxWeight, repeats, anyOutOfRange, refusalOf, accepted}
 use Rattle.spec.specs.NetworkClaims.{Accepted}
 use Rattle.spec.specs.Layout.{firsts, rowAt, networkOf}
 use Rattle.laws.specs.Booleans.{or-introl, or-intror, or-none}
-use Rattle.laws.specs.ListLaws.{any-ext, memb-head}
+use Rattle.laws.specs.ListLaws.{any-ext, memb-at, any-map}
 use Rattle.laws.specs.Accepted.{none-at, accepted-means}
-use Rattle.network.specs.Layouts.{firsts-take, firsts-length, firsts-at, map-range-length, layout-leaf-count, layout-index-count, layout-output-count, layout-weight, layout-leg-count, layout-leg, layout-output}
+use Rattle.laws.specs.LayoutLaws.{map-range-length, firsts-length, firsts-at}
+use Rattle.network.specs.Layouts.{firsts-take, layout-leaf-count, layout-index-count, layout-output-count, layout-weight, layout-leg-count, layout-leg, layout-output}
 use Rattle.network.specs.Checks.{leavesOf, Rows, Lent}
 
 -- ---- a count above its limit ----
@@ -48,10 +49,6 @@ module _ (m n o : ℕ) (counts : List ℕ) where
   large-outputs h =
       let e : (anyb (λ k. ltb maxLegs k) (firsts n counts) || ltb maxOutputs o) ≡ true = or-intror (anyb (λ k. ltb maxLegs k) (firsts n counts)) (ltb maxOutputs o) (lt-ltb maxOutputs o h) in
       sym (or-intror (ltb maxLeaves n) _ (or-intror (ltb maxIndices m) _ e))
-
-  or-false : (b : Bool) → (b || false) ≡ b
-  or-false true = refl
-  or-false false = refl
 
   pub large-legs : n ≤ maxLeaves → m ≤ maxIndices → o ≤ maxOutputs → n ≤ length counts → anyb (λ k. ltb maxLegs k) (take n counts) ≡ largeOf m n o counts
   unfolding largeOf
@@ -97,10 +94,6 @@ code-first false true c d = refl
 code-first false false true d = refl
 code-first false false false true = refl
 code-first false false false false = refl
-
-any-map : {A B : Type 0} (p : B → Bool) (f : A → B) (l : List A) → anyb p (map f l) ≡ anyb (λ x. p (f x)) l
-any-map p f [] = refl
-any-map p f (x ∷ l) = ap (λ (b : Bool). p (f x) || b) (any-map p f l)
 
 module _ (m n o : ℕ) (weights counts cells outputs : List ℕ) where
   many-legs : anyb (λ l. ltb maxLegs (length l)) (map (rowAt counts cells) (range n)) ≡ anyb (λ k. ltb maxLegs k) (firsts n counts)
@@ -173,11 +166,6 @@ positive drawsExhausted = omega arith
 pub code-zero : (k : Option Refusal) → 0 ≡ codeOf k → k ≡ none
 code-zero none e = refl
 code-zero (some r) e = absurd (omega (arith, positive r))
-
-memb-at : (l : List ℕ) (k : ℕ) → k < length l → memb (getD l k 0) l ≡ true
-memb-at [] k h = absurd (omega arith)
-memb-at (x ∷ l) zero h = memb-head x l
-memb-at (x ∷ l) (suc k) h = or-intror (eqb (getD l k 0) x) (memb (getD l k 0) l) (memb-at l k (omega arith))
 
 -- of an accepted network that lists with counts stand for
 pub record Facts (m n o : ℕ) (weights counts cells outputs : List ℕ) : Type 0 where

@@ -1,45 +1,19 @@
 -- Laws of networks as lists with counts: what they hold, and one weight, leaf or output more. Assumes nothing.
 use mathlib.Core.Path.{_≡_, refl, sym, ap, ap₂, _∙_}
 use mathlib.Core.List.{List, [], _∷_, _++_, map}
-use Prim.Native.Nat.{ℕ, zero, suc, _+_, _*_, _≤_, _<_}
-use native.Mathlib.Nat.{zero-add, add-zero}
-use native.Mathlib.Numerals.{add-one}
+use Prim.Native.Nat.{ℕ, _+_, _*_, _≤_, _<_}
 use native.Mathlib.Omega.{arith}
-use lib.ListN.{length, getD, set, take, drop, length-map}
+use lib.ListN.{length, getD, set, take, drop}
 use lib.Seq.{ext-getD, getD-take, getD-drop, getD-set-same, getD-set-other, length-take-le, take-length}
-use Rattle.spec.specs.Lists.{from, range}
+use Rattle.spec.specs.Lists.{range}
 use Rattle.spec.specs.Memory.{placed}
 use Rattle.spec.specs.Network.{leafCount, indexCount, weight, legs, maxLegs}
 use Rattle.spec.specs.Layout.{firsts, rowAt, networkOf}
 use Rattle.spec.specs.Building.{withWeight, withLeaf, withOutput}
-use Rattle.laws.specs.ListLaws.{range-length}
-use Rattle.cells.specs.Cells.{placed-nothing-before, placed-there, placed-after}
+use Rattle.laws.specs.LayoutLaws.{map-range-at, map-range-length, firsts-length, firsts-at, firsts-more, map-range-more}
+use Rattle.cells.specs.Cells.{placed-nothing-before, placed-there}
 use Rattle.network.specs.declared.Network.{Network as Record}
 use Rattle.network.specs.Record.{netOf}
-
--- ---- a function of each number below n ----
-
-module _ {A : Type 0} (f : ℕ → A) where
-  from-at : (d : A) (k n i : ℕ) → i < n → getD (map f (from k n)) i d ≡ f (k + i)
-  from-at d k zero i h = absurd (omega arith)
-  from-at d k (suc n) zero h = ap f (sym (add-zero k))
-  from-at d k (suc n) (suc i) h = from-at d (suc k) n i (omega arith) ∙ ap f (omega arith)
-
-  pub map-range-at : (d : A) (n i : ℕ) → i < n → getD (map f (range n)) i d ≡ f i
-  map-range-at d n i h = from-at d 0 n i h ∙ ap f (zero-add i)
-
-  pub map-range-length : (n : ℕ) → length (map f (range n)) ≡ n
-  map-range-length n = length-map (range n) f ∙ range-length 0 n
-
-  from-snoc : (k n : ℕ) → map f (from k (suc n)) ≡ map f (from k n) ++ (f (k + n) ∷ [])
-  from-snoc k zero = ap (λ (x : ℕ). f x ∷ []) (sym (add-zero k))
-  from-snoc k (suc n) =
-      let e : suc k + n ≡ k + suc n = omega arith in
-      ap (λ (l : List A). f k ∷ l) (from-snoc (suc k) n) ∙ ap (λ (x : ℕ). f k ∷ (map f (from (suc k) n) ++ (f x ∷ []))) e
-
-  -- one number more
-  pub map-range-more : (n : ℕ) → map f (range (n + 1)) ≡ map f (range n) ++ (f n ∷ [])
-  map-range-more n = ap (λ (k : ℕ). map f (range k)) (add-one n) ∙ from-snoc 0 n ∙ ap (λ (x : ℕ). map f (range n) ++ (f x ∷ [])) (zero-add n)
 
 -- two functions that agree below n
 pub map-range-ext : {A : Type 0} (d : A) (f g : ℕ → A) (n : ℕ) → ((i : ℕ) → i < n → f i ≡ g i) → map f (range n) ≡ map g (range n)
@@ -50,23 +24,6 @@ map-range-ext d f g n h =
     map-range-at f d n i b ∙ h i b ∙ sym (map-range-at g d n i b))
 
 -- ---- the first n numbers of a list ----
-
-pub firsts-length : (n : ℕ) (l : List ℕ) → length (firsts n l) ≡ n
-unfolding firsts
-firsts-length n l = map-range-length (λ k. getD l k 0) n
-
-pub firsts-at : (n : ℕ) (l : List ℕ) (i : ℕ) → i < n → getD (firsts n l) i 0 ≡ getD l i 0
-unfolding firsts
-firsts-at n l i h = map-range-at (λ k. getD l k 0) 0 n i h
-
-pub firsts-none : (l : List ℕ) → firsts 0 l ≡ []
-unfolding firsts
-firsts-none l = refl
-
--- one more
-pub firsts-more : (n : ℕ) (l : List ℕ) → firsts (n + 1) l ≡ firsts n l ++ (getD l n 0 ∷ [])
-unfolding firsts
-firsts-more n l = map-range-more (λ k. getD l k 0) n
 
 -- lists that agree below n
 pub firsts-same : (n : ℕ) (a b : List ℕ) → ((i : ℕ) → i < n → getD a i 0 ≡ getD b i 0) → firsts n a ≡ firsts n b
@@ -98,12 +55,6 @@ placed-within-at d s at i h b =
     ∙ sym (getD-take (length s) (drop at (placed d at s)) i 0 b)
     ∙ ap (λ (l : List ℕ). getD l i 0) (placed-there d s at h)
 
-pub placed-after-at : (d s : List ℕ) (at i : ℕ) → getD (placed d at s) (at + length s + i) 0 ≡ getD d (at + length s + i) 0
-placed-after-at d s at i =
-    sym (getD-drop (at + length s) (placed d at s) i 0)
-    ∙ ap (λ (l : List ℕ). getD l i 0) (placed-after d s at)
-    ∙ getD-drop (at + length s) d i 0
-
 -- a list written where it fits: its numbers, from there on
 pub firsts-placed : (d s : List ℕ) (at : ℕ) → at + length s ≤ length d → firsts (length s) (drop at (placed d at s)) ≡ s
 firsts-placed d s at h =
@@ -133,10 +84,6 @@ module _ (m n o : ℕ) (weights counts cells outputs : List ℕ) where
   pub layout-output-count : length (networkOf m n o weights counts cells outputs .outputs) ≡ o
   unfolding networkOf
   layout-output-count = firsts-length o outputs
-
-  pub layout-leaves : networkOf m n o weights counts cells outputs .leaves ≡ map (rowAt counts cells) (range n)
-  unfolding networkOf
-  layout-leaves = refl
 
   pub layout-weights : networkOf m n o weights counts cells outputs .weights ≡ firsts m weights
   unfolding networkOf
@@ -216,17 +163,6 @@ module _ (m n o : ℕ) (weights counts cells outputs : List ℕ) where
 pub layout-empty : (weights counts cells outputs : List ℕ) → networkOf 0 0 0 weights counts cells outputs ≡ record { leaves = []; outputs = []; weights = [] }
 unfolding networkOf firsts
 layout-empty weights counts cells outputs = refl
-
--- the weights, and the outputs, as a whole
-pub layout-all-weights : (n o : ℕ) (l weights counts cells outputs : List ℕ) → length l ≤ length weights
-    → networkOf (length l) n o (placed weights 0 l) counts cells outputs .weights ≡ l
-unfolding networkOf
-layout-all-weights n o l weights counts cells outputs h = firsts-whole weights l h
-
-pub layout-all-outputs : (m n : ℕ) (l weights counts cells outputs : List ℕ) → length l ≤ length outputs
-    → networkOf m n (length l) weights counts cells (placed outputs 0 l) .outputs ≡ l
-unfolding networkOf
-layout-all-outputs m n l weights counts cells outputs h = firsts-whole outputs l h
 
 -- ---- a record's network ----
 

@@ -1,19 +1,14 @@
 -- Searches of a list, place by place: the start, a turn, a find, and the end. Assumes nothing.
 use mathlib.Core.Path.{_≡_, refl, sym, ap, _∙_}
 use mathlib.Core.Bool.{Bool, true, false, _||_}
-use mathlib.Core.List.{List, _∷_}
+use mathlib.Core.List.{List}
 use Prim.Native.Nat.{ℕ, _+_, _≤_, _<_}
-use native.Mathlib.Numerals.{add-one}
 use native.Mathlib.Omega.{arith}
 use lib.ListN.{length, getD, drop, drop-of-length-le}
-use lib.Seq.{drop-cons}
 use borrow.Author.Tests.{eq-eqb, ne-eqb}
 use Rattle.spec.specs.Lists.{memb, anyb}
 use Rattle.spec.specs.Network.{repeats}
-
--- a list from a place on: what stands there, and what comes after it
-at : {A : Type 0} (l : List A) (i : ℕ) (d : A) → i < length l → drop i l ≡ getD l i d ∷ drop (i + 1) l
-at l i d h = drop-cons l i d h ∙ ap (λ (k : ℕ). getD l i d ∷ drop k l) (sym (add-one i))
+use Rattle.cells.specs.Cells.{drop-here}
 
 -- ---- does a member pass a test ----
 
@@ -27,7 +22,7 @@ module _ {A : Type 0} {p : A → Bool} {l : List A} where
   any-start = record { within = omega arith; same = refl }
 
   here-and-after : {i : ℕ} {b : Bool} → NoneBefore p l i → (d : A) → i < length l → p (getD l i d) ≡ b → anyb p l ≡ (b || anyb p (drop (i + 1) l))
-  here-and-after {i} s d h e = s .same ∙ ap (anyb p) (at l i d h) ∙ ap (λ (b : Bool). b || anyb p (drop (i + 1) l)) e
+  here-and-after {i} s d h e = s .same ∙ ap (anyb p) (drop-here l i d h) ∙ ap (λ (b : Bool). b || anyb p (drop (i + 1) l)) e
 
   pub any-next : {i : ℕ} → NoneBefore p l i → (d : A) → i < length l → p (getD l i d) ≡ false → NoneBefore p l (i + 1)
   any-next s d h e = record { within = omega arith; same = here-and-after s d h e }
@@ -54,7 +49,7 @@ module _ {l : List ℕ} {i : ℕ} where
   pub memb-next : {j x : ℕ} → NotBetween l i j x → j < length l → (getD l j 0 ≡ x → ⊥) → NotBetween l i (j + 1) x
   memb-next {j} {x} s h e =
       let m : memb x (drop (i + 1) l) ≡ memb x (drop (j + 1) l)
-      = s .same ∙ ap (memb x) (at l j 0 h) ∙ ap (λ (b : Bool). b || memb x (drop (j + 1) l)) (ne-eqb x (getD l j 0) (λ q. e (sym q))) in
+      = s .same ∙ ap (memb x) (drop-here l j 0 h) ∙ ap (λ (b : Bool). b || memb x (drop (j + 1) l)) (ne-eqb x (getD l j 0) (λ q. e (sym q))) in
       record { place = s .place; stands = s .stands; within = omega arith; same = m }
 
   -- the number at i stands at j too, or nowhere after i
@@ -62,7 +57,7 @@ module _ {l : List ℕ} {i : ℕ} where
   again {j} {x} s h e =
       ap (λ (y : ℕ). memb y (drop (i + 1) l)) (sym (s .stands))
       ∙ s .same
-      ∙ ap (memb x) (at l j 0 h)
+      ∙ ap (memb x) (drop-here l j 0 h)
       ∙ ap (λ (b : Bool). b || memb x (drop (j + 1) l)) (eq-eqb x (getD l j 0) (sym e))
 
   nowhere : {j x : ℕ} → NotBetween l i j x → length l ≤ j → memb (getD l i 0) (drop (i + 1) l) ≡ false
@@ -80,7 +75,7 @@ module _ {l : List ℕ} where
   repeats-start = record { within = omega arith; same = refl }
 
   first-and-rest : {i : ℕ} {b : Bool} → OnceBefore l i → i < length l → memb (getD l i 0) (drop (i + 1) l) ≡ b → repeats l ≡ (b || repeats (drop (i + 1) l))
-  first-and-rest {i} s h e = s .same ∙ ap repeats (at l i 0 h) ∙ ap (λ (b : Bool). b || repeats (drop (i + 1) l)) e
+  first-and-rest {i} s h e = s .same ∙ ap repeats (drop-here l i 0 h) ∙ ap (λ (b : Bool). b || repeats (drop (i + 1) l)) e
 
   pub repeats-next : {i j x : ℕ} → OnceBefore l i → NotBetween l i j x → length l ≤ j → OnceBefore l (i + 1)
   repeats-next s t h = record { within = omega (arith, t .place); same = first-and-rest s (t .place) (nowhere t h) }

@@ -1,6 +1,6 @@
 -- The writer's refusals by number. Assumes nothing.
 use mathlib.Core.Path.{_≡_, refl, sym, ap, _∙_}
-use mathlib.Core.Bool.{Bool, true, false, not, _&&_, _||_, cond}
+use mathlib.Core.Bool.{Bool, true, false, not, _&&_, _||_, cond, Bool·not-not}
 use mathlib.Core.List.{List, [], _∷_, _++_}
 use mathlib.Core.Option.{Option, none, some}
 use Prim.Native.Nat.{ℕ, _+_, _≤_, _<_}
@@ -14,10 +14,11 @@ use Rattle.spec.specs.Network.{Network, leafCount, indexCount, networkChecks, r
 use Rattle.spec.specs.Calls.{wrongTree, lent, lengthCheck}
 use Rattle.spec.specs.Layout.{networkOf}
 use Rattle.spec.specs.File.{Contents, fileOf, treeChecks, flagsChecks, writeChecks}
-use Rattle.laws.specs.Booleans.{by-cases, clash}
+use Rattle.laws.specs.Booleans.{clash}
 use Rattle.network.specs.Layouts.{layout-leaf-count, layout-index-count}
 use Rattle.network.specs.Codes.{code-zero, accepted-facts}
 use Rattle.network.specs.Checks.{Lent}
+use Rattle.walk.specs.Entry.{first-some, first-none}
 use Rattle.netwrite.specs.Contents.{TreeLent, absent, present, AskLent, nothing, flags, byte, treeOf, askOf, contentsOf}
 use Rattle.netwrite.specs.Sizes.{Few, fixedBytes, file-length}
 
@@ -32,13 +33,9 @@ unfolding treeIsWrong
 no-tree true n kids e = clash e refl
 no-tree false n kids e = refl
 
-not-not : (b : Bool) → not (not b) ≡ b
-not-not true = refl
-not-not false = refl
-
 pub some-tree : (tree b : Bool) (n : ℕ) (kids : List ℕ) → not tree ≡ false → b ≡ not (wrongTree n kids) → not b ≡ treeIsWrong tree n kids
 unfolding treeIsWrong
-some-tree true b n kids e f = ap not f ∙ not-not (wrongTree n kids)
+some-tree true b n kids e f = ap not f ∙ Bool·not-not (wrongTree n kids)
 some-tree false b n kids e f = clash refl e
 
 -- more flags than m indices, or a byte over 1, if there are flags
@@ -59,19 +56,9 @@ other-flags tag m l e h f = f ∙ rw (eq-eqb tag 5 e, le-ltb m (length l) h)
 
 -- ---- the order of the conditions ----
 
-first-none : (a b : List Check) → first a ≡ none → first (a ++ b) ≡ first b
-first-none [] b e = refl
-first-none (x ∷ a) b e =
-    by-cases (x .holds)
-    (λ h. absurd (let z : _≡_ {A = ℕ} 0 1 = cc (rw h at e) in omega arith))
-    (λ h. rw h (first-none a b (rw h at e)))
-
-first-some : (a b : List Check) (r : Refusal) → first a ≡ some r → first (a ++ b) ≡ some r
-first-some [] b r e = absurd (let z : _≡_ {A = ℕ} 0 1 = cc in omega arith)
-first-some (x ∷ a) b r e =
-    by-cases (x .holds)
-    (λ h. rw h (rw h at e))
-    (λ h. rw h (first-some a b r (rw h at e)))
+eight : (b : Bool) → codeOf (cond b (some invalidTree) none) ≡ cond b 8 0
+eight true = refl
+eight false = refl
 
 -- 8 and 9
 after-checks : (N : Network) {tree : Bool} {kids : List ℕ} {tag : ℕ} {l : List ℕ} → TreeLent tree kids → AskLent tag l
@@ -86,10 +73,6 @@ after-checks N absent (flags l) = nine (ltb (indexCount N) (length l) || anyb (�
     nine false = refl
 after-checks N absent (byte w) = refl
 after-checks N (present kids) nothing = eight (wrongTree (leafCount N) kids)
-  where
-    eight : (b : Bool) → codeOf (cond b (some invalidTree) none) ≡ cond b 8 0
-    eight true = refl
-    eight false = refl
 after-checks N (present kids) (flags l) = both (wrongTree (leafCount N) kids) (ltb (indexCount N) (length l) || anyb (λ b. ltb 1 b) l)
   where
     both : (a b : Bool) → codeOf (cond a (some invalidTree) (cond b (some invalidFlags) none)) ≡ cond a 8 (cond b 9 0)
@@ -97,10 +80,6 @@ after-checks N (present kids) (flags l) = both (wrongTree (leafCount N) kids) (l
     both false true = refl
     both false false = refl
 after-checks N (present kids) (byte w) = eight (wrongTree (leafCount N) kids)
-  where
-    eight : (b : Bool) → codeOf (cond b (some invalidTree) none) ≡ cond b 8 0
-    eight true = refl
-    eight false = refl
 
 -- 7, then those
 seven : (b : Bool) (o : Option Refusal) → codeOf (cond (b || false) (some shortBuffer) o) ≡ cond b 7 (codeOf o)

@@ -10,7 +10,7 @@ use borrow.Author.Tests.{lt-ltb, le-ltb, ltb-true, ltb-false}
 use Rattle.spec.specs.Layout.{firsts, networkOf}
 use Rattle.spec.specs.File.{field, leafFields, treeField, askField, fileOf}
 use Rattle.laws.specs.Booleans.{by-cases}
-use Rattle.network.specs.Layouts.{firsts-length}
+use Rattle.laws.specs.LayoutLaws.{firsts-length}
 use Rattle.network.specs.Checks.{leavesOf}
 use Rattle.putfields.specs.Leaves.{leafBytes, leaf-bytes-none, leaf-bytes-more, leaf-fields-length}
 use Rattle.netwrite.specs.Contents.{TreeLent, absent, present, AskLent, nothing, flags, byte, treeOf, askOf, contentsOf, networkFields}

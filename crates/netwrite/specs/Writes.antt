@@ -10,10 +10,11 @@ use Rattle.spec.specs.Layout.{firsts, networkOf}
 use Rattle.spec.specs.File.{field, leafFields, treeField, askField}
 use Rattle.spec.specs.FileClaims.{Bytes}
 use Rattle.laws.specs.Booleans.{clash}
+use Rattle.laws.specs.FileBytes.{all-bytes}
 use Rattle.network.specs.Layouts.{firsts-take}
 use Rattle.network.specs.Checks.{Lent, leavesOf}
 use Rattle.network.specs.Codes.{Facts}
-use Rattle.putfields.specs.Put.{Put, put-both, put-none, put-length, all-bytes}
+use Rattle.putfields.specs.Put.{Put, put-both, put-none, put-length}
 use Rattle.putfields.specs.Leaves.{Leaves, leafBytes, leaf-fields-length}
 use Rattle.netwrite.specs.Contents.{TreeLent, absent, present, AskLent, nothing, flags, byte, treeOf, askOf, networkFields}
 use Rattle.netwrite.specs.Sizes.{network-fields-length}

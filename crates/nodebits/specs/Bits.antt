@@ -11,8 +11,9 @@ use Rattle.spec.specs.Layout.{rowAt}
 use Rattle.slots.specs.Slots.{held}
 use Rattle.slots.specs.Weigh.{openWeight, Light, weighed, either}
 use Rattle.network.specs.Checks.{Rows}
-use Rattle.nodesets.specs.Passes.{leftOf, rightOf, nodes}
+use Rattle.nodesets.specs.Passes.{nodes}
 use Rattle.nodesets.specs.Steps.{Steps}
+use Rattle.laws.specs.FlatLaws.{leftOf, rightOf}
 
 -- a list has each index's weight, and 0 where the index is flagged
 abbrev pub Effective : (weights flags effective : List ℕ) → Type 0

@@ -12,13 +12,13 @@ use lib.Seq.{getD-set-same, getD-set-other, getD-drop}
 use Rattle.spec.specs.Lists.{range, keep, sumOf}
 use Rattle.spec.specs.Layout.{firsts}
 use Rattle.spec.specs.Memory.{filled, over, copied}
-use Rattle.laws.specs.ListLaws.{sum-append, range-length}
+use Rattle.laws.specs.ListLaws.{sum-append, range-length, keep-length, sum-bound}
+use Rattle.laws.specs.LayoutLaws.{map-range-at, map-range-length, firsts-length, firsts-at, firsts-none, firsts-more}
 use Rattle.cells.specs.Cells.{filled-length, filled-all, copied-at, copied-past, copied-next, copied-all}
 use Rattle.bits.specs.Digits.{or-digits, and-digits, diff-digits, bitDiff}
 use Rattle.bits.specs.Lowest.{Tests}
 use Rattle.slots.specs.Slots.{held, held-digit}
-use Rattle.slots.specs.Weigh.{openWeight, Light, weighed, either, sum-bound, open-light}
-use Rattle.network.specs.Layouts.{firsts-none, firsts-more, firsts-at, firsts-length, map-range-at, map-range-length}
+use Rattle.slots.specs.Weigh.{openWeight, Light, weighed, either, open-light}
 use Rattle.nodebits.specs.Bits.{Effective, StepKnown, sizeOf, workOf}
 use Rattle.nodebits.specs.Weights.{weighed-either, weighed-part}
 
@@ -133,15 +133,6 @@ module _ (ws : List ℕ) (W l r v k x y z : ℕ) (ex : x ≡ getD ws (l * W + k)
   tests-dropped i h = ap₂ (λ (a b : Bool). a && not b) (tests-either i h) (tests-node i h) ∙ sym (diff-digits (bitOr x y) z i)
 
 -- ---- a step ----
-
--- no set weighs more than 8 bits an index
-keep-length : (p : ℕ → Bool) (l : List ℕ) → length (keep p l) ≤ length l
-keep-length p [] = omega arith
-keep-length p (x ∷ l) = pick (p x) (keep-length p l)
-  where
-    pick : (b : Bool) → length (keep p l) ≤ length l → length (cond b (x ∷ keep p l) (keep p l)) ≤ length (x ∷ l)
-    pick true h = omega arith
-    pick false h = omega arith
 
 pub weighed-most : (wt fl : List ℕ) (p : ℕ → Bool) (n : ℕ) → Light wt → weighed wt fl p n ≤ n * 8
 unfolding weighed

@@ -14,15 +14,17 @@ use borrow.Author.Tests.{lt-ltb, le-ltb}
 use Rattle.spec.specs.Lists.{memb, range}
 use Rattle.spec.specs.Memory.{over, filled}
 use Rattle.laws.specs.Booleans.{clash}
+use Rattle.laws.specs.LayoutLaws.{map-range-at, map-range-length}
+use Rattle.laws.specs.ListLaws.{memb-at}
+use Rattle.laws.specs.FlatLaws.{leftOf, rightOf}
 use Rattle.slots.specs.Slots.{held}
 use Rattle.slots.specs.Weigh.{either}
 use Rattle.cells.specs.Cells.{over-length, over-at, over-past, filled-length, filled-at}
-use Rattle.network.specs.Layouts.{map-range-at, map-range-length}
-use Rattle.nodesets.specs.Passes.{leftOf, rightOf, nodes}
+use Rattle.nodesets.specs.Passes.{nodes}
 use Rattle.nodesets.specs.Order.{Ready}
 use Rattle.nodesets.specs.Steps.{Steps}
 use Rattle.nodesets.specs.Turns.{slot-in, step-inner, step-left, step-right}
-use Rattle.nodesets.specs.Places.{take-cases, getD-in}
+use Rattle.nodesets.specs.Places.{take-cases}
 use Rattle.nodebits.specs.Bits.{StepKnown, InnerKnown, sizeOf, workOf, leafSize, nodeWork}
 
 -- the first k steps are done: the bits of their nodes are there, and those of other numbers are as they were
@@ -74,7 +76,7 @@ module _ (W n : ℕ) (kids order sets effective sizes₀ works₀ : List ℕ) wh
         ]
 
     not-here : (s : ℕ) → memb s order ≡ false → s ≡ v → ⊥
-    not-here s m q = clash (getD-in order k h) (rw (← e, ← q) m)
+    not-here s m q = clash (memb-at order k h) (rw (← e, ← q) m)
 
     pub stepped-next : Stepped W n kids order sets effective sizes₀ works₀ (k + 1) (set sizes v size) (set works v work)
     stepped-next =
@@ -117,7 +119,7 @@ module _ {W n : ℕ} {kids order sets effective : List ℕ} (p : InnerKnown W n 
           right-in = slot-in r (nodes n kids) W (length sets) b (p .room);
           node-in = slot-in v (nodes n kids) W (length sets) (i .1) (p .room);
         };
-        nested = λ j b m. rw (el, er) (p .nested v j (rw e (getD-in order k h)) b m);
+        nested = λ j b m. rw (el, er) (p .nested v j (rw e (memb-at order k h)) b m);
       }
 
   module _ {sizes₀ works₀ sizes works : List ℕ} (st : Stepped W n kids order sets effective sizes₀ works₀ k sizes works) where

@@ -15,10 +15,6 @@ use Rattle.slots.specs.Rising.{word-more}
 use Rattle.slots.specs.Weigh.{openWeight, weighed, wordWeight}
 
 module _ (wt fl : List ℕ) where
-  pub weighed-none : (p : ℕ → Bool) → 0 ≡ weighed wt fl p 0
-  unfolding weighed
-  weighed-none p = refl
-
   -- one word more
   pub weighed-more : (p : ℕ → Bool) (k x sum r : ℕ) → Tests p (k * 64) 64 x → sum ≡ weighed wt fl p (k * 64) → r ≡ wordWeight wt fl (k * 64) x
       → sum + r ≡ weighed wt fl p ((k + 1) * 64)

@@ -8,7 +8,7 @@ use native.Mathlib.Nat.{mul-le-mul-right}
 use lib.ListN.{length, getD}
 use Rattle.cells.specs.Loop.{turns}
 use Rattle.slots.specs.Slots.{held, withSet, Words, withSet-length, withSet-outside, held-with, next-slot}
-use Rattle.slots.specs.Writes.{among}
+use Rattle.slots.specs.Writes.{among, leafHas}
 use Rattle.spec.specs.Lists.{memb}
 use Rattle.spec.specs.Network.{Network, leafCount, legs, InRange}
 use Rattle.spec.specs.Tree.{Pair, pairsOf, stepOrder, valid, root}
@@ -16,9 +16,9 @@ use Rattle.spec.specs.Layout.{networkOf}
 use Rattle.spec.specs.Price.{listAt}
 use Rattle.laws.specs.Walks.{valid-tree}
 use Rattle.laws.specs.Arrays.{Inner, valid-inner}
-use Rattle.laws.specs.FlatLaws.{pairs-length}
+use Rattle.laws.specs.FlatLaws.{pairs-length, leftOf, rightOf}
 use Rattle.network.specs.Layouts.{layout-leaf-count}
-use Rattle.nodesets.specs.Passes.{leftOf, rightOf, nodes, withSets, leafHas, ups, downs, cuts}
+use Rattle.nodesets.specs.Passes.{nodes, withSets, ups, downs, cuts}
 use Rattle.nodesets.specs.Sets.{withSets-length, withSets-past, held-withSets, withSets-is}
 use Rattle.nodesets.specs.Steps.{Steps, valid-steps, at-inner}
 use Rattle.nodesets.specs.Turns.{ups-length, cuts-length}

@@ -4,24 +4,19 @@ use mathlib.Core.Path.{_≡_, refl, sym, _∙_, ap}
 use mathlib.Core.Bool.{true}
 use mathlib.Core.List.{List, [], _∷_, _++_, append-assoc, append-nil}
 use mathlib.Core.Logic.{_⊎_, inl, inr}
-use mathlib.Core.Option.{some, Option·some-injective, Option·none-ne-some}
-use Prim.Native.Nat.{ℕ, zero, suc, _+_, _-_, _<_}
+use mathlib.Core.Option.{Option·some-injective}
+use Prim.Native.Nat.{ℕ, zero, suc, _-_, _<_}
 use native.Mathlib.Omega.{arith}
 use lib.Dec.{eqb}
-use lib.ListN.{length, getD, getElem?, take, drop}
+use lib.ListN.{length, getD, take, drop}
 use borrow.Author.Tests.{eqb-true}
 use Rattle.spec.specs.Lists.{memb}
 use Rattle.spec.specs.Tree.{Tree, leaf, node, number, numbers, inner, Pair, Describes, pairsOf}
 use Rattle.laws.specs.Booleans.{or-introl, or-intror, or-cases, clash}
 use Rattle.laws.specs.ListLaws.{memb-append, memb-head, three-cases, three-left, three-right, three-last}
 use Rattle.laws.specs.Arrays.{number-in}
-use Rattle.laws.specs.FlatLaws.{pair-at}
-use Rattle.nodesets.specs.Passes.{leftOf, rightOf}
-
-got-within : {A : Type 0} (l : List A) (k : ℕ) (x : A) → getElem? l k ≡ some x → k < length l
-got-within [] k x e = absurd (Option·none-ne-some _ e)
-got-within (y ∷ l) zero x e = omega arith
-got-within (y ∷ l) (suc k) x e = omega (arith, got-within l k x e)
+use Rattle.laws.specs.FlatLaws.{pair-at, leftOf, rightOf}
+use Rattle.laws.specs.MemberLaws.{got-within}
 
 module _ (n : ℕ) (kids : List ℕ) where
   abbrev L : ℕ → ℕ

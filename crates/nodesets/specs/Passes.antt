@@ -2,18 +2,10 @@
 -- outside it. Assumes nothing.
 use mathlib.Core.Bool.{Bool, _&&_, _||_}
 use mathlib.Core.List.{List}
-use Prim.Native.Nat.{ℕ, _+_, _-_, _*_, _/_}
+use Prim.Native.Nat.{ℕ, _+_, _-_, _/_}
 use lib.ListN.{length, getD}
 use Rattle.cells.specs.Loop.{turns}
 use Rattle.slots.specs.Slots.{held, withSet}
-use Rattle.slots.specs.Writes.{among}
-
--- the children that a flat list gives node v, of n leaves
-abbrev pub leftOf : List ℕ → ℕ → ℕ → ℕ
-leftOf kids n v = getD kids ((v - n) * 2) 0
-
-abbrev pub rightOf : List ℕ → ℕ → ℕ → ℕ
-rightOf kids n v = getD kids ((v - n) * 2 + 1) 0
 
 -- how many nodes there are
 abbrev pub nodes : ℕ → List ℕ → ℕ
@@ -22,10 +14,6 @@ nodes n kids = n + length kids / 2
 -- the list of words in which each slot below m holds what its test says, and all else is as it was
 unfoldable pub withSets : List ℕ → ℕ → (ℕ → ℕ → Bool) → ℕ → List ℕ
 withSets ws W F m = turns (λ s l. withSet l W s (F s)) ws m
-
--- is j among the indices of leaf i, of rows of 32 places
-abbrev pub leafHas : List ℕ → List ℕ → ℕ → ℕ → Bool
-leafHas counts legs i j = among legs (i * 32) (getD counts i 0) j
 
 module _ (W : ℕ) where
   -- slot c made the union of slots a and b

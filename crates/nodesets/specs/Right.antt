@@ -21,10 +21,12 @@ use Rattle.spec.specs.Tree.{number, Pair, pairsOf}
 use Rattle.spec.specs.Price.{listAt}
 use Rattle.laws.specs.Booleans.{or-cases, clash, eqb-self}
 use Rattle.laws.specs.Arrays.{Inner}
-use Rattle.nodesets.specs.Passes.{leftOf, rightOf, nodes, joined, widened, cut, ups, down, downs, cuts}
+use Rattle.laws.specs.ListLaws.{memb-at}
+use Rattle.laws.specs.FlatLaws.{leftOf, rightOf}
+use Rattle.nodesets.specs.Passes.{nodes, joined, widened, cut, ups, down, downs, cuts}
 use Rattle.nodesets.specs.Order.{left-is, right-is, Ready, Known, childrenOf}
 use Rattle.nodesets.specs.Steps.{Steps, at-inner, at-children}
-use Rattle.nodesets.specs.Places.{memb-take, take-cases, getD-in}
+use Rattle.nodesets.specs.Places.{memb-take, take-cases}
 use Rattle.nodesets.specs.Turns.{slot-in, ups-length, downs-length, cuts-length}
 use Rattle.nodesets.specs.Flow.{under, wanted, under-leaf, under-node, wanted-left, wanted-right, listed-node, listed-leaf}
 
@@ -169,7 +171,7 @@ module _ (N : Network) (kids order : List ℕ) (steps : Steps (leafCount N) kids
         elim (ℕ-discrete s v) [
           | yes e ↦ rw (e, memb-take v order k h, eqb-self v)
               (held-with ws W v _ j (slot-room v ws lv room) b
-              ∙ rw (r v lv j b, above v (getD-in order k h) j b) (cut-both (memb v (take k order)) (under N a v j) (wanted N a v j)))
+              ∙ rw (r v lv j b, above v (memb-at order k h) j b) (cut-both (memb v (take k order)) (under N a v j) (wanted N a v j)))
           | no g ↦ held-with-other ws W v _ s j b g
               ∙ rw (memb-take s order k h, ne-eqb s v g) (r s q j b ∙ same-cond (memb s (take k order)) (under N a s j && wanted N a s j) (under N a s j))
         ]

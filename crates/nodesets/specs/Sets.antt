@@ -9,9 +9,9 @@ use native.Mathlib.Decide.{ℕ-discrete, decLe}
 use lib.ListN.{length, getD}
 use lib.Seq.{ext-getD}
 use Rattle.cells.specs.Loop.{turns, turns-none, turns-next, turns-end}
-use Rattle.slots.specs.Slots.{held, wordOf, withSet, Words, withSet-length, withSet-word, withSet-outside, held-with, held-with-other, withSet-then, held-digit, word-is, slot-eq}
-use Rattle.slots.specs.Writes.{among}
-use Rattle.nodesets.specs.Passes.{withSets, leafHas}
+use Rattle.slots.specs.Slots.{held, wordOf, withSet, Words, withSet-length, withSet-word, withSet-outside, held-with, held-with-other, held-digit, word-is, slot-eq}
+use Rattle.slots.specs.Writes.{among, refilled, leafHas}
+use Rattle.nodesets.specs.Passes.{withSets}
 
 module _ (ws : List ℕ) (W : ℕ) (F : ℕ → ℕ → Bool) where
   pub withSets-none : ws ≡ withSets ws W F 0
@@ -80,11 +80,6 @@ module _ (ws : List ℕ) (W : ℕ) (F : ℕ → ℕ → Bool) where
           let s : i / W < m = div-lt-iff-lt-mul pos .1 h in
           let k : i % W < W = mod-lt i pos in
           rw (← div-add-mod' i W) (word (i / W) (i % W) s k ∙ sym (withSets-word m (i / W) (i % W) room s k))
-
--- a slot that is emptied, and then given the places of a list
-pub refilled : (ws l r : List ℕ) (W s : ℕ) (list : List ℕ) (base n : ℕ) → l ≡ withSet ws W s (λ j. false)
-    → r ≡ withSet l W s (λ j. held l W s j || among list base n j) → r ≡ withSet ws W s (among list base n)
-refilled ws l r W s list base n e f = f ∙ rw e (withSet-then ws W s (λ j. false) (λ j x. x || among list base n j))
 
 -- one leaf more
 pub leaf-turn : (ws l e r : List ℕ) (W : ℕ) (counts legs : List ℕ) (i x : ℕ) → l ≡ withSets ws W (leafHas counts legs) i

@@ -10,14 +10,13 @@ use lib.ListN.{length, getD, take, drop}
 use Rattle.spec.specs.Lists.{memb, count}
 use Rattle.spec.specs.Tree.{Tree, number, numbers, inner, Pair, treeAt, root, valid, innerOf, ValidTree, pairsOf, stepOrder}
 use Rattle.laws.specs.Booleans.{clash}
-use Rattle.laws.specs.ListLaws.{count-not-memb}
+use Rattle.laws.specs.ListLaws.{count-not-memb, memb-at}
 use Rattle.laws.specs.Walks.{valid-tree, valid-none, valid-inners}
 use Rattle.laws.specs.Arrays.{Shape, describes-shape}
 use Rattle.laws.specs.Ordering.{inner-above, inner-numbers, inner-count, inner-length}
-use Rattle.laws.specs.FlatLaws.{pairs-length}
-use Rattle.nodesets.specs.Passes.{leftOf, rightOf, nodes}
+use Rattle.laws.specs.FlatLaws.{pairs-length, leftOf, rightOf}
+use Rattle.nodesets.specs.Passes.{nodes}
 use Rattle.nodesets.specs.Order.{Ready, Known, children-before, parent-in, parent-after, children-in}
-use Rattle.nodesets.specs.Places.{getD-in}
 
 -- `order` has the inner nodes, each after its children and before its parent
 pub record Steps (n : ℕ) (kids order : List ℕ) : Type 0 where
@@ -99,7 +98,7 @@ valid-steps (suc m) kids order h e =
 
 module _ {n : ℕ} {kids order : List ℕ} (s : Steps n kids order) (k : ℕ) (h : k < length order) where
   pub at-inner : (n ≤ getD order k 0) × (getD order k 0 < nodes n kids)
-  at-inner = s .inner (getD order k 0) (getD-in order k h)
+  at-inner = s .inner (getD order k 0) (memb-at order k h)
 
   pub at-children : (leftOf kids n (getD order k 0) < nodes n kids) × (rightOf kids n (getD order k 0) < nodes n kids)
-  at-children = s .children (getD order k 0) (getD-in order k h)
+  at-children = s .children (getD order k 0) (memb-at order k h)

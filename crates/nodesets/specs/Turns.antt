@@ -6,7 +6,8 @@ use native.Mathlib.Omega.{arith}
 use lib.ListN.{length, getD}
 use Rattle.cells.specs.Loop.{turns, turns-none, turns-next}
 use Rattle.slots.specs.Slots.{next-slot, withSet-length}
-use Rattle.nodesets.specs.Passes.{leftOf, rightOf, nodes, joined, widened, cut, ups, down, downs, cuts}
+use Rattle.laws.specs.FlatLaws.{leftOf, rightOf}
+use Rattle.nodesets.specs.Passes.{nodes, joined, widened, cut, ups, down, downs, cuts}
 use Rattle.nodesets.specs.Steps.{Steps, at-inner, at-children}
 
 -- the slots of a step are within a list that has room for all nodes

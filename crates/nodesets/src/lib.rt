@@ -2,7 +2,9 @@
 ghost use mathlib.Core.Path.{_≡_};
 ghost use Prim.Native.Nat.{_+_, _-_, _*_, _/_, _<_, _≤_};
 ghost use lib.ListN.{length};
-ghost use Rattle.nodesets.specs.Passes.{leftOf, rightOf, nodes, withSets, leafHas, joined, widened, cut, ups, downs, cuts};
+ghost use Rattle.laws.specs.FlatLaws.{leftOf, rightOf};
+ghost use Rattle.slots.specs.Writes.{leafHas};
+ghost use Rattle.nodesets.specs.Passes.{nodes, withSets, joined, widened, cut, ups, downs, cuts};
 ghost use Rattle.nodesets.specs.Steps.{Steps};
 ghost use Rattle.nodesets.specs.Lists.{Ordered, SetsAre};
 

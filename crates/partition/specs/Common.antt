@@ -1,25 +1,18 @@
 -- How many members two slots have in common, counted word by word. Assumes nothing.
-use mathlib.Core.Bool.{Bool, true, false, _&&_, cond}
-use mathlib.Core.Path.{_≡_, refl, sym, ap, ap₂, _∙_}
-use mathlib.Core.List.{List, [], _∷_}
-use Prim.Native.Nat.{ℕ, _+_, _*_, _^_, _≤_, _<_}
+use mathlib.Core.Bool.{Bool, _&&_}
+use mathlib.Core.Path.{_≡_, sym, ap, ap₂, _∙_}
+use mathlib.Core.List.{List}
+use Prim.Native.Nat.{ℕ, _+_, _*_, _^_, _<_}
 use native.Mathlib.Omega.{arith}
 use lib.Bits.{bitAnd}
 use lib.Count.{ones}
 use lib.ListN.{length, getD, length-append}
 use Rattle.spec.specs.Lists.{keep, range}
-use Rattle.laws.specs.Booleans.{by-cases}
+use Rattle.laws.specs.ListLaws.{keep-keep}
 use Rattle.bits.specs.Digits.{and-digits}
 use Rattle.bits.specs.Lowest.{Tests, places, places-ones}
 use Rattle.slots.specs.Slots.{held, held-digit}
 use Rattle.slots.specs.Rising.{risingOf, word-more}
-
-pub keep-keep : (p q : ℕ → Bool) (l : List ℕ) → keep q (keep p l) ≡ keep (λ v. p v && q v) l
-keep-keep p q [] = refl
-keep-keep p q (v ∷ l) =
-    by-cases (p v)
-    (λ e. rw e (ap (λ k. cond (q v) (v ∷ k) k) (keep-keep p q l)))
-    (λ e. rw e (keep-keep p q l))
 
 module _ (ws : List ℕ) (W a b : ℕ) where
   -- the members of slot a that slot b has too

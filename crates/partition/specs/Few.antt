@@ -8,7 +8,8 @@ use lib.Bits.{bitAnd}
 use lib.Count.{ones}
 use lib.Dec.{eqb}
 use lib.ListN.{length, getD}
-use Rattle.bits.specs.Lowest.{drop-less, places-step, places-none, places-ones}
+use Rattle.bits.specs.Lowest.{drop-less, places-step, places-ones}
+use Rattle.bits.specs.Splits.{ones-zero}
 use Rattle.partition.specs.Common.{commonOf, common-next, common-end}
 
 -- 2 stands for two or more
@@ -35,18 +36,15 @@ few-sum (suc (suc p)) q = (many (2 + capped q) (suc (suc p) + q) 1 (omega arith)
 
 -- ---- the ones of a word ----
 
-ones-none : ones 0 ≡ 0
-ones-none = sym (places-ones 0 64 0 (omega arith)) ∙ ap length (places-none 0 64)
-
 ones-step : (x : ℕ) → 0 < x → x < 2 ^ 64 → ones x ≡ suc (ones (bitAnd x (x - 1)))
 ones-step x p b =
     sym (places-ones 0 64 x b) ∙ ap length (places-step 0 64 x p b) ∙ ap suc (places-ones 0 64 (bitAnd x (x - 1)) (omega (arith, drop-less x p)))
 
 pub none-set : (x : ℕ) → x ≡ 0 → 0 ≡ capped (ones x)
-none-set x e = sym (ap (λ (z : ℕ). capped (ones z)) e ∙ ap capped ones-none)
+none-set x e = sym (ap (λ (z : ℕ). capped (ones z)) e ∙ ap capped ones-zero)
 
 pub one-set : (x : ℕ) → (x ≡ 0 → ⊥) → x < 2 ^ 64 → bitAnd x (x - 1) ≡ 0 → 1 ≡ capped (ones x)
-one-set x f b e = sym (ap capped (ones-step x (omega (arith, f)) b ∙ ap (λ (z : ℕ). suc (ones z)) e ∙ ap suc ones-none))
+one-set x f b e = sym (ap capped (ones-step x (omega (arith, f)) b ∙ ap (λ (z : ℕ). suc (ones z)) e ∙ ap suc ones-zero))
 
 pub two-set : (x : ℕ) → (x ≡ 0 → ⊥) → x < 2 ^ 64 → (bitAnd x (x - 1) ≡ 0 → ⊥) → 2 ≡ capped (ones x)
 two-set x f b g =

@@ -1,24 +1,24 @@
 -- The gain of a vertex's move by the slots of a hypergraph that is laid out. Assumes nothing.
-use mathlib.Core.Bool.{Bool, true, false, not, _&&_, cond}
+use mathlib.Core.Bool.{Bool, true, false, cond}
 use mathlib.Core.Path.{_≡_, refl, sym, ap, _∙_}
-use mathlib.Core.List.{List, [], _∷_, _++_, map}
-use Prim.Native.Nat.{ℕ, zero, suc, _+_, _-_, _*_, _≤_, _<_}
+use mathlib.Core.List.{List, [], _∷_, _++_, map, append-nil}
+use Prim.Native.Nat.{ℕ, _+_, _-_, _<_}
 use native.Mathlib.Omega.{arith}
 use lib.Dec.{eqb, ltb}
 use lib.Ieee.{Float}
-use lib.ListN.{length, getD, take}
-use lib.Seq.{sets, length-sets}
+use lib.ListN.{length}
 use borrow.Author.Tests.{lt-ltb, le-ltb, ltb-true}
-use Rattle.spec.specs.Lists.{memb, keep, from, range}
+use Rattle.spec.specs.Lists.{memb, keep, range}
 use Rattle.spec.specs.Floats.{zeroFloat}
-use Rattle.spec.specs.Hypergraph.{foldOver, Net, Hypergraph, netsAt, sideOf, otherSide, pinsOn}
+use Rattle.spec.specs.Hypergraph.{foldOver, Net, netsAt, sideOf, otherSide, pinsOn}
 use Rattle.spec.specs.Fm.{gainNet, gainAt, gain}
-use Rattle.laws.specs.Booleans.{by-cases, and-left, or-intror, clash}
-use Rattle.laws.specs.ListLaws.{keep-ext-from, keep-none-from, keep-passes, memb-keep, from-memb, memb-head, range-length}
+use Rattle.laws.specs.Booleans.{by-cases, and-left, or-intror}
+use Rattle.laws.specs.ListLaws.{keep-ext-from, keep-none-from, keep-passes, memb-head, keep-map, kept-below}
+use Rattle.laws.specs.LayoutLaws.{from-at}
 use Rattle.slots.specs.Slots.{held}
 use Rattle.slots.specs.Rising.{risingOf, memb-rising, keep-add}
 use Rattle.partition.specs.Common.{commonOf}
-use Rattle.partition.specs.Folds.{fold-map, take-sets}
+use Rattle.partition.specs.Folds.{fold-map}
 use Rattle.partition.specs.Layout.{netIn, graphIn, sidesIn, Laid, gainStep, gainSum}
 
 -- ---- lists ----
@@ -28,40 +28,17 @@ keep-cong p q [] h = refl
 keep-cong p q (x ∷ l) h =
     rw (h x (memb-head x l), keep-cong p q l (λ v m. h v (or-intror (eqb v x) (memb v l) m)))
 
-keep-map : {A B : Type 0} (p : B → Bool) (f : A → B) (l : List A) → keep p (map f l) ≡ map f (keep (λ x. p (f x)) l)
-keep-map p f [] = refl
-keep-map p f (x ∷ l) =
-    by-cases (p (f x))
-    (λ e. rw e (ap (λ k. f x ∷ k) (keep-map p f l)))
-    (λ e. rw e (keep-map p f l))
-
 pub fold-cong : {S : Type 0} (f g : ℕ → S → S) (l : List ℕ) (s : S) → ((x : ℕ) → memb x l ≡ true → (t : S) → f x t ≡ g x t) → foldOver f l s ≡ foldOver g l s
 fold-cong f g [] s h = refl
 fold-cong f g (x ∷ l) s h =
     ap (foldOver f l) (h x (memb-head x l) s) ∙ fold-cong f g l (g x s) (λ y m t. h y (or-intror (eqb y x) (memb y l) m) t)
-
-map-from : (f : ℕ → ℕ) (k n v : ℕ) → v < n → getD (map f (from k n)) v 0 ≡ f (k + v)
-map-from f k zero v h = absurd (omega arith)
-map-from f k (suc n) zero h = ap f (omega arith)
-map-from f k (suc n) (suc v) h = map-from f (suc k) n v (omega arith) ∙ ap f (omega arith)
-
--- a member of what is kept of a range
-pub kept-below : (p : ℕ → Bool) (n v : ℕ) → memb v (keep p (range n)) ≡ true → v < n
-kept-below p n v m =
-    by-cases (memb v (range n))
-    (λ e. omega (arith, from-memb v 0 n e))
-    (λ e. clash m (memb-keep v p (range n) ∙ rw e (and-no (p v))))
-  where
-    and-no : (b : Bool) → (b && false) ≡ false
-    and-no true = refl
-    and-no false = refl
 
 -- ---- sides ----
 
 module _ (ws : List ℕ) (nets vertices sides m n : ℕ) (weights : List ℕ) (h : Laid ws nets vertices sides m n) where
   side-at : (v : ℕ) → v < n → sideOf (sidesIn ws sides n) v ≡ cond (held ws 2 (sides + 1) v) 1 0
   unfolding sidesIn
-  side-at v b = map-from (λ v. cond (held ws 2 (sides + 1) v) 1 0) 0 n v b ∙ ap (λ (u : ℕ). cond (held ws 2 (sides + 1) u) 1 0) (omega arith)
+  side-at v b = from-at (λ v. cond (held ws 2 (sides + 1) v) 1 0) 0 0 n v b ∙ ap (λ (u : ℕ). cond (held ws 2 (sides + 1) u) 1 0) (omega arith)
 
   -- slot t holds the vertices of side s
   abbrev pub Holds : ℕ → ℕ → Type 0
@@ -96,10 +73,6 @@ module _ (ws : List ℕ) (nets vertices sides m n : ℕ) (weights : List ℕ) (h
       (keep-none-from (held ws 4 (vertices + v)) (0 + m) (256 - m)
       (λ e lo hi. h .crossed v e b (omega (arith, h .few .0)) ∙ rw (le-ltb e m (omega arith))))
       ∙ append-nil (keep (held ws 4 (vertices + v)) (range m))))
-    where
-      append-nil : (l : List ℕ) → l ++ [] ≡ l
-      append-nil [] = refl
-      append-nil (x ∷ l) = ap (λ k. x ∷ k) (append-nil l)
 
   -- A GAIN BY THE SLOTS
   pub gain-laid : (s here there v : ℕ) (vw : List Float) → v < n → sideOf (sidesIn ws sides n) v ≡ s → Holds s here → Holds (otherSide s) there
@@ -126,25 +99,7 @@ module _ (ws : List ℕ) (nets vertices sides m n : ℕ) (weights : List ℕ) (h
       → gain (graphIn ws nets weights m vw) (sidesIn ws sides n) v ≡ gainSum ws nets sides (sides + 1) weights (risingOf ws 4 (vertices + v))
   gain-zero v vw b e = gain-laid 0 sides (sides + 1) v vw b (side-at v b ∙ rw e) holds-zero holds-one
 
--- ---- the nets of a vertex, put into a list ----
-
-keep-length : (p : ℕ → Bool) (l : List ℕ) → length (keep p l) ≤ length l
-keep-length p [] = omega arith
-keep-length p (u ∷ l) = by-cases (p u) (λ e. rw e (omega (arith, keep-length p l))) (λ e. rw e (omega (arith, keep-length p l)))
-
-pub kept-few : (p : ℕ → Bool) (n : ℕ) → length (keep p (range n)) ≤ n
-kept-few p n = omega (arith, keep-length p (range n), range-length 0 n)
-
-pub rising-few : (ws : List ℕ) (s : ℕ) → length (risingOf ws 4 s) ≤ 256
-unfolding risingOf
-rising-few ws s = kept-few (held ws 4 s) 256
-
-module _ (ws out out′ : List ℕ) (s r : ℕ) (e : r ≡ length (risingOf ws 4 s)) (f : out′ ≡ sets out 0 (risingOf ws 4 s)) (h : 256 ≤ length out) where
-  pub listed-fits : r ≤ length out′
-  listed-fits = omega (arith, rising-few ws s, ap length f, length-sets out 0 (risingOf ws 4 s))
-
-  pub listed-nets : take r out′ ≡ risingOf ws 4 s
-  listed-nets = ap (λ k. take k out′) e ∙ ap (take (length (risingOf ws 4 s))) f ∙ take-sets out (risingOf ws 4 s) (omega (arith, rising-few ws s))
+-- ---- the gain ----
 
 -- r is the gain, whatever the vertices weigh
 abbrev pub IsGain : List ℕ → ℕ → ℕ → ℕ → ℕ → List ℕ → ℕ → Float → Type 0

@@ -1,26 +1,20 @@
 -- A hypergraph in slots of words. The pins of net e are the members of slot nets + e, of two words; the nets of vertex v are the members of
 -- slot vertices + v, of four words; the sides of a partition are the sets of slots sides and sides + 1, of two words. Assumes nothing.
-use mathlib.Core.Bool.{Bool, true, false, not, _&&_, cond}
-use mathlib.Core.Path.{_≡_, refl, sym, ap, _∙_, subst}
-use mathlib.Core.List.{List, [], _∷_, map}
-use Prim.Native.Nat.{ℕ, zero, suc, _+_, _-_, _*_, _≤_, _<_}
-use native.Mathlib.Omega.{arith}
-use native.Mathlib.Nat.{lt-of-not-le}
-use lib.Dec.{eqb, ltb}
+use mathlib.Core.Bool.{Bool, true, not, _&&_, cond}
+use mathlib.Core.Path.{_≡_, _∙_}
+use mathlib.Core.List.{List, map}
+use Prim.Native.Nat.{ℕ, _+_, _≤_, _<_}
+use lib.Dec.{ltb}
 use lib.Ieee.{Float, binary64, add, sub}
-use lib.ListN.{length, getD, List·getD-map}
-use borrow.Author.Tests.{lt-ltb, le-ltb}
-use Rattle.spec.specs.Lists.{memb, keep, from, range}
+use lib.ListN.{length, getD}
+use Rattle.spec.specs.Lists.{range}
 use Rattle.spec.specs.Floats.{zeroFloat, wholeFloat}
-use Rattle.spec.specs.Hypergraph.{foldOver, Net, Hypergraph, netsAt, sideOf, otherSide, pinsOn}
-use Rattle.spec.specs.Fm.{gainNet, gainAt, gain}
-use Rattle.laws.specs.Booleans.{by-cases, and-right, or-intror, or-introl, clash}
-use Rattle.laws.specs.ListLaws.{keep-ext-from, keep-none-from, keep-passes, memb-keep, from-memb, memb-head, range-length}
+use Rattle.spec.specs.Hypergraph.{foldOver, Net, Hypergraph}
+use Rattle.spec.specs.Fm.{gainNet}
 use Rattle.slots.specs.Slots.{held}
-use Rattle.slots.specs.Rising.{risingOf, memb-rising, keep-add}
+use Rattle.slots.specs.Rising.{risingOf}
 use Rattle.partition.specs.Common.{commonOf}
 use Rattle.partition.specs.Few.{Few}
-use Rattle.partition.specs.Folds.{fold-map}
 
 module _ (ws : List ℕ) (nets : ℕ) (weights : List ℕ) where
   abbrev pub netIn : ℕ → Net

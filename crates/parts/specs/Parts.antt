@@ -4,7 +4,7 @@ use mathlib.Core.Path.{_≡_, refl, _∙_, ap}
 use mathlib.Core.List.{List, [], _∷_, _++_, map}
 use Prim.Native.Nat.{ℕ, zero, suc, _+_, _-_, _%_, _≤_, _<_}
 use native.Mathlib.Omega.{arith}
-use lib.ListN.{length, getD, set, take, drop, length-map, length-append, length-drop}
+use lib.ListN.{length, getD, set, take, drop, length-map, length-drop}
 use lib.Seq.{length-take-le, take-at, drop-at, take-append-le, drop-append-le, drop-append-add, take-take, drop-drop}
 
 module _ {A : Type 0} where
@@ -32,10 +32,6 @@ module _ {A : Type 0} where
   module _ (a k : ℕ) (l y : List A) (h : a + k ≤ length l) (e : length y ≡ k) where
     front : length (take a l) ≡ a
     front = length-take-le a l (omega arith)
-
-    pub back-length : length (back a k l y) ≡ length l
-    back-length =
-        length-append (take a l) (y ++ drop k (drop a l)) ∙ omega (arith, front, length-append y (drop k (drop a l)), length-drop k (drop a l), length-drop a l, e)
 
     pub back-there : part a k (back a k l y) ≡ y
     back-there = ap (take k) (drop-at (take a l) (y ++ drop k (drop a l)) a front) ∙ take-at y (drop k (drop a l)) k e

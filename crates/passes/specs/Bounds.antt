@@ -1,9 +1,8 @@
 -- How large the counts get: a visit rebuilds once at most and tries at most 3^12 splits. Assumes nothing.
 use mathlib.Core.Bool.{Bool, _||_}
-use mathlib.Core.List.{List, [], _∷_, map}
+use mathlib.Core.List.{List, [], _∷_}
 use mathlib.Core.Option.{Option, none, some}
-use mathlib.Core.Path.{_≡_, refl}
-use Prim.Native.Nat.{ℕ, _+_, _-_, _*_, _/_, _^_, _≤_}
+use Prim.Native.Nat.{ℕ, _-_, _*_, _^_, _≤_}
 use native.Mathlib.Omega.{arith}
 use native.Mathlib.Nat.{pow-le-pow-right, div-le-self}
 use lib.Dec.{ltb}

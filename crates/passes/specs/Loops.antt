@@ -1,13 +1,13 @@
 -- The loops over nodes and over passes, turn by turn. Assumes nothing.
 use mathlib.Core.Bool.{Bool, cond}
-use mathlib.Core.List.{List, [], _∷_}
+use mathlib.Core.List.{List, _∷_}
 use mathlib.Core.Option.{Option}
 use mathlib.Core.Path.{_≡_, refl, sym, ap, ap₂, _∙_}
 use Prim.Native.Nat.{ℕ, zero, suc, _+_, _-_, _*_, _≤_, _<_}
 use native.Mathlib.Numerals.{add-one}
 use native.Mathlib.Omega.{arith}
 use lib.Dec.{eqb}
-use lib.ListN.{length, getD, drop}
+use lib.ListN.{length, getD, drop, drop-of-length-le}
 use lib.Seq.{drop-cons}
 use borrow.Author.Tests.{eq-eqb, ne-eqb, eqb-true, eqb-false}
 use Rattle.spec.specs.Network.{Network, leafCount}
@@ -69,13 +69,7 @@ module _ (N : Network) (flag : ℕ → Bool) (k : ℕ) (limit : Option ℕ) wher
       ∙ after-after d (visit N flag k limit v (d .tree)) (visits N flag k limit (drop (i + 1) vs) (visit N flag k limit v (d .tree) .tree))
 
   pub visiting-end : (whole d : Visited) (vs : List ℕ) (i : ℕ) → length vs ≤ i → Visiting whole vs i d → whole ≡ d
-  visiting-end whole d vs i h p = p ∙ ap (λ l. after d (visits N flag k limit l (d .tree))) (drop-all i vs h) ∙ then-nothing d
-    where
-      drop-all : (n : ℕ) (l : List ℕ) → length l ≤ n → drop n l ≡ []
-      drop-all zero [] h = refl
-      drop-all zero (x ∷ l) h = absurd (omega arith)
-      drop-all (suc n) [] h = refl
-      drop-all (suc n) (x ∷ l) h = drop-all n l (omega arith)
+  visiting-end whole d vs i h p = p ∙ ap (λ l. after d (visits N flag k limit l (d .tree))) (drop-of-length-le vs h) ∙ then-nothing d
 
   -- ---- passes ----
 

@@ -3,7 +3,7 @@ use mathlib.Core.Path.{_≡_, sym, ap, _∙_, subst}
 use mathlib.Core.Bool.{true, false, not}
 use mathlib.Core.List.{List, [], _∷_}
 use mathlib.Core.Option.{some}
-use Prim.Native.Nat.{ℕ, suc, _-_, _*_, _≤_, _<_}
+use Prim.Native.Nat.{ℕ, suc, _*_, _≤_, _<_}
 use native.Mathlib.Omega.{arith}
 use lib.Dec.{eqb}
 use lib.ListN.{length, getD}
@@ -28,7 +28,7 @@ use Rattle.laws.specs.FileFields.{passes-fails, tree-fails, flags-fails}
 use Rattle.laws.specs.FlatLaws.{pairs-flat}
 use Rattle.laws.specs.SliceCallLaws.{flag-back}
 use Rattle.network.specs.Record.{netOf}
-use Rattle.network.specs.Layouts.{layout-leaf-count, layout-index-count}
+use Rattle.network.specs.Layouts.{layout-index-count, leaf-count}
 use Rattle.network.specs.declared.Network.{Network as Record}
 use Rattle.pricing.specs.declared.Prices.{Prices as HandedPrices}
 use Rattle.pricing.specs.Answers.{pricesOf}
@@ -143,17 +143,13 @@ module _ {N : Network} {kids flags : List ℕ} {words : ℕ} (x : Printable N ki
 -- ---- from the record ----
 
 module _ (R : Record) where
-  pub leaf-count : leafCount (netOf R) ≡ R .«leaf_count»
-  unfolding netOf
-  leaf-count = layout-leaf-count (R .«index_count») (R .«leaf_count») (R .«output_count») (R .weights) (R .«leg_counts») (R .legs) (R .outputs)
-
   pub index-count : indexCount (netOf R) ≡ R .«index_count»
   unfolding netOf
   index-count = layout-index-count (R .«index_count») (R .«leaf_count») (R .«output_count») (R .weights) (R .«leg_counts») (R .legs) (R .outputs)
 
   pub few-counts : accepted (netOf R) ≡ true → (R .«leaf_count» ≤ 128) × (R .«index_count» ≤ 256)
   few-counts ok =
-      (omega (arith, leaf-count, accepted-means (netOf R) .0 ok .fewLeaves), omega (arith, index-count, accepted-means (netOf R) .0 ok .fewIndices))
+      (omega (arith, leaf-count R, accepted-means (netOf R) .0 ok .fewLeaves), omega (arith, index-count, accepted-means (netOf R) .0 ok .fewIndices))
 
   module _ {kids flags : List ℕ} {words : ℕ} (x : Printable (netOf R) kids flags) (enough : plainWords ≤ words) {sets₀ sizes₀ works₀ steps₀ sets sizes works steps : List ℕ} {r : Priced}
       (full : FullLists sets₀ sizes₀ works₀ steps₀)
@@ -171,5 +167,5 @@ module _ (R : Record) where
         → (p : Plan) → PlanHeld (netOf R) p kids flags → p .rebuilt ≡ improved → p .tried ≡ splits → Written out after n (planText (printed (netOf R) p))
     text-put {h} {out} {after} {n} {improved} {splits} e q =
         plan-printed x enough same-call a e (omega (arith, few-leaves x enough, full .setPlaces)) (omega (arith, few-leaves x enough, full .stepNumbers))
-        (subst (λ (y : ℕ). Put out after 0 n (planText (printedFrom y (indexCount (netOf R)) 4 h steps sets flags improved splits))) (sym leaf-count)
+        (subst (λ (y : ℕ). Put out after 0 n (planText (printedFrom y (indexCount (netOf R)) 4 h steps sets flags improved splits))) (sym (leaf-count R))
         (subst (λ (y : ℕ). Put out after 0 n (planText (printedFrom (R .«leaf_count») y 4 h steps sets flags improved splits))) (sym index-count) q))

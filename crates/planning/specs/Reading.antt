@@ -3,7 +3,7 @@ use mathlib.Core.Path.{_≡_, refl, sym, ap, ap₂, _∙_, subst}
 use mathlib.Core.Bool.{true}
 use mathlib.Core.List.{List, [], _∷_}
 use mathlib.Core.Option.{Option, none, some}
-use Prim.Native.Nat.{ℕ, zero, suc, _-_, _≤_, _<_}
+use Prim.Native.Nat.{ℕ, zero, suc, _≤_, _<_}
 use native.Mathlib.Omega.{arith}
 use lib.ListN.{length, getD, take, drop, replicate}
 use lib.Seq.{take-at, getD-take, length-take-le, ext-getD}
@@ -20,7 +20,7 @@ use Rattle.laws.specs.Accepted.{accepted-means}
 use Rattle.laws.specs.FileReads.{reads-just}
 use Rattle.laws.specs.FileLists.{fills-lists, valid-length}
 use Rattle.laws.specs.SliceCallLaws.{byte-back}
-use Rattle.putfields.specs.Put.{all-bytes}
+use Rattle.laws.specs.FileBytes.{all-bytes}
 use Rattle.network.specs.Record.{netOf}
 use Rattle.network.specs.declared.Network.{Network as Record}
 use Rattle.netfile.specs.Answers.{flagCount, treeAnswer, askAnswer, answerOf, networkIn, treeAfter, flagsAfter}

@@ -3,7 +3,7 @@ use mathlib.Core.Path.{_≡_, refl, sym, ap, _∙_, subst}
 use mathlib.Core.Bool.{true, false, cond}
 use mathlib.Core.List.{List, [], _∷_, _++_, map}
 use mathlib.Core.Option.{some}
-use Prim.Native.Nat.{ℕ, _+_, _-_, _*_, _≤_}
+use Prim.Native.Nat.{ℕ, _+_, _*_, _≤_}
 use native.Mathlib.Nat.{le-trans, mul-le-mul-right}
 use native.Mathlib.Omega.{arith}
 use lib.ListN.{length}
@@ -22,8 +22,8 @@ use Rattle.laws.specs.Accepted.{accepted-means}
 use Rattle.laws.specs.ImprovedValid.{keeps-valid}
 use Rattle.laws.specs.OrderLaws.{valid-length}
 use Rattle.laws.specs.SlicingLaws.{stays-valid}
+use Rattle.laws.specs.LayoutLaws.{map-range-at, map-range-length}
 use Rattle.cells.specs.Cells.{over-at}
-use Rattle.network.specs.Layouts.{map-range-at, map-range-length}
 use Rattle.merging.specs.Removed.{flat-length}
 use Rattle.netfile.specs.declared.Ask.{Ask as Asked}
 use Rattle.netfile.specs.declared.Ask.the-variants.{Plain, Flagged}

@@ -3,7 +3,7 @@ use mathlib.Core.Path.{_≡_, refl, sym, ap, _∙_, subst}
 use mathlib.Core.Bool.{Bool, true, false, cond}
 use mathlib.Core.List.{List, [], _∷_, _++_}
 use mathlib.Core.Option.{Option, none, some}
-use Prim.Native.Nat.{ℕ, _+_, _-_, _*_, _%_, _≤_, _<_}
+use Prim.Native.Nat.{ℕ, _-_, _*_, _%_, _≤_, _<_}
 use native.Mathlib.Omega.{arith}
 use lib.ListN.{length, getD, take}
 use borrow.Author.Tests.{le-ltb}
@@ -41,7 +41,7 @@ use Rattle.reconf.specs.declared.Visited.{Visited}
 use Rattle.reconfigure.specs.declared.Improved.{Improved}
 use Rattle.reconfigure.specs.declared.Improved.the-variants.{Refused, Done}
 use Rattle.reconfigure.specs.Answers.{countsOf, answerOf}
-use Rattle.reconfigure.specs.Improves.{over-all}
+use Rattle.cells.specs.Cells.{over-all}
 use Rattle.planning.specs.Bounds.{improve-few}
 
 -- ---- what stands in the lists ----

@@ -1,6 +1,6 @@
 -- From a plan's answer to what is written of it. Assumes nothing.
 use mathlib.Core.Path.{_≡_, refl, sym, ap, _∙_, subst}
-use mathlib.Core.Bool.{Bool, true, false, cond}
+use mathlib.Core.Bool.{true}
 use mathlib.Core.List.{List}
 use mathlib.Core.Option.{Option, some}
 use Prim.Native.Nat.{ℕ, _≤_, _<_}
@@ -17,14 +17,11 @@ use Rattle.spec.specs.Program.{planOf, printed, program}
 use Rattle.spec.specs.Text.{planText, refusedLine, outputOf}
 use Rattle.laws.specs.FlatLaws.{pairs-flat, flat-even}
 use Rattle.laws.specs.ProgramLaws.{plan-right}
+use Rattle.laws.specs.Booleans.{cond-most}
 use Rattle.reconf.specs.declared.Visited.{Visited}
 use Rattle.reconfigure.specs.declared.Improved.the-variants.{Refused, Done}
 use Rattle.planning.specs.Printing.{Written, Printable}
 use Rattle.planning.specs.Stages.{PlanHeld, planAnswer, Answers}
-
-flag-low : (b : Bool) → cond b 1 0 ≤ 1
-flag-low true = omega arith
-flag-low false = omega arith
 
 module _ (N : Network) (given : Option (List ℕ)) (ask : Ask) (kids flags : List ℕ) where
   -- the line of a refusal
@@ -69,7 +66,7 @@ module _ (N : Network) (given : Option (List ℕ)) (ask : Ask) (kids flags : Lis
         record {
           ok = ok;
           lawful = subst (λ (l : List ℕ). LawfulTree N (some l)) (sym (b .held .tree)) (flat-even (p .tree), fine);
-          low = λ j h. omega (arith, cut-at j h, b .held .flagged j h, flag-low (p .flag j));
+          low = λ j h. omega (arith, cut-at j h, b .held .flagged j h, cond-most (p .flag j) 1);
           room = length-take-le m flags (omega arith) ∙ same;
         }
 

@@ -16,9 +16,11 @@ use Rattle.laws.specs.Integers.{ℤ-semiring}
 use Rattle.spec.specs.RunClaims.{RunsToDirectSum}
 use Rattle.laws.specs.Theorem.{listing-runs}
 use Rattle.laws.specs.OrderLaws.{valid-length}
+use Rattle.laws.specs.ListLaws.{sum-same-from}
+use Rattle.laws.specs.FlatLaws.{leftOf, rightOf}
 use Rattle.slots.specs.Weigh.{openWeight, Light, open-light}
 use Rattle.network.specs.Layouts.{layout-leaf-count, layout-index-count, layout-weights, layout-weight, layout-legs}
-use Rattle.nodesets.specs.Passes.{leftOf, rightOf, nodes, withSets}
+use Rattle.nodesets.specs.Passes.{nodes, withSets}
 use Rattle.nodesets.specs.Sets.{held-withSets}
 use Rattle.nodesets.specs.Lists.{ordered-steps, SetsAre}
 use Rattle.nodebits.specs.Bits.{Effective, Known, sizeOf, nodeWork}
@@ -28,7 +30,7 @@ use Rattle.pricing.specs.declared.Prices.{Prices}
 use Rattle.pricing.specs.Answers.{totalOf, widestOf, widestIn, pricesOf}
 use Rattle.pricing.specs.Sums.{workSum, sliceShare}
 use Rattle.pricing.specs.Lines.{lines}
-use Rattle.pricing.specs.Tables.{sum-same-from, slice-sum}
+use Rattle.pricing.specs.Tables.{slice-sum}
 use Rattle.pricing.specs.Promise.{Priceable, ListingSound, PriceList}
 use Rattle.pricing.specs.Handed.{handed-is}
 use Rattle.pricing.specs.Whole.{NodesRight, nodes-right, sizes-are, works-are, steps-are, total-is, widest-is}
@@ -40,10 +42,10 @@ module _ {W m n o : ℕ} {weights counts rows outputs kids order : List ℕ} (p 
   abbrev a : List Pair
   a = pairsOf kids
 
-  leaf-count : leafCount N ≡ n
+  pub leaf-count : leafCount N ≡ n
   leaf-count = layout-leaf-count m n o weights counts rows outputs
 
-  places : nodePlaces N ≡ nodes n kids
+  pub places : nodePlaces N ≡ nodes n kids
   places = omega (arith, leaf-count, ordered-steps (p .ordered) .numbers)
 
   pub weights-light : Light (firsts m weights)

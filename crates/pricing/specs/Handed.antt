@@ -1,9 +1,9 @@
 -- What pricing hands out, read back: the steps of the lent listing, each with its node's list from the lent sets, are pricing's listing.
 -- Assumes nothing.
-use mathlib.Core.Bool.{Bool, true, _||_}
-use mathlib.Core.List.{List, [], _∷_, map}
+use mathlib.Core.Bool.{Bool, true}
+use mathlib.Core.List.{List, [], _∷_}
 use mathlib.Core.Path.{_≡_, refl, sym, ap, ap₂, _∙_}
-use Prim.Native.Nat.{ℕ, _+_, _-_, _*_, _≤_, _<_}
+use Prim.Native.Nat.{ℕ, _+_, _*_, _≤_, _<_}
 use native.Mathlib.Omega.{arith}
 use lib.Dec.{eqb}
 use lib.ListN.{length, take, drop}
@@ -12,17 +12,16 @@ use Rattle.spec.specs.Lists.{memb, keep, range}
 use Rattle.spec.specs.Members.{All}
 use Rattle.spec.specs.Memory.{over}
 use Rattle.spec.specs.Network.{Network, leafCount, indexCount}
-use Rattle.spec.specs.Tree.{Pair, Tree, node, valid}
+use Rattle.spec.specs.Tree.{Pair, node, valid}
 use Rattle.spec.specs.Price.{Step, kept, listAt, listsOf, stepAt, listing, flatSteps, madeNodes, Orders}
 use Rattle.spec.specs.Calls.{nodePlaces, stepPlaces}
 use Rattle.laws.specs.Booleans.{by-cases}
 use Rattle.laws.specs.ListLaws.{keep-ext, memb-keep-range, memb-head}
 use Rattle.laws.specs.FileLists.{over-front}
 use Rattle.laws.specs.Walks.{valid-tree}
-use Rattle.laws.specs.Arrays.{Inner, valid-inner}
+use Rattle.laws.specs.Arrays.{valid-inner}
 use Rattle.laws.specs.Ordering.{listing-orders}
 use Rattle.laws.specs.OrderLaws.{listing-length}
-use Rattle.slots.specs.Slots.{held}
 use Rattle.nodesets.specs.Passes.{withSets}
 use Rattle.nodesets.specs.Sets.{held-withSets}
 use Rattle.pricing.specs.Promise.{stepsIn, setAt, handedOut}
@@ -37,7 +36,7 @@ unfolding flatSteps
 read-flat f [] h = refl
 read-flat f (c ∷ l) (e, h) = ap₂ _∷_ (with-list c (f (c .made)) e) (read-flat f l h)
 
-flat-length : (l : List Step) → length (flatSteps l) ≡ length l * 5
+pub flat-length : (l : List Step) → length (flatSteps l) ≡ length l * 5
 unfolding flatSteps
 flat-length [] = refl
 flat-length (c ∷ l) = omega (arith, flat-length l)

@@ -7,19 +7,19 @@ use native.Mathlib.Omega.{arith}
 use native.Mathlib.Decide.{decLe}
 use lib.Dec.{ltb}
 use borrow.Author.Tests.{lt-ltb, le-ltb, ltb-true, ltb-false}
-use Rattle.spec.specs.Lists.{memb, count, keep, range, sumOf}
+use Rattle.spec.specs.Lists.{memb, count, range, sumOf}
 use Rattle.spec.specs.Network.{Network, leafCount, indexCount, legs}
 use Rattle.spec.specs.NetworkClaims.{Accepted}
 use Rattle.spec.specs.Tree.{number, node, Pair, pairsOf}
 use Rattle.spec.specs.Price.{kept, listAt, union, bits, childrenAt, stepAt, sizeAt, workAt}
 use Rattle.spec.specs.Calls.{flagAt}
 use Rattle.laws.specs.Booleans.{by-cases, or-cases, or-introl, or-intror, and-left, and-right, and-both}
-use Rattle.laws.specs.ListLaws.{memb-keep, memb-keep-range, from-memb}
+use Rattle.laws.specs.ListLaws.{memb-keep, memb-keep-range, kept-below}
 use Rattle.laws.specs.Arrays.{Inner}
-use Rattle.laws.specs.FlatLaws.{pairs-length, pair-left, pair-right}
+use Rattle.laws.specs.FlatLaws.{pairs-length, pair-left, pair-right, leftOf, rightOf}
 use Rattle.slots.specs.Slots.{held}
 use Rattle.slots.specs.Weigh.{openWeight, either}
-use Rattle.nodesets.specs.Passes.{leftOf, rightOf, nodes}
+use Rattle.nodesets.specs.Passes.{nodes}
 use Rattle.nodesets.specs.Order.{left-is, right-is}
 use Rattle.nodesets.specs.Steps.{Steps}
 use Rattle.nodesets.specs.Flow.{under, wanted, leaf-tree, under-node, wanted-left, wanted-right, listed-node, listed-leaf}
@@ -31,10 +31,6 @@ pub bits-effective : (N : Network) (flags effective : List ℕ) → Effective (N
     → bits N (flagAt flags) l ≡ sumOf (openWeight effective []) l
 bits-effective N flags effective h [] = refl
 bits-effective N flags effective h (j ∷ l) = omega (arith, h j, bits-effective N flags effective h l)
-
--- a member of a filtered range is below its end
-kept-low : (p : ℕ → Bool) (j k : ℕ) → memb j (keep p (range k)) ≡ true → j < k
-kept-low p j k e = omega (arith, from-memb j 0 k (and-right (p j) (memb j (range k)) (sym (memb-keep j p (range k)) ∙ e)))
 
 module _ (N : Network) (kids order sets : List ℕ) (W : ℕ) (steps : Steps (leafCount N) kids order)
     (inners : (v : ℕ) → leafCount N ≤ v → v < nodes (leafCount N) kids → Inner (leafCount N) (pairsOf kids) v)
@@ -63,7 +59,7 @@ module _ (N : Network) (kids order sets : List ℕ) (W : ℕ) (steps : Steps (le
   pub list-low : (v j : ℕ) → v < m → memb j (listAt N a v) ≡ true → j < indexCount N
   list-low v j h e =
       elim (decLe n v) [
-        | yes b ↦ (let x = inners v b h in kept-low (kept N (node v (x .l) (x .r))) j (indexCount N) (rw (x .here) at e))
+        | yes b ↦ (let x = inners v b h in kept-below (kept N (node v (x .l) (x .r))) (indexCount N) j (rw (x .here) at e))
         | no b ↦ acc .inRange v j (omega arith) (ap (memb j) (sym (leaf-list v (omega arith))) ∙ e)
       ]
 
@@ -141,7 +137,7 @@ module _ (N : Network) (kids order sets : List ℕ) (W : ℕ) (steps : Steps (le
         let U = union N (listAt N a (L v)) (listAt N a (R v)) in
         weighed-list effective [] (either sets W (L v) (R v)) (W * 64) U
         (λ j. count-kept j (λ i. memb i (listAt N a (L v)) || memb i (listAt N a (R v))) (indexCount N))
-        (λ j e. omega (arith, kept-low (λ i. memb i (listAt N a (L v)) || memb i (listAt N a (R v))) j (indexCount N) e))
+        (λ j e. omega (arith, kept-below (λ i. memb i (listAt N a (L v)) || memb i (listAt N a (R v))) (indexCount N) j e))
         (λ j q. ap₂ (λ (x y : Bool). x || y) (holds (L v) j (d .0) q) (holds (R v) j (d .1) q)
         ∙ union-has (listAt N a (L v)) (listAt N a (R v)) j (λ i e. list-low (L v) i (d .0) e) (λ i e. list-low (R v) i (d .1) e))
         ∙ sym (bits-effective N flags effective eff U)

@@ -13,9 +13,9 @@ use Rattle.spec.specs.Lists.{from, range, sumOf}
 use Rattle.spec.specs.Layout.{firsts}
 use Rattle.spec.specs.Price.{upTo, largest}
 use Rattle.laws.specs.ListLaws.{sum-append}
+use Rattle.laws.specs.LayoutLaws.{firsts-length, firsts-at, firsts-none, firsts-more}
 use Rattle.bits.specs.Bit.{one-shl}
 use Rattle.slots.specs.Weigh.{Light}
-use Rattle.network.specs.Layouts.{firsts-none, firsts-more, firsts-length, firsts-at}
 use Rattle.pricing.specs.declared.Total.the-variants.{Exact, Beyond}
 use Rattle.pricing.specs.declared.Widest.the-variants.{NoLeaves, Bits}
 use Rattle.pricing.specs.Answers.{totalOf, widestOf, widestIn}

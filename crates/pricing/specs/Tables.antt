@@ -1,7 +1,7 @@
 -- Sums and largest numbers over the nodes, in any order; a network's leaves by number; slice bits. Assumes nothing.
 use mathlib.Core.Bool.{Bool, false, cond}
 use mathlib.Core.Path.{_≡_, refl, sym, _∙_, ap, ap₂}
-use mathlib.Core.List.{List, [], _∷_, _++_, map}
+use mathlib.Core.List.{List, [], _∷_, map}
 use Prim.Native.Nat.{ℕ, zero, suc, _+_, _≤_, _<_}
 use native.Mathlib.Omega.{arith}
 use lib.Dec.{ltb}
@@ -12,10 +12,9 @@ use Rattle.spec.specs.Lists.{count, keep, from, range, sumOf}
 use Rattle.spec.specs.Network.{Network, leafCount, indexCount, legs, weight}
 use Rattle.spec.specs.Price.{bits, sliceBits}
 use Rattle.laws.specs.Booleans.{by-cases}
-use Rattle.laws.specs.ListLaws.{count-not-memb}
+use Rattle.laws.specs.ListLaws.{count-not-memb, sum-keep}
 use Rattle.laws.specs.Counts.{count-in, count-out}
-use Rattle.network.specs.Layouts.{map-range-at, map-range-length}
-use Rattle.nodebits.specs.Weights.{sum-cond}
+use Rattle.laws.specs.LayoutLaws.{map-range-at, map-range-length}
 use Rattle.nodesets.specs.Passes.{nodes}
 use Rattle.nodesets.specs.Steps.{Steps}
 
@@ -31,24 +30,10 @@ node-counts {n} {kids} {order} c s e v =
     (λ q. let d : n + c ≤ v = ltb-false v (n + c) q in
     count-out v n c (λ x y. omega arith) ∙ sym (count-not-memb v order (eq-false-of-not-eq-true (λ m. omega (arith, s .inner v m .1))))))
 
--- functions that agree on a stretch
-pub sum-same-from : (f g : ℕ → ℕ) (k n : ℕ) → ((v : ℕ) → k ≤ v → v < k + n → f v ≡ g v) → sumOf f (from k n) ≡ sumOf g (from k n)
-sum-same-from f g k zero h = refl
-sum-same-from f g k (suc n) h =
-    ap₂ (λ (x y : ℕ). x + y) (h k (omega arith) (omega arith)) (sum-same-from f g (suc k) n (λ v a b. h v (omega arith) (omega arith)))
-
 pub map-same-from : {A : Type 0} (f g : ℕ → A) (k n : ℕ) → ((v : ℕ) → k ≤ v → v < k + n → f v ≡ g v) → map f (from k n) ≡ map g (from k n)
 map-same-from f g k zero h = refl
 map-same-from f g k (suc n) h =
     ap₂ (λ x y. x ∷ y) (h k (omega arith) (omega arith)) (map-same-from f g (suc k) n (λ v a b. h v (omega arith) (omega arith)))
-
-pub map-append : {A B : Type 0} (f : A → B) (k l : List A) → map f (k ++ l) ≡ map f k ++ map f l
-map-append f [] l = refl
-map-append f (x ∷ k) l = ap (λ z. f x ∷ z) (map-append f k l)
-
-pub map-map : {A B C : Type 0} (g : B → C) (f : A → B) (l : List A) → map g (map f l) ≡ map (λ x. g (f x)) l
-map-map g f [] = refl
-map-map g f (x ∷ l) = ap (λ z. g (f x) ∷ z) (map-map g f l)
 
 -- a network's leaves, by number
 pub leaves-are : (N : Network) → N .leaves ≡ map (legs N) (range (leafCount N))
@@ -57,10 +42,6 @@ leaves-are N =
     (λ i h. sym (map-range-at (legs N) [] (leafCount N) i h))
 
 -- ---- slice bits ----
-
-sum-keep : (f : ℕ → ℕ) (p : ℕ → Bool) (l : List ℕ) → sumOf f (keep p l) ≡ sumOf (λ j. cond (p j) (f j) 0) l
-sum-keep f p [] = refl
-sum-keep f p (x ∷ l) = sum-cond f (p x) x (keep p l) ∙ ap (λ (y : ℕ). cond (p x) (f x) 0 + y) (sum-keep f p l)
 
 bits-clear : (N : Network) (l : List ℕ) → bits N (λ j. false) l ≡ sumOf (weight N) l
 bits-clear N [] = refl

@@ -1,7 +1,7 @@
 -- From the nodes' sets and effective weights to the price list and the answer. Assumes nothing.
 use mathlib.Core.Bool.{Bool, true, cond}
 use mathlib.Core.Path.{_≡_, refl, sym, _∙_, ap, ap₂, subst}
-use mathlib.Core.List.{List, [], _∷_, map}
+use mathlib.Core.List.{List, [], _∷_, map, map-append, map-map}
 use mathlib.Core.Option.{none, some}
 use Prim.Native.Nat.{ℕ, _+_, _*_, _^_, _≤_, _<_, max}
 use native.Mathlib.Omega.{arith}
@@ -18,13 +18,14 @@ use Rattle.spec.specs.Tree.{Pair, pairsOf, stepOrder}
 use Rattle.spec.specs.Price.{Step, listAt, bits, childrenAt, stepAt, listing, flatSteps, sizeAt, workAt, work, largest, widest}
 use Rattle.spec.specs.Calls.{flagAt}
 use Rattle.laws.specs.Booleans.{or-intror}
-use Rattle.laws.specs.ListLaws.{memb-head, from-memb, sum-map}
+use Rattle.laws.specs.ListLaws.{memb-head, from-memb, sum-map, sum-same-from}
 use Rattle.laws.specs.Counts.{sum-same}
 use Rattle.laws.specs.OrderLaws.{largest-same}
+use Rattle.laws.specs.LayoutLaws.{firsts-length}
+use Rattle.laws.specs.FlatLaws.{leftOf, rightOf}
 use Rattle.slots.specs.Slots.{held}
 use Rattle.slots.specs.Weigh.{openWeight, either}
-use Rattle.network.specs.Layouts.{firsts-length}
-use Rattle.nodesets.specs.Passes.{leftOf, rightOf, nodes}
+use Rattle.nodesets.specs.Passes.{nodes}
 use Rattle.nodesets.specs.Steps.{Steps}
 use Rattle.nodesets.specs.Flow.{leaf-tree}
 use Rattle.nodesets.specs.Lists.{Ordered, ordered-steps, ordered-inners}
@@ -34,7 +35,7 @@ use Rattle.pricing.specs.Answers.{widestIn}
 use Rattle.pricing.specs.Sums.{workSum, from-add, largest-append}
 use Rattle.pricing.specs.Lines.{lines}
 use Rattle.pricing.specs.Nodes.{nested, size-is, leaf-is, works-is, left-of, right-of}
-use Rattle.pricing.specs.Tables.{node-counts, sum-same-from, map-same-from, map-append, map-map, leaves-are}
+use Rattle.pricing.specs.Tables.{node-counts, map-same-from, leaves-are}
 
 -- each node's slot and weights are the price list's; x is the number of leaves
 pub record NodesRight (N : Network) (x W : ℕ) (kids order sets flags effective : List ℕ) : Type 0 where

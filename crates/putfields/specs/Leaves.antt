@@ -12,9 +12,10 @@ use Rattle.spec.specs.Network.{maxLegs}
 use Rattle.spec.specs.Layout.{rowAt}
 use Rattle.spec.specs.File.{field, leafFields}
 use Rattle.spec.specs.FileClaims.{Bytes}
-use Rattle.network.specs.Layouts.{firsts-length, firsts-at, map-range-more}
 use Rattle.network.specs.Checks.{Rows, leavesOf}
-use Rattle.putfields.specs.Put.{Put, put-both, put-none, put-length, all-bytes}
+use Rattle.laws.specs.LayoutLaws.{firsts-length, firsts-at, map-range-more}
+use Rattle.laws.specs.FileBytes.{all-bytes}
+use Rattle.putfields.specs.Put.{Put, put-both, put-none, put-length}
 
 -- n leaves have counts and places, and their indices are bytes
 pub record Leaves (n : ℕ) (counts cells : List ℕ) : Type 0 where

@@ -48,7 +48,3 @@ pub byte-at : (l : List ℕ) (k : ℕ) → Bytes l → k < length l → getD l k
 byte-at [] k b h = absurd (omega arith)
 byte-at (x ∷ l) zero b h = b .0
 byte-at (x ∷ l) (suc k) b h = byte-at l k (b .1) (omega arith)
-
-pub all-bytes : (l : List ℕ) → ((k : ℕ) → k < length l → getD l k 0 < 256) → Bytes l
-all-bytes [] h = tt
-all-bytes (x ∷ l) h = (h 0 (omega arith), all-bytes l (λ k b. h (suc k) (omega arith)))

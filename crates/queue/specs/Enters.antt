@@ -1,13 +1,13 @@
 -- Vertices are entered into the queue. Assumes nothing.
-use mathlib.Core.Path.{_≡_, refl, sym, ap, _∙_}
+use mathlib.Core.Path.{_≡_, ap, _∙_}
 use mathlib.Core.List.{List}
-use Prim.Native.Nat.{ℕ, _+_, _≤_, _<_}
+use Prim.Native.Nat.{ℕ, _+_, _<_}
 use lib.Ieee.{Float}
 use lib.ListN.{set}
-use Rattle.spec.specs.Draws.{Words, draw, unitDraw}
+use Rattle.spec.specs.Draws.{draw, unitDraw}
 use Rattle.spec.specs.Lists.{range}
-use Rattle.spec.specs.Hypergraph.{Hypergraph, foldOver}
-use Rattle.spec.specs.Fm.{Queue, gain, keyOf, enteredAs}
+use Rattle.spec.specs.Hypergraph.{foldOver}
+use Rattle.spec.specs.Fm.{Queue, keyOf, enteredAs}
 use Rattle.draws.specs.Cursor.{wordsAt}
 use Rattle.partition.specs.Layout.{graphIn, sidesIn, Laid}
 use Rattle.partition.specs.Gains.{IsGain}

@@ -2,20 +2,16 @@
 use mathlib.Core.Bool.{Bool, true, false, cond}
 use mathlib.Core.Option.{Option, none, some}
 use mathlib.Core.Path.{_≡_, refl, sym, ap, _∙_}
-use mathlib.Core.List.{List, [], _∷_, _++_}
-use Prim.Native.Nat.{ℕ, zero, suc, _+_, _≤_, _<_}
+use mathlib.Core.List.{List, []}
+use Prim.Native.Nat.{ℕ, _<_}
 use native.Mathlib.Omega.{arith}
-use native.Mathlib.Numerals.{add-one}
 use lib.Dec.{eqb}
 use lib.Ieee.{Float}
 use lib.ListN.{getD}
-use borrow.Author.Tests.{eqb-true, eqb-false, eq-eqb, ne-eqb}
-use Rattle.spec.specs.Lists.{from, range}
+use borrow.Author.Tests.{eq-eqb, ne-eqb}
 use Rattle.spec.specs.Floats.{zeroFloat}
 use Rattle.spec.specs.Draws.{Words, lentWords}
-use Rattle.spec.specs.Hypergraph.{foldOver}
-use Rattle.spec.specs.Fm.{Entry, above, Queue, waits, entryOf, orAbove, offered, largest}
-use Rattle.laws.specs.Booleans.{by-cases}
+use Rattle.spec.specs.Fm.{Entry, above, Queue, waits, entryOf, orAbove, offered}
 
 abbrev pub entry : Float → ℕ → ℕ → Entry
 entry x s v = record { key = x; stamp = s; vertex = v }

@@ -1,8 +1,7 @@
 -- The loop's best is the definition's, over the list of candidates. Assumes nothing.
-use mathlib.Core.Bool.{Bool, true, false, cond, _&&_}
+use mathlib.Core.Bool.{Bool, true, false, cond}
 use mathlib.Core.Path.{_≡_, refl, sym, _∙_, ap}
-use mathlib.Core.List.{List, [], _∷_, _++_}
-use mathlib.Core.Option.{Option, none, some}
+use mathlib.Core.List.{List, [], _∷_, _++_, append-nil}
 use Prim.Native.Nat.{ℕ, zero, suc, _+_, _<_}
 use native.Mathlib.Omega.{arith}
 use native.Mathlib.Numerals.{add-one}
@@ -13,7 +12,7 @@ use Rattle.laws.specs.Booleans.{by-cases}
 use Rattle.slots.specs.Rising.{keep-add}
 use Rattle.cells.specs.Loop.{turns, turns-none, turns-next, turns-ext}
 use Rattle.ranks.specs.declared.Best.{Best}
-use Rattle.ranks.specs.declared.Best.the-variants.{Nothing, Index}
+use Rattle.ranks.specs.declared.Best.the-variants.{Nothing}
 use Rattle.ranks.specs.Best.{ranked, better, considered, bestOf}
 
 -- ---- the loop ----
@@ -67,11 +66,7 @@ module _ (N : Network) (target : ℕ) (p : Plan) where
         ap bestIn (z ∙ ap (λ (x : ℕ). keep candidate (range k) ++ keep candidate (from x 1)) y)
         ∙ by-cases (candidate k)
         (λ e. rw e (in-snoc (keep candidate (range k)) k))
-        (λ e. rw e (ap bestIn (append-none (keep candidate (range k)))))
-      where
-        append-none : (l : List ℕ) → l ++ [] ≡ l
-        append-none [] = refl
-        append-none (x ∷ l) = ap (λ (k : List ℕ). x ∷ k) (append-none l)
+        (λ e. rw e (ap bestIn (append-nil (keep candidate (range k)))))
 
     -- THE LOOP FINDS THE DEFINITION'S BEST
     pub best-is : (m : ℕ) → bestOf candidate rank m ≡ bestIn (keep candidate (range m))

@@ -1,10 +1,8 @@
 -- What is asked where an index is chosen, and that the choice is the definition's. Assumes nothing.
-use mathlib.Core.Bool.{Bool, true, false, not, cond, _&&_}
-use mathlib.Core.Path.{_≡_, refl, sym, _∙_, ap, ap₂, subst}
+use mathlib.Core.Bool.{Bool, true, false, not, cond}
+use mathlib.Core.Path.{_≡_, _∙_, ap, subst}
 use mathlib.Core.List.{List}
-use Prim.Native.Nat.{ℕ, _+_, _-_, _*_, _^_, _≤_, _<_}
-use native.Mathlib.Omega.{arith}
-use lib.Dec.{ltb}
+use Prim.Native.Nat.{ℕ, _*_, _^_, _≤_, _<_}
 use lib.ListN.{length, getD}
 use Rattle.spec.specs.Lists.{memb, range, sumOf}
 use Rattle.spec.specs.Layout.{firsts, networkOf}
@@ -12,12 +10,12 @@ use Rattle.spec.specs.Network.{Network, leafCount, indexCount, weight}
 use Rattle.spec.specs.Tree.{pairsOf}
 use Rattle.spec.specs.Price.{listAt, sizeAt, workAt, listing, work}
 use Rattle.spec.specs.Calls.{flagAt}
-use Rattle.spec.specs.Slicing.{Rank, Plan, rankOf, touching, touchedSize, candidate, candidates}
+use Rattle.spec.specs.Slicing.{Plan, rankOf, touching, touchedSize, candidate, candidates}
 use Rattle.laws.specs.Booleans.{by-cases, and-left, and-right, clash}
+use Rattle.laws.specs.FlatLaws.{leftOf, rightOf}
 use Rattle.slots.specs.Slots.{held}
-use Rattle.slots.specs.Weigh.{Light, openWeight}
-use Rattle.network.specs.Layouts.{layout-leaf-count, layout-index-count, layout-weights, layout-outputs}
-use Rattle.nodesets.specs.Passes.{leftOf, rightOf, nodes}
+use Rattle.slots.specs.Weigh.{Light}
+use Rattle.nodesets.specs.Passes.{nodes}
 use Rattle.nodesets.specs.Steps.{Steps}
 use Rattle.nodesets.specs.Lists.{Ordered}
 use Rattle.tallies.specs.Nodes.{stepShare, tableShare}

@@ -2,29 +2,29 @@
 -- nothing.
 use mathlib.Core.Bool.{Bool, true, false, not, _&&_, _||_, cond, or-self}
 use mathlib.Core.Path.{_≡_, refl, sym, _∙_, ap, ap₂}
-use mathlib.Core.List.{List, [], _∷_, _++_, map}
-use Prim.Native.Nat.{ℕ, zero, suc, _+_, _-_, _*_, _^_, _≤_, _<_}
+use mathlib.Core.List.{List, [], _∷_, _++_, map, map-append, map-map}
+use Prim.Native.Nat.{ℕ, _+_, _-_, _*_, _^_, _<_}
 use native.Mathlib.Omega.{arith}
 use lib.Dec.{eqb, ltb}
 use lib.ListN.{length, getD}
 use borrow.Author.Tests.{le-ltb, lt-ltb, ltb-true}
 use Rattle.spec.specs.Lists.{memb, keep, anyb, from, range, sumOf}
-use Rattle.spec.specs.Network.{Network, leafCount, indexCount, legs, weight}
+use Rattle.spec.specs.Network.{Network, leafCount, legs, weight}
 use Rattle.spec.specs.Tree.{Pair, pairsOf, stepOrder}
 use Rattle.spec.specs.Price.{Step, listAt, bits, childrenAt, stepAt, listing, sizeAt, workAt, work}
 use Rattle.spec.specs.Slicing.{Plan, touching, above, touchedSize, candidate}
 use Rattle.laws.specs.Booleans.{by-cases, or-intror}
-use Rattle.laws.specs.ListLaws.{memb-head, from-memb, sum-append, sum-map}
+use Rattle.laws.specs.ListLaws.{memb-head, from-memb, sum-append, sum-map, sum-same-from}
 use Rattle.laws.specs.Counts.{sum-same}
-use Rattle.laws.specs.FlatLaws.{pairs-length, pair-left, pair-right}
+use Rattle.laws.specs.FlatLaws.{pairs-length, pair-left, pair-right, leftOf, rightOf}
 use Rattle.slots.specs.Slots.{held}
 use Rattle.slots.specs.Weigh.{either}
-use Rattle.nodesets.specs.Passes.{leftOf, rightOf, nodes}
+use Rattle.nodesets.specs.Passes.{nodes}
 use Rattle.nodesets.specs.Steps.{Steps}
 use Rattle.nodesets.specs.Flow.{leaf-tree}
 use Rattle.nodesets.specs.Lists.{Ordered, ordered-steps}
 use Rattle.pricing.specs.Sums.{from-add}
-use Rattle.pricing.specs.Tables.{node-counts, map-same-from, sum-same-from, map-append, map-map, leaves-are}
+use Rattle.pricing.specs.Tables.{node-counts, map-same-from, leaves-are}
 use Rattle.tallies.specs.Sums.{share-kept}
 use Rattle.tallies.specs.Nodes.{stepShare, tableShare, sizeAbove}
 

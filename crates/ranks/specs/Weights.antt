@@ -1,8 +1,8 @@
 -- The weights of the indices that may be sliced: an output's is made 0, one output after the other. Assumes nothing.
-use mathlib.Core.Bool.{Bool, true, false, cond, _||_, or-false}
-use mathlib.Core.Path.{_≡_, refl, sym, _∙_, ap}
-use mathlib.Core.List.{List, [], _∷_, _++_}
-use Prim.Native.Nat.{ℕ, _+_, _≤_}
+use mathlib.Core.Bool.{Bool, cond, _||_, or-false}
+use mathlib.Core.Path.{_≡_, sym, _∙_, ap}
+use mathlib.Core.List.{List, [], _∷_}
+use Prim.Native.Nat.{ℕ, _+_}
 use native.Mathlib.Omega.{arith}
 use native.Mathlib.Decide.{ℕ-discrete, decLe}
 use lib.Dec.{eqb}
@@ -11,10 +11,10 @@ use lib.Seq.{getD-set-same, getD-set-other}
 use borrow.Author.Tests.{eq-eqb, ne-eqb}
 use Rattle.spec.specs.Lists.{memb}
 use Rattle.spec.specs.Layout.{firsts}
-use Rattle.laws.specs.Booleans.{or-intror}
+use Rattle.laws.specs.Booleans.{or-intror, cond-le}
 use Rattle.laws.specs.ListLaws.{memb-append}
+use Rattle.laws.specs.LayoutLaws.{firsts-none, firsts-more}
 use Rattle.slots.specs.Weigh.{Light, openWeight, open-light}
-use Rattle.network.specs.Layouts.{firsts-none, firsts-more}
 
 -- the first k outputs are done
 abbrev pub Unlisted : (old outputs : List ℕ) → ℕ → List ℕ → Type 0
@@ -47,8 +47,4 @@ unlisted-next old outputs now next k x e f h j =
 pub unlisted-light : (weights flags outputs : List ℕ) (o : ℕ) (now : List ℕ) → Light weights
     → ((j : ℕ) → getD now j 0 ≡ cond (memb j (firsts o outputs)) 0 (openWeight weights flags j)) → Light now
 unlisted-light weights flags outputs o now h e j =
-    rw (e j) (pick (memb j (firsts o outputs)) (openWeight weights flags j) (open-light weights flags h j))
-  where
-    pick : (b : Bool) (x : ℕ) → x ≤ 8 → cond b 0 x ≤ 8
-    pick true x h = omega arith
-    pick false x h = h
+    rw (e j) (omega (arith, cond-le (memb j (firsts o outputs)) (openWeight weights flags j), open-light weights flags h j))

@@ -1,5 +1,5 @@
 -- The choice put together: what each call asks is there, and the best that the loop finds is the definition's. Assumes nothing.
-use mathlib.Core.Bool.{Bool, cond}
+use mathlib.Core.Bool.{cond}
 use mathlib.Core.Path.{_≡_, sym, _∙_, ap}
 use mathlib.Core.List.{List}
 use Prim.Native.Nat.{ℕ, _+_, _*_, _^_, _≤_, _<_}
@@ -10,18 +10,17 @@ use Rattle.spec.specs.Memory.{filled}
 use Rattle.spec.specs.Layout.{firsts, networkOf}
 use Rattle.spec.specs.Network.{indexCount, weight}
 use Rattle.spec.specs.Calls.{flagAt}
-use Rattle.spec.specs.Slicing.{candidates}
 use Rattle.cells.specs.Cells.{filled-length, filled-all}
 use Rattle.slots.specs.Weigh.{openWeight, either}
 use Rattle.network.specs.Layouts.{layout-index-count, layout-weights, layout-outputs}
-use Rattle.nodesets.specs.Passes.{leftOf, rightOf, nodes}
+use Rattle.nodesets.specs.Passes.{nodes}
 use Rattle.tallies.specs.Sums.{Small, Summed, share-most}
 use Rattle.tallies.specs.Nodes.{StepsKnown, TablesKnown, stepShare, tableShare, sum-le}
+use Rattle.laws.specs.FlatLaws.{leftOf, rightOf}
 use Rattle.ranks.specs.declared.Best.{Best}
 use Rattle.ranks.specs.Best.{bestOf, candidateIn, rankIn}
-use Rattle.ranks.specs.Folds.{bestIn}
 use Rattle.ranks.specs.Tables.{candidate-is}
-use Rattle.ranks.specs.Promise.{Rankable, planWith, Chosen, node-sums, Ranks, best-chosen}
+use Rattle.ranks.specs.Promise.{Rankable, planWith, Chosen, node-sums, best-chosen}
 
 -- no sum yet
 abbrev pub none : List ℕ

@@ -2,25 +2,22 @@
 -- Assumes nothing.
 use mathlib.Core.Bool.{Bool, true, false, not, _&&_, cond}
 use mathlib.Core.Path.{_≡_, refl, sym, ap, _∙_}
-use mathlib.Core.List.{List, [], _∷_, _++_, map}
-use Prim.Native.Nat.{ℕ, zero, suc, _+_, _-_, _≤_, _<_, max}
+use mathlib.Core.List.{List, [], _∷_, _++_}
+use Prim.Native.Nat.{ℕ, _+_, _-_, _≤_, _<_, max}
 use native.Mathlib.Omega.{arith}
 use native.Mathlib.Numerals.{add-one}
 use lib.Dec.{eqb, leb}
 use lib.ListN.{length, getD, set, take}
-use lib.Seq.{take-suc-set, sets, length-sets}
+use lib.Seq.{take-suc-set}
 use lib.Ieee.{Float, binary64, fin, ofInt, add, div, eq}
 use lib.IntN.{pos}
 use borrow.Author.Tests.{eq-eqb, ne-eqb, le-leb, lt-leb}
-use Rattle.spec.specs.Lists.{keep, range}
+use Rattle.spec.specs.Lists.{keep}
 use Rattle.spec.specs.Floats.{zeroFloat, wholeFloat}
-use Rattle.spec.specs.Hypergraph.{foldOver, Net, Hypergraph, vertexCount}
-use Rattle.spec.specs.Coarsen.{Ratings, rated, openPins, ratedBy}
+use Rattle.spec.specs.Hypergraph.{foldOver, Hypergraph, vertexCount}
+use Rattle.spec.specs.Coarsen.{Ratings, ratedBy}
 use Rattle.laws.specs.Booleans.{by-cases}
-use Rattle.laws.specs.ListLaws.{range-length}
-use Rattle.slots.specs.Slots.{held}
 use Rattle.slots.specs.Rising.{risingOf}
-use Rattle.partition.specs.Folds.{take-sets}
 
 abbrev pub ratingsIn : List Float → List ℕ → ℕ → Ratings
 ratingsIn rating touched k = record { rating = rating; touched = take k touched }
@@ -92,24 +89,6 @@ module _ (mates : List ℕ) (n v : ℕ) (r : Float) (u : ℕ) (t : Ratings) wher
   open-no d = rw (ne-eqb (getD mates u 0) n d) (by-cases (eqb u v) (λ e. rw e) (λ e. rw e))
 
 -- ---- a net, by the list of its pins ----
-
-keep-length : (p : ℕ → Bool) (l : List ℕ) → length (keep p l) ≤ length l
-keep-length p [] = omega arith
-keep-length p (u ∷ l) = by-cases (p u) (λ e. rw e (omega (arith, keep-length p l))) (λ e. rw e (omega (arith, keep-length p l)))
-
-kept-few : (p : ℕ → Bool) (n : ℕ) → length (keep p (range n)) ≤ n
-kept-few p n = omega (arith, keep-length p (range n), range-length 0 n)
-
-rising-few : (ws : List ℕ) (s : ℕ) → length (risingOf ws 2 s) ≤ 128
-unfolding risingOf
-rising-few ws s = kept-few (held ws 2 s) 128
-
-module _ (ws out out′ : List ℕ) (s r : ℕ) (e : r ≡ length (risingOf ws 2 s)) (f : out′ ≡ sets out 0 (risingOf ws 2 s)) (h : 128 ≤ length out) where
-  pub listed-room : r ≤ length out′
-  listed-room = omega (arith, rising-few ws s, ap length f, length-sets out 0 (risingOf ws 2 s))
-
-  pub listed-pins : take r out′ ≡ risingOf ws 2 s
-  listed-pins = ap (λ k. take k out′) e ∙ ap (take (length (risingOf ws 2 s))) f ∙ take-sets out (risingOf ws 2 s) (omega (arith, rising-few ws s))
 
 module _ (mates : List ℕ) (n v : ℕ) where
   pub net-small : (ws : List ℕ) (s k : ℕ) (pins : List ℕ) (w w′ : ℕ) (r : Float) (t : Ratings) → k ≡ length (risingOf ws 2 s) → k ≤ 64 → pins ≡ risingOf ws 2 s

@@ -1,15 +1,14 @@
 -- A region built from the table of splits: one member, or a node over two parts. Assumes nothing.
-use mathlib.Core.Bool.{true, false, cond, _&&_}
+use mathlib.Core.Bool.{true, false, cond}
 use mathlib.Core.List.{List}
-use mathlib.Core.Path.{_≡_, refl, sym, ap, ap₂, _∙_, subst}
-use Prim.Native.Nat.{ℕ, _+_, _-_, _≤_, _<_}
+use mathlib.Core.Path.{_≡_, sym, ap, ap₂, _∙_}
+use Prim.Native.Nat.{ℕ, _-_, _<_}
 use native.Mathlib.Omega.{arith}
 use lib.Count.{trailingZeros}
 use lib.Dec.{ltb}
 use lib.ListN.{getD}
 use borrow.Author.Tests.{ltb-true}
-use Rattle.spec.specs.Tree.{Pair, pairsOf}
-use Rattle.spec.specs.Improve.{Region, one, join}
+use Rattle.spec.specs.Tree.{pairsOf}
 use Rattle.laws.specs.Booleans.{by-cases, and-left, and-right}
 use Rattle.laws.specs.ArrayRebuild.{Wrote, write, buildArray}
 use Rattle.frontier.specs.Opens.{freed}

@@ -1,10 +1,9 @@
 -- One node's children written into a flat list, and a node built over two. Assumes nothing.
-use mathlib.Core.Bool.{true, false, cond, and-false}
+use mathlib.Core.Bool.{cond, and-false}
 use mathlib.Core.List.{List, [], _∷_}
 use mathlib.Core.Path.{_≡_, refl, sym, ap, ap₂, _∙_}
 use Prim.Native.Nat.{ℕ, zero, suc, _+_, _-_, _*_, _≤_, _<_}
 use native.Mathlib.Nat.{suc-mul}
-use native.Mathlib.Numerals.{add-one}
 use native.Mathlib.Omega.{arith}
 use lib.Dec.{ltb}
 use lib.ListN.{getD, set}

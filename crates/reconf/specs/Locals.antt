@@ -1,6 +1,6 @@
 -- The local indices that the code lists are the definition's, and so are the sets and weights in their numbers. Assumes nothing.
 use mathlib.Core.Bool.{Bool, true, false, not, _&&_, _||_, cond, and-comm, or-false, or-assoc}
-use mathlib.Core.List.{List, [], _∷_, _++_, append-nil}
+use mathlib.Core.List.{List, _++_, append-nil}
 use mathlib.Core.Path.{_≡_, refl, sym, ap, ap₂, _∙_}
 use mathlib.Mathlib.Data.Bool.Basic.{eq-false-of-not-eq-true}
 use Prim.Native.Nat.{ℕ, zero, suc, _+_, _-_, _^_, _≤_, _<_}
@@ -17,10 +17,9 @@ use Rattle.spec.specs.Price.{lists}
 use Rattle.spec.specs.Calls.{flagAt}
 use Rattle.spec.specs.Improve.{Front, member}
 use Rattle.laws.specs.Booleans.{by-cases, and-left, and-right}
-use Rattle.laws.specs.ListLaws.{keep-ext, keep-none-from, memb-keep, range-length, any-member, from-memb}
+use Rattle.laws.specs.ListLaws.{keep-ext, keep-none-from, memb-keep, any-member, from-memb, kept-few, memb-at}
 use Rattle.slots.specs.Slots.{held}
 use Rattle.slots.specs.Rising.{keep-add}
-use Rattle.nodesets.specs.Places.{getD-in}
 use Rattle.locals.specs.Locals.{memberHave, localTest, localWeight, LocalSets}
 use Rattle.locals.specs.Transfer.{isUnsliced, localsOf, InLocal}
 
@@ -29,13 +28,6 @@ unfoldable pub localsIn : List ℕ → List ℕ → ℕ → List ℕ → List �
 localsIn sets members m flags = keep (λ j. memberHave sets 4 members m j && not (flagAt flags j)) (range 256)
 
 -- ---- lists ----
-
-keep-short : (p : ℕ → Bool) (l : List ℕ) → length (keep p l) ≤ length l
-keep-short p [] = omega arith
-keep-short p (x ∷ l) = by-cases (p x) (λ e. rw e (omega (arith, keep-short p l))) (λ e. rw e (omega (arith, keep-short p l)))
-
-keep-most : (p : ℕ → Bool) (n : ℕ) → length (keep p (range n)) ≤ n
-keep-most p n = omega (arith, keep-short p (range n), range-length 0 n)
 
 -- from M on nothing passes
 keep-cut : (p q : ℕ → Bool) (n M : ℕ) → M ≤ n → ((j : ℕ) → j < M → p j ≡ q j) → ((j : ℕ) → M ≤ j → j < n → p j ≡ false)
@@ -61,7 +53,7 @@ put-at old l i h b =
 
 pub locals-few : (sets members : List ℕ) (m : ℕ) (flags : List ℕ) → length (localsIn sets members m flags) ≤ 256
 unfolding localsIn
-locals-few sets members m flags = keep-most (λ j. memberHave sets 4 members m j && not (flagAt flags j)) 256
+locals-few sets members m flags = kept-few (λ j. memberHave sets 4 members m j && not (flagAt flags j)) 256
 
 -- ---- the members' sets ----
 
@@ -105,7 +97,7 @@ module _ (N : Network) (flags : List ℕ) (s : Tree) (fr : Front) (sets members 
           arith,
           from-memb (getD L i 0) 0 (indexCount N)
               (and-right (isUnsliced N (flagAt flags) s fr (getD L i 0)) _
-              (sym (memb-keep (getD L i 0) (isUnsliced N (flagAt flags) s fr) (range (indexCount N))) ∙ getD-in L i h)),
+              (sym (memb-keep (getD L i 0) (isUnsliced N (flagAt flags) s fr) (range (indexCount N))) ∙ memb-at L i h)),
         )
 
     -- the words have the sets in local numbers: v is the node, c how many indices are local

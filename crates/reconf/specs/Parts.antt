@@ -1,7 +1,7 @@
 -- The visit's parts: the list of local indices, the local weights, the acceptance. Assumes nothing.
-use mathlib.Core.Bool.{Bool, true, false, not, _&&_}
+use mathlib.Core.Bool.{Bool, false, not, _&&_}
 use mathlib.Core.List.{List}
-use mathlib.Core.Path.{_≡_, refl, sym, ap, _∙_}
+use mathlib.Core.Path.{_≡_, ap, _∙_}
 use Prim.Native.Nat.{ℕ, _≤_, _<_}
 use native.Mathlib.Decide.{decLe}
 use native.Mathlib.Omega.{arith}
@@ -43,12 +43,3 @@ module _ (cost : ℕ) (u : Bool) where
 
   pub accept-none : 9007199254740992 ≤ cost → false ≡ (ltb cost 9007199254740992 && u)
   accept-none h = rw (le-ltb cost 9007199254740992 h)
-
--- an answer that was negated
-pub not-not : (b : Bool) → not b ≡ true → b ≡ false
-not-not true h = sym h
-not-not false h = refl
-
-pub not-no : (b : Bool) → not b ≡ false → b ≡ true
-not-no true h = refl
-not-no false h = sym h

@@ -1,11 +1,11 @@
 -- What the lent lists say of a node's subtree and of its frontier's members: children, work bits, lists of indices. Assumes nothing.
 use mathlib.Core.Bool.{Bool, true}
 use mathlib.Core.List.{List, [], _∷_}
-use mathlib.Core.Option.{Option, none, some, Option·some-injective, Option·none-ne-some}
+use mathlib.Core.Option.{Option, none, some, Option·some-injective}
 use mathlib.Core.Path.{_≡_, sym, ap, ap₂, _∙_}
 use Prim.Native.Nat.{ℕ, zero, suc, _+_, _-_, _≤_, _<_}
 use native.Mathlib.Omega.{arith}
-use lib.ListN.{length, getElem?}
+use lib.ListN.{length}
 use borrow.Author.Tests.{le-ltb}
 use Rattle.spec.specs.Lists.{memb, range}
 use Rattle.spec.specs.Members.{All}
@@ -15,12 +15,11 @@ use Rattle.spec.specs.Price.{lists, listsOf, listAt, kept, bits, union, stepAt}
 use Rattle.spec.specs.Improve.{weigh, workOf, Front, MostWork, swapRemove, member, openNode, openAt, mostWork, expand, frontier}
 use Rattle.laws.specs.Booleans.{and-right}
 use Rattle.laws.specs.ListLaws.{memb-keep, from-memb}
-use Rattle.laws.specs.MemberLaws.{all-append}
+use Rattle.laws.specs.MemberLaws.{all-append, got-within}
 use Rattle.laws.specs.Arrays.{children-are}
 use Rattle.laws.specs.Walks.{Placed, placed-top, valid-placed}
-use Rattle.laws.specs.FlatLaws.{pair-at}
+use Rattle.laws.specs.FlatLaws.{pair-at, leftOf, rightOf}
 use Rattle.slots.specs.Slots.{held}
-use Rattle.frontier.specs.Opens.{leftAt, rightAt}
 use Rattle.frontier.specs.Fronts.{Read}
 use Rattle.frontier.specs.Swaps.{all-swap}
 use Rattle.reprice.specs.Held.{treeOf, PriceHeld, Standing}
@@ -64,11 +63,6 @@ lists-below N h a (node v l r) d j e =
 
 -- ---- children and work bits ----
 
-there-less : (a : List Pair) (i : ℕ) (p : Pair) → getElem? a i ≡ some p → i < length a
-there-less [] i p e = absurd (Option·none-ne-some _ e)
-there-less (x ∷ a) zero p e = omega arith
-there-less (x ∷ a) (suc i) p e = omega (arith, there-less a i p e)
-
 module _ {N : Network} {flag : ℕ → Bool} {kids sets sizes works : List ℕ} (h : PriceHeld N flag kids sets sizes works)
     (long : length (pairsOf kids) ≡ leafCount N - 1)
   where
@@ -89,7 +83,7 @@ module _ {N : Network} {flag : ℕ → Bool} {kids sets sizes works : List ℕ} 
 
     below-places : (t : Tree) → Describes n a t → number t < n + (n - 1)
     below-places (leaf i) d = omega (arith, d)
-    below-places (node v l r) d = omega (arith, d .0, there-less a (v - n) _ (d .1))
+    below-places (node v l r) d = omega (arith, d .0, got-within a (v - n) _ (d .1))
 
     -- the node's slot has its list
     pub slot-has : (t : Tree) → Describes n a t → Placed n a t → (j : ℕ) → j < 256 → held sets 4 (number t) j ≡ memb j (lists N t)
@@ -98,8 +92,8 @@ module _ {N : Network} {flag : ℕ → Bool} {kids sets sizes works : List ℕ} 
     pub reads : (t : Tree) → Describes n a t → Placed n a t → Read N flag kids works n t
     reads (leaf i) d p = d
     reads (node v l r) d p =
-        let b : v - n < length a = there-less a (v - n) _ (d .1) in
-        let e : _≡_ {A = Pair} (record { left = leftAt kids n v; right = rightAt kids n v }) (record { left = number l; right = number r }) =
+        let b : v - n < length a = got-within a (v - n) _ (d .1) in
+        let e : _≡_ {A = Pair} (record { left = leftOf kids n v; right = rightOf kids n v }) (record { left = number l; right = number r }) =
         Option·some-injective _ _ (sym (pair-at kids (v - n) b) ∙ d .1) in (
           d .0,
           ap (λ (c : Pair). c .left) e,

@@ -1,5 +1,4 @@
 -- What improvement's entry answers, number and values of each case, and what it leaves in each lent list. Assumes nothing.
-use mathlib.Core.Bool.{Bool}
 use mathlib.Core.List.{List, [], _∷_}
 use mathlib.Core.Option.{Option, none, some}
 use mathlib.Core.Path.{_≡_}

@@ -1,36 +1,29 @@
 -- The checks of improvement's call, in their order. Assumes nothing.
-use mathlib.Core.Bool.{Bool, true, false, not, _||_, cond}
+use mathlib.Core.Bool.{Bool, true, false}
 use mathlib.Core.List.{List, [], _∷_, _++_}
 use mathlib.Core.Option.{Option, none, some}
 use mathlib.Core.Path.{_≡_, refl, sym, _∙_, ap, subst}
-use Prim.Native.Nat.{ℕ, _+_, _-_, _*_, _^_, _≤_, _<_, max, min}
+use Prim.Native.Nat.{ℕ, _+_, _*_, _^_, _≤_, _<_}
 use native.Mathlib.Omega.{arith}
 use lib.Dec.{ltb}
 use lib.ListN.{length}
 use borrow.Author.Tests.{lt-ltb, le-ltb}
-use Rattle.spec.specs.Lists.{anyb}
 use Rattle.spec.specs.Memory.{cleared}
-use Rattle.spec.specs.Refusal.{Refusal, tooLarge, shortBuffer, invalidTree, invalidFlags, totalBeyond, danglingIndex, numberOf, codeOf, Check, check, Result, refused, done, checked}
+use Rattle.spec.specs.Refusal.{Refusal, tooLarge, invalidTree, invalidFlags, totalBeyond, danglingIndex, numberOf, codeOf, Check, check, Result, refused, done, checked}
 use Rattle.spec.specs.Network.{Network, leafCount, indexCount, networkChecks, refusalOf}
 use Rattle.spec.specs.Tree.{Tree, Pair, treeAt, root, pairsOf}
 use Rattle.spec.specs.Improve as spec
-use Rattle.spec.specs.Improve.{clamped, improveTree, improveAt, improve}
+use Rattle.spec.specs.Improve.{clamped, improveAt, improve}
 use Rattle.spec.specs.Calls.{lent, lengthCheck, wrongTree, treeCheck, flagsCheck, flagAt, totalIsBeyond, beyondCheck, dangling, danglingCheck, improveWords, improveCall, workspaceAfter}
-use Rattle.laws.specs.Booleans.{or-introl, or-none}
-use Rattle.walk.specs.Entry.{Untouched, by-network, past-network, by-length, past-length, holds-first, passes-first, same-words, answers, same-list}
+use Rattle.laws.specs.Booleans.{or-introl}
+use Rattle.walk.specs.Entry.{Untouched, by-network, past-network, by-length, past-length, holds-first, passes-first, same-words}
 use Rattle.cost.specs.Answers.{wrongFlags}
 use Rattle.subset.specs.Search.{limitOf}
-use Rattle.reconfigure.specs.declared.Improved.the-variants.{Refused, Done}
+use Rattle.reconfigure.specs.declared.Improved.the-variants.{Refused}
 use Rattle.reconfigure.specs.declared.Improved.{Improved}
-use Rattle.reconfigure.specs.Answers.{answerOf, Answered, Reconfigures, restCall, lastCall}
+use Rattle.reconfigure.specs.Answers.{Answered, Reconfigures, restCall, lastCall}
 
 -- ---- k ----
-
-pub clamp-low : (k : ℕ) → k < 3 → 3 ≡ clamped k
-clamp-low k h = omega arith
-
-pub clamp-high : (k x : ℕ) → 3 ≤ k → x ≡ min 12 k → (x ≡ clamped k) × (3 ≤ x) × (x ≤ 12)
-clamp-high k x h e = (omega arith, omega arith, omega arith)
 
 clamped-again : (k : ℕ) → clamped (clamped k) ≡ clamped k
 clamped-again k = omega arith

@@ -1,20 +1,17 @@
 -- What the passes leave is what the definition answers. Assumes nothing.
-use mathlib.Core.Bool.{Bool, true, false, not, cond}
-use mathlib.Core.List.{List, [], _∷_, _++_}
+use mathlib.Core.Bool.{Bool, true, false, not}
+use mathlib.Core.List.{List, [], _∷_}
 use mathlib.Core.Option.{Option, none, some}
 use mathlib.Core.Path.{_≡_, refl, sym, _∙_, ap, subst}
 use Prim.Native.Nat.{ℕ, zero, suc, _+_, _-_, _*_, _^_, _≤_, _<_}
 use native.Mathlib.Decide.{decLe}
 use native.Mathlib.Omega.{arith}
-use lib.Dec.{eqb}
-use lib.ListN.{length, drop}
-use lib.Seq.{drop-length}
-use mathlib.Core.List.{append-nil}
+use lib.ListN.{length}
 use borrow.Author.Tests.{eqb-true, le-ltb}
 use Rattle.spec.specs.Memory.{over}
-use Rattle.spec.specs.Refusal.{Result, refused, done}
+use Rattle.spec.specs.Refusal.{Result, done}
 use Rattle.spec.specs.Network.{Network, leafCount}
-use Rattle.spec.specs.Tree.{Tree, leaf, Pair, treeAt, root, pairsOf, flatOf}
+use Rattle.spec.specs.Tree.{leaf, Pair, treeAt, root, pairsOf, flatOf}
 use Rattle.spec.specs.Improve as spec
 use Rattle.spec.specs.Improve.{Visited, untouched, clamped, pass, improveTree, arrayFor, improveAt, improve}
 use Rattle.spec.specs.Lists.{count}
@@ -23,7 +20,8 @@ use Rattle.spec.specs.Price as price
 use Rattle.spec.specs.Price.{exact, beyond, upTo}
 use Rattle.spec.specs.Calls.{wrongTree, flagAt, isBeyond, totalIsBeyond, dangling, improvedTree}
 use Rattle.laws.specs.Walks.{valid-tree}
-use Rattle.cells.specs.Cells.{over-fits, over-nil}
+use Rattle.laws.specs.ListLaws.{no-members}
+use Rattle.cells.specs.Cells.{over-all}
 use Rattle.walk.specs.Wrong.{few, not-wrong, not-wrong-length}
 use Rattle.reprice.specs.Held.{orLeaf, treeOf, PriceHeld, Standing}
 use Rattle.reprice.specs.Laws.{tree-of, standing-array, total-held}
@@ -34,10 +32,10 @@ use Rattle.pricing.specs.Sums.{workSum}
 use Rattle.pricing.specs.Answers.{totalOf}
 use Rattle.pricing.specs.declared.Total.the-variants.{Exact, Beyond}
 use Rattle.cost.specs.Checks.{row-places}
-use Rattle.passes.specs.Made.{Ready, Made, Improves}
+use Rattle.passes.specs.Made.{Ready, Improves}
 use Rattle.reconf.specs.declared.Visited.{Visited as Counts}
 use Rattle.reconfigure.specs.declared.Improved.{Improved}
-use Rattle.reconfigure.specs.declared.Improved.the-variants.{Refused, Done}
+use Rattle.reconfigure.specs.declared.Improved.the-variants.{Done}
 use Rattle.reconfigure.specs.Answers.{answerOf, Answered}
 
 -- ---- flat lists ----
@@ -49,9 +47,6 @@ flat-pairs j (x ∷ []) h = absurd (omega arith)
 flat-pairs zero (x ∷ y ∷ l) h = absurd (omega arith)
 flat-pairs (suc j) (x ∷ y ∷ l) h = ap (λ (r : List ℕ). x ∷ y ∷ r) (flat-pairs j l (omega arith))
 
-pub over-all : (l s : List ℕ) → length s ≡ length l → over l s ≡ s
-over-all l s e = over-fits l s (omega arith) ∙ ap (λ (n : ℕ). s ++ drop n l) e ∙ ap (λ (r : List ℕ). s ++ r) (drop-length l) ∙ append-nil s
-
 -- the length of a tree that is not wrong
 pub tree-length : (n : ℕ) (kids : List ℕ) → wrongTree n kids ≡ false → length kids ≡ (n - 1) * 2
 tree-length n kids e =
@@ -61,10 +56,6 @@ tree-length n kids e =
     ]
 
 -- ---- with no leaves ----
-
-nil-of : (l : List ℕ) → length l ≡ 0 → l ≡ []
-nil-of [] h = refl
-nil-of (x ∷ l) h = absurd (omega arith)
 
 no-tree : (n v : ℕ) → n ≡ 0 → treeAt n [] v ≡ none
 unfolding treeAt
@@ -129,8 +120,8 @@ module _ (N : Network) (k passes : ℕ) (limit : Option ℕ) (flag : ℕ → Boo
   with-none : n ≡ 0 → improve N k passes limit flag (pairsOf kids₀) ≡ record { tree = pairsOf kids; rebuilt = rebuilt; tried = tried }
   unfolding improve
   with-none z =
-      let e₀ : kids₀ ≡ [] = nil-of kids₀ (omega (arith, tree-length n kids₀ right)) in
-      let e : kids ≡ [] = nil-of kids (omega (arith, tree-length n kids₀ right)) in
+      let e₀ : kids₀ ≡ [] = no-members kids₀ (omega (arith, tree-length n kids₀ right)) in
+      let e : kids ≡ [] = no-members kids (omega (arith, tree-length n kids₀ right)) in
       let s : improveTree N flag k limit passes (treeOf n kids₀) ≡ untouched 0 (leaf 0) =
       ap (improveTree N flag k limit passes) (empty-tree n kids₀ z e₀) ∙ still N flag k limit passes 0 in
       ap (improveAt N k passes limit flag (pairsOf kids₀)) (empty-walk n kids₀ z e₀)

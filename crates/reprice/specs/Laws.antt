@@ -2,9 +2,9 @@
 -- Assumes nothing.
 use mathlib.Core.Bool.{Bool, false, cond}
 use mathlib.Core.List.{List, [], _∷_, map}
-use mathlib.Core.Option.{none, some, Option·some-injective, Option·none-ne-some}
+use mathlib.Core.Option.{none, some}
 use mathlib.Core.Path.{_≡_, refl, sym, ap, _∙_, subst}
-use Prim.Native.Nat.{ℕ, zero, suc, _+_, _-_, _^_, _≤_, _<_}
+use Prim.Native.Nat.{ℕ, _+_, _-_, _^_, _≤_, _<_}
 use native.Mathlib.Decide.{decLe}
 use native.Mathlib.Omega.{arith}
 use lib.Dec.{eqb}
@@ -19,15 +19,16 @@ use Rattle.spec.specs.Calls.{wrongTree}
 use Rattle.spec.specs.Improve.{subtree, childrenOf, arrayFor}
 use Rattle.laws.specs.Booleans.{by-cases, eqb-sym}
 use Rattle.laws.specs.Counts.{sum-same}
-use Rattle.laws.specs.ListLaws.{sum-map, from-memb}
+use Rattle.laws.specs.ListLaws.{sum-map, from-memb, sum-same-from}
 use Rattle.laws.specs.Walks.{Placed, placed-top, valid-placed, valid-tree}
 use Rattle.laws.specs.Regions.{count-node, missing}
-use Rattle.network.specs.Layouts.{map-range-at, map-range-length}
+use Rattle.laws.specs.LayoutLaws.{map-range-at, map-range-length}
+use Rattle.laws.specs.MemberLaws.{getD-there}
 use Rattle.walk.specs.Wrong.{not-wrong}
 use Rattle.nodesets.specs.Passes.{nodes}
 use Rattle.nodesets.specs.Steps.{Steps, valid-steps}
 use Rattle.pricing.specs.Sums.{workSum}
-use Rattle.pricing.specs.Tables.{node-counts, sum-same-from}
+use Rattle.pricing.specs.Tables.{node-counts}
 use Rattle.reprice.specs.Held.{orLeaf, treeOf, PriceHeld, Standing}
 
 -- ---- a number is a node's ----
@@ -69,11 +70,6 @@ valid-spot n a t d v h = spot n a v t (d .described) (valid-placed n a t d) (ome
 
 -- ---- the array of a valid tree ----
 
-pub at-there : (a : List Pair) (i : ℕ) (p q : Pair) → getElem? a i ≡ some p → getD a i q ≡ p
-at-there [] i p q e = absurd (Option·none-ne-some _ e)
-at-there (x ∷ a) zero p q e = Option·some-injective _ _ e
-at-there (x ∷ a) (suc i) p q e = at-there a i p q e
-
 pub array-of : (n : ℕ) (a : List Pair) (t : Tree) → ValidTree n a t → arrayFor n t ≡ a
 unfolding arrayFor
 array-of n a t d =
@@ -85,7 +81,7 @@ array-of n a t d =
     here : (j : ℕ) (s : Tree) → number s ≡ n + j → Describes n a s → childrenOf (some s) ≡ getD a j (childrenOf none)
     here j (leaf i) e h = absurd (omega arith)
     here j (node v l r) e h =
-        sym (at-there a j _ (childrenOf none) (ap (getElem? a) (let z : j ≡ v - n = omega arith in z) ∙ h .1))
+        sym (getD-there a j _ (childrenOf none) (ap (getElem? a) (let z : j ≡ v - n = omega arith in z) ∙ h .1))
 
     at : (j : ℕ) → Spot n a (n + j) t → childrenOf (subtree (n + j) t) ≡ getD a j (childrenOf none)
     at j x = ap childrenOf (x .found) ∙ here j (x .s) (x .name) (x .described)

@@ -13,9 +13,10 @@ use Rattle.spec.specs.Lists.{memb}
 use Rattle.spec.specs.Network.{Network}
 use Rattle.spec.specs.Tree.{Tree}
 use Rattle.spec.specs.Greedy.{share, before, keyOf, keyBefore, tooWide, mergedSize}
-use Rattle.laws.specs.Booleans.{by-cases, or-cases, or-none, clash, or-intror, eqb-self}
+use Rattle.laws.specs.Booleans.{by-cases, or-cases, or-none, clash}
 use Rattle.laws.specs.GreedyOrder.{sooner-self, sooner-asym, later-trans}
 use Rattle.laws.specs.GreedySlots.{pairAt}
+use Rattle.laws.specs.ListLaws.{memb-at}
 use Rattle.cells.specs.Loop.{turns}
 use Rattle.live.specs.Common.{shares}
 use Rattle.live.specs.Merged.{pairBits}
@@ -23,11 +24,6 @@ use Rattle.scores.specs.Scores.{keyAt, overForty, codeOf, considered, rowOf, co
 use Rattle.rows.specs.Pairs.{Says, width-is, key-is}
 
 -- ---- places of a list ----
-
-pub at-member : (l : List ℕ) (i : ℕ) → i < length l → memb (getD l i 0) l ≡ true
-at-member [] i h = absurd (omega arith)
-at-member (x ∷ l) zero h = ap (λ (b : Bool). b || memb x l) (eqb-self x)
-at-member (x ∷ l) (suc i) h = or-intror (eqb (getD l i 0) x) (memb (getD l i 0) l) (at-member l i (omega arith))
 
 pub member-at {ℓ} : {P : Type ℓ} (l : List ℕ) (u : ℕ) → memb u l ≡ true → ((i : ℕ) → i < length l → u ≡ getD l i 0 → P) → P
 member-at [] u h f = clash h refl
@@ -126,10 +122,10 @@ module _ (N : Network) (n₀ : ℕ) (tree : ℕ → Tree) where
         x = getD L k 0
 
         inx : memb x L ≡ true
-        inx = at-member L k (omega arith)
+        inx = memb-at L k (omega arith)
 
         iny : memb y L ≡ true
-        iny = at-member L q bq
+        iny = memb-at L q bq
 
         low : x < y
         low = rises k q bk bq
@@ -175,7 +171,7 @@ module _ (N : Network) (n₀ : ℕ) (tree : ℕ → Tree) where
               → ((j : ℕ) → j < k → NotBefore y (getD L i 0) (getD L j 0)) → Share x y ≡ true → RowTo L q (suc k) (next best)
           step-pair best i e b t v h s =
               let u = getD L i 0 in
-              let inu : memb u L ≡ true = at-member L i (omega arith) in
+              let inu : memb u L ≡ true = memb-at L i (omega arith) in
               let su : u < 256 = says .small u inu in
               let lu : u < y = rises i q (omega arith) bq in
               let m = mergedSize N (pairAt n₀ tree u y) in
@@ -209,7 +205,7 @@ module _ (N : Network) (n₀ : ℕ) (tree : ℕ → Tree) where
             (λ s. none (step-apart best (λ z. omega arith) s ∙ e) (all-more (λ i. Share (getD L i 0) y ≡ false) k h s))
         row-step best (over e i b s w) = over (sym (consider-refused ws W wt sizes n₀ y best x e) ∙ e) i (omega arith) s w
         row-step best (pair i e b t v h) =
-            let n : best ≡ 257 → ⊥ = λ z. code-none (mergedSize N (pairAt n₀ tree (getD L i 0) y)) (getD L i 0) (says .small (getD L i 0) (at-member L i (omega arith))) 1 (omega arith) (sym e ∙ z) in
+            let n : best ≡ 257 → ⊥ = λ z. code-none (mergedSize N (pairAt n₀ tree (getD L i 0) y)) (getD L i 0) (says .small (getD L i 0) (memb-at L i (omega arith))) 1 (omega arith) (sym e ∙ z) in
             by-cases (Share x y)
             (λ s. by-cases (TooWide x y) (λ w. step-refused best n s w) (λ w. step-pair w best i e b t v h s))
             (λ s. pair i (step-apart best n s ∙ e) (omega arith) t v (all-more (λ j. NotBefore y (getD L i 0) (getD L j 0)) k h (λ r. clash r s)))

@@ -12,11 +12,12 @@ use Rattle.spec.specs.Greedy.{Key, keyOf, keyBefore, sizeOf, mergedSize}
 use Rattle.laws.specs.Booleans.{by-cases, clash}
 use Rattle.laws.specs.GreedyOrder.{sooner-asym, later-trans}
 use Rattle.laws.specs.GreedySlots.{pairAt}
+use Rattle.laws.specs.ListLaws.{memb-at}
 use Rattle.cells.specs.Loop.{turns}
 use Rattle.scores.specs.Scores.{keyAt}
 use Rattle.rows.specs.Rows.{entryKey, bettered, leastOf, better-refused, better-over, better-none, better-first, better-sooner, better-later}
 use Rattle.rows.specs.Pairs.{key-is}
-use Rattle.rows.specs.Known.{at-member, all-more, code-slot, code-bits, code-none, Share, TooWide, Before, NotBefore, codeFor, RowTo, none, over, pair}
+use Rattle.rows.specs.Known.{all-more, code-slot, code-bits, code-none, Share, TooWide, Before, NotBefore, codeFor, RowTo, none, over, pair}
 
 module _ (N : Network) (n₀ : ℕ) (tree : ℕ → Tree) (L rows sizes : List ℕ)
     (small : (u : ℕ) → memb u L ≡ true → u < 256)
@@ -45,9 +46,9 @@ module _ (N : Network) (n₀ : ℕ) (tree : ℕ → Tree) (L rows sizes : List �
         let x = slot i in
         let y = slot q in
         let m = mergedSize N (pairAt n₀ tree x y) in
-        let inx : memb x L ≡ true = at-member L i (omega arith) in
+        let inx : memb x L ≡ true = memb-at L i (omega arith) in
         ap₂ (λ (a b : ℕ). keyAt sizes n₀ a y b) (ap (λ (c : ℕ). c % 512) e ∙ code-slot m x (small x inx)) (ap (λ (c : ℕ). c / 512) e ∙ code-bits m x (small x inx))
-        ∙ key-is N n₀ tree sizes x y (size x inx) (size y (at-member L q b)) m refl w
+        ∙ key-is N n₀ tree sizes x y (size x inx) (size y (memb-at L q b)) m refl w
 
     module _ (k : ℕ) (b : k < length L) where
       abbrev y : ℕ
@@ -59,7 +60,7 @@ module _ (N : Network) (n₀ : ℕ) (tree : ℕ → Tree) (L rows sizes : List �
       -- a table's slot is no other code
       no-code : (q : ℕ) → q < length L → (best : ℕ) → best ≡ slot q → (best ≡ 256 → ⊥) × (best ≡ 257 → ⊥)
       no-code q d best e =
-          let h : slot q < 256 = small (slot q) (at-member L q d) in (
+          let h : slot q < 256 = small (slot q) (memb-at L q d) in (
             (λ z. omega arith),
             (λ z. omega arith),
           )
@@ -72,10 +73,10 @@ module _ (N : Network) (n₀ : ℕ) (tree : ℕ → Tree) (L rows sizes : List �
           key = keyOf N (pairAt n₀ tree (slot i) y)
 
           n₁ : getD rows y 0 ≡ 256 → ⊥
-          n₁ z = code-none (mergedSize N (pairAt n₀ tree (slot i) y)) (slot i) (small (slot i) (at-member L i (omega arith))) 0 (omega arith) (sym e ∙ z)
+          n₁ z = code-none (mergedSize N (pairAt n₀ tree (slot i) y)) (slot i) (small (slot i) (memb-at L i (omega arith))) 0 (omega arith) (sym e ∙ z)
 
           n₂ : getD rows y 0 ≡ 257 → ⊥
-          n₂ z = code-none (mergedSize N (pairAt n₀ tree (slot i) y)) (slot i) (small (slot i) (at-member L i (omega arith))) 1 (omega arith) (sym e ∙ z)
+          n₂ z = code-none (mergedSize N (pairAt n₀ tree (slot i) y)) (slot i) (small (slot i) (memb-at L i (omega arith))) 1 (omega arith) (sym e ∙ z)
 
           -- the first pair
           step-first : (best : ℕ) → best ≡ 256 → ((p : ℕ) → p < k → (j : ℕ) → j < p → Share N n₀ tree (slot j) (slot p) ≡ false) → LeastTo (suc k) (next best)

@@ -12,7 +12,7 @@ use Rattle.spec.specs.Lists.{memb}
 use Rattle.spec.specs.Network.{Network}
 use Rattle.spec.specs.Tree.{Tree}
 use Rattle.spec.specs.Greedy.{keyOf, tooWide, sizeOf, mergedSize, share}
-use Rattle.laws.specs.Booleans.{by-cases, or-none}
+use Rattle.laws.specs.Booleans.{by-cases, or-none, or-turn}
 use Rattle.laws.specs.GreedySlots.{entry, pairAt}
 use Rattle.live.specs.Common.{shares}
 use Rattle.live.specs.Merged.{pairBits}
@@ -24,14 +24,6 @@ pub record Says (N : Network) (n₀ : ℕ) (tree : ℕ → Tree) (L : List ℕ) 
   pub size : (u : ℕ) → memb u L ≡ true → getD sizes u 0 ≡ sizeOf N (tree u)
   pub shared : (u v : ℕ) → memb u L ≡ true → memb v L ≡ true → shares ws W u v ≡ share N (tree u) (tree v)
   pub merged : (u v : ℕ) → memb u L ≡ true → memb v L ≡ true → u < v → pairBits ws W wt u v ≡ mergedSize N (pairAt n₀ tree u v)
-
-or-turn : (a b c : Bool) → (a || (b || c)) ≡ (c || (a || b))
-or-turn true b true = refl
-or-turn true b false = refl
-or-turn false true true = refl
-or-turn false true false = refl
-or-turn false false true = refl
-or-turn false false false = refl
 
 or-flip : (a b c : Bool) → (b || (a || c)) ≡ (c || (a || b))
 or-flip true true true = refl

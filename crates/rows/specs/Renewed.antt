@@ -16,11 +16,12 @@ use Rattle.spec.specs.Tree.{Tree}
 use Rattle.spec.specs.Greedy.{mergedSize}
 use Rattle.laws.specs.Booleans.{by-cases, clash, and-left, and-right}
 use Rattle.laws.specs.GreedySlots.{pairAt}
+use Rattle.laws.specs.ListLaws.{memb-at}
 use Rattle.cells.specs.Loop.{turns}
 use Rattle.scores.specs.Scores.{rowOf}
 use Rattle.rows.specs.Rows.{stands, renewed, renewedAll, all-length}
 use Rattle.rows.specs.Pairs.{Says}
-use Rattle.rows.specs.Known.{at-member, member-at, Rises, code-slot, Share, TooWide, NotBefore, codeFor, Known, alone, least, RowTo, none, pair, row-is, all-more}
+use Rattle.rows.specs.Known.{member-at, Rises, code-slot, Share, TooWide, NotBefore, codeFor, Known, alone, least, RowTo, none, pair, row-is, all-more}
 
 module _ (N : Network) (n₀ : ℕ) (tree : ℕ → Tree) where
   -- an entry is yet to be found, or what it says is so
@@ -40,10 +41,10 @@ module _ (N : Network) (n₀ : ℕ) (tree : ℕ → Tree) where
       -- an entry whose other table lives
       entry-row : (q c : ℕ) → q < length L → Known N n₀ tree L (getD L q 0) c → (getD L q 0 < next → (x : ℕ) → c % 512 ≡ x → x < getD L q 0 → memb x L ≡ true)
           → RowTo N n₀ tree L q q c
-      entry-row q c b (alone e h) f = none e (λ i d. h (getD L i 0) (at-member L i (omega arith)) (rises i q d b))
+      entry-row q c b (alone e h) f = none e (λ i d. h (getD L i 0) (memb-at L i (omega arith)) (rises i q d b))
       entry-row q c b (least x e l s w h) f =
           let y = getD L q 0 in
-          let iny : memb y L ≡ true = at-member L q b in
+          let iny : memb y L ≡ true = memb-at L q b in
           let ly : y < 256 = says .small y iny in
           let inx : memb x L ≡ true = f (used y iny) x (ap (λ (c : ℕ). c % 512) e ∙ code-slot (mergedSize N (pairAt n₀ tree x y)) x (omega arith)) l in
           member-at L x inx λ i d z.
@@ -51,7 +52,7 @@ module _ (N : Network) (n₀ : ℕ) (tree : ℕ → Tree) where
           pair i (subst (λ (u : ℕ). c ≡ codeFor N n₀ tree u y) z e) iq
           (subst (λ (u : ℕ). Share N n₀ tree u y ≡ true) z s)
           (subst (λ (u : ℕ). TooWide N n₀ tree u y ≡ false) z w)
-          (λ j t. subst (λ (u : ℕ). NotBefore N n₀ tree y u (getD L j 0)) z (h (getD L j 0) (at-member L j (omega arith)) (rises j q t b)))
+          (λ j t. subst (λ (u : ℕ). NotBefore N n₀ tree y u (getD L j 0)) z (h (getD L j 0) (memb-at L j (omega arith)) (rises j q t b)))
         where
           order : (i : ℕ) → i < length L → getD L i 0 < getD L q 0 → i < q
           order i d t = elim (decLe q i) [
@@ -104,10 +105,10 @@ module _ (N : Network) (n₀ : ℕ) (tree : ℕ → Tree) where
             all-more (λ q. RowTo N n₀ tree L q q (getD (after rows (suc k)) (getD L q 0) 0)) k
             (λ q b. subst (RowTo N n₀ tree L q q) (sym (renewed-other k (after rows k) (getD L q 0) (λ e. differs q k b h (sym e)))) (rows-to k (omega arith) q b))
             (let y = getD L k 0 in
-            let iny : memb y L ≡ true = at-member L k h in
+            let iny : memb y L ≡ true = memb-at L k h in
             renewed-at k (after rows k) h (omega (arith, used y iny, kept .room, all-length ws W wt sizes n₀ L rows k))
             (subst (Entry L y) (sym (after-other rows k y (λ q b. differs q k b h))) (kept .found y iny))
-            (λ u l m. after-other rows k u (λ q b e. clash (ap (λ (i : ℕ). memb i L) e ∙ at-member L q (omega arith)) m) ∙ kept .gone u l m))
+            (λ u l m. after-other rows k u (λ q b e. clash (ap (λ (i : ℕ). memb i L) e ∙ memb-at L q (omega arith)) m) ∙ kept .gone u l m))
 
         -- every entry says the least pair
         pub rows-are : (q : ℕ) → q < length L → RowTo N n₀ tree L q q (getD (after rows (length L)) (getD L q 0) 0)
@@ -116,4 +117,4 @@ module _ (N : Network) (n₀ : ℕ) (tree : ℕ → Tree) where
         -- and tables that are gone stay so
         pub rows-gone : (u : ℕ) → u < next → memb u L ≡ false → getD (after rows (length L)) u 0 ≡ 259
         rows-gone u l m =
-            after-other rows (length L) u (λ q b e. clash (ap (λ (i : ℕ). memb i L) e ∙ at-member L q b) m) ∙ kept .gone u l m
+            after-other rows (length L) u (λ q b e. clash (ap (λ (i : ℕ). memb i L) e ∙ memb-at L q b) m) ∙ kept .gone u l m

@@ -1,15 +1,15 @@
 -- What slicing with improvement asks of the lent lists. Assumes nothing.
-use mathlib.Core.Bool.{Bool, false}
+use mathlib.Core.Bool.{false}
 use mathlib.Core.List.{List}
 use mathlib.Core.Path.{_≡_}
-use Prim.Native.Nat.{ℕ, _+_, _-_, _*_, _^_, _≤_}
+use Prim.Native.Nat.{ℕ, _≤_}
 use native.Mathlib.Omega.{arith}
 use Rattle.spec.specs.Layout.{networkOf}
 use Rattle.spec.specs.Tree.{stepOrder}
 use Rattle.spec.specs.Calls.{dangling, wrongTree}
 use Rattle.network.specs.Checks.{Lent}
 use Rattle.network.specs.Codes.{Facts}
-use Rattle.nodesets.specs.Lists.{Ordered, ordered-steps}
+use Rattle.nodesets.specs.Lists.{ordered-steps}
 use Rattle.pricing.specs.Promise.{Priceable, Room}
 use Rattle.cost.specs.Checks.{priceable}
 use Rattle.passes.specs.Made.{Ready}

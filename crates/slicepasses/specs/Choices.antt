@@ -1,14 +1,13 @@
 -- A choice and the pass after it, and choice after choice. Assumes nothing.
-use mathlib.Core.Bool.{Bool, true, false, cond}
+use mathlib.Core.Bool.{Bool, true, false}
 use mathlib.Core.List.{List}
 use mathlib.Core.Option.{some}
 use mathlib.Core.Path.{_≡_, refl, sym, _∙_, ap, subst}
-use Prim.Native.Nat.{ℕ, suc, _+_, _-_, _*_, _≤_, _<_}
+use Prim.Native.Nat.{ℕ, suc, _+_, _*_, _≤_, _<_}
 use native.Mathlib.Omega.{arith}
 use lib.ListN.{length, set, length-set}
-use Rattle.spec.specs.Network.{Network, indexCount}
+use Rattle.spec.specs.Network.{Network}
 use Rattle.spec.specs.Tree.{pairsOf}
-use Rattle.spec.specs.Price.{listing, work}
 use Rattle.spec.specs.Calls.{flagAt, wrongTree}
 use Rattle.spec.specs.Improve as spec
 use Rattle.spec.specs.Improve.{improve}

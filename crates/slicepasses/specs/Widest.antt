@@ -1,9 +1,9 @@
 -- The widest table, from the size bits of a tree's price list. Assumes nothing.
 use mathlib.Core.Bool.{Bool, false, cond}
-use mathlib.Core.List.{List, map}
+use mathlib.Core.List.{List, map, map-append, map-map}
 use mathlib.Core.Option.{none, some}
 use mathlib.Core.Path.{_≡_, refl, sym, _∙_, ap, ap₂}
-use Prim.Native.Nat.{ℕ, _+_, _-_, _≤_, _<_, max}
+use Prim.Native.Nat.{ℕ, _+_, _-_, max}
 use native.Mathlib.Omega.{arith}
 use native.Mathlib.Decide.{ℕ-discrete}
 use lib.Dec.{eqb}
@@ -13,16 +13,16 @@ use Rattle.spec.specs.Lists.{from, range}
 use Rattle.spec.specs.Layout.{firsts}
 use Rattle.spec.specs.Network.{Network, leafCount, legs}
 use Rattle.spec.specs.Tree.{pairsOf, stepOrder}
-use Rattle.spec.specs.Price.{Step, bits, stepAt, listing, sizeAt, largest, widest}
+use Rattle.spec.specs.Price.{bits, stepAt, listing, sizeAt, largest, widest}
 use Rattle.spec.specs.Calls.{wrongTree}
 use Rattle.laws.specs.OrderLaws.{largest-same}
-use Rattle.network.specs.Layouts.{firsts-length}
+use Rattle.laws.specs.LayoutLaws.{firsts-length}
 use Rattle.walk.specs.Wrong.{not-wrong}
 use Rattle.nodesets.specs.Flow.{leaf-tree}
 use Rattle.nodesets.specs.Steps.{Steps, valid-steps}
 use Rattle.pricing.specs.Answers.{widestIn}
 use Rattle.pricing.specs.Sums.{from-add, largest-append}
-use Rattle.pricing.specs.Tables.{node-counts, map-same-from, map-append, map-map, leaves-are}
+use Rattle.pricing.specs.Tables.{node-counts, map-same-from, leaves-are}
 use Rattle.reprice.specs.Held.{PriceHeld}
 
 module _ {N : Network} {flag : ℕ → Bool} {kids sets sizes works : List ℕ} (right : wrongTree (leafCount N) kids ≡ false) (h : PriceHeld N flag kids sets sizes works) where

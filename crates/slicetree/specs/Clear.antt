@@ -1,5 +1,5 @@
 -- Slicing from clear flags, and the tree and the flags that go out. Assumes nothing.
-use mathlib.Core.Bool.{Bool, true, false, cond}
+use mathlib.Core.Bool.{Bool, false, cond}
 use mathlib.Core.Path.{_≡_, sym, _∙_, ap, fun-ext}
 use mathlib.Core.List.{List, map}
 use Prim.Native.Nat.{ℕ, _-_, _≤_, _<_}
@@ -15,16 +15,17 @@ use Rattle.spec.specs.Price.{upTo, listing, work}
 use Rattle.spec.specs.Calls.{plainWords, flagAt, wrongTree, isBeyond, totalIsBeyond, followUp}
 use Rattle.spec.specs.Slicing.{Plan, sliceLoop, slice}
 use Rattle.laws.specs.SliceCallLaws.{byte-back}
+use Rattle.laws.specs.LayoutLaws.{map-range-at, map-range-length}
 use Rattle.nodesets.specs.Lists.{Ordered, ordered-steps}
 use Rattle.pricing.specs.Promise.{Room}
 use Rattle.pricing.specs.Sums.{workSum}
 use Rattle.reprice.specs.Held.{PriceHeld}
-use Rattle.network.specs.Layouts.{map-range-at, map-range-length}
 use Rattle.ranks.specs.Promise.{planWith}
 use Rattle.slicing.specs.Turns.{Within}
-use Rattle.reconfigure.specs.Improves.{flat-pairs, over-all, tree-length, beyond-is}
+use Rattle.reconfigure.specs.Improves.{flat-pairs, tree-length, beyond-is}
 use Rattle.slicepasses.specs.Once.{exact-below}
 use Rattle.slicepasses.specs.Choices.{Stands}
+use Rattle.cells.specs.Cells.{over-all}
 
 -- a list of one flag an index
 abbrev pub flagsFor : Network → Plan → List ℕ

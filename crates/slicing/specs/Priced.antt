@@ -1,29 +1,25 @@
 -- After pricing the lists have what the choice asks. Assumes nothing.
-use mathlib.Core.Bool.{Bool}
 use mathlib.Core.Path.{_≡_, sym, _∙_, ap}
-use mathlib.Core.List.{List, map}
-use Prim.Native.Nat.{ℕ, _+_, _*_, _^_, _≤_, _<_}
+use mathlib.Core.List.{List}
+use Prim.Native.Nat.{ℕ, _<_}
 use native.Mathlib.Omega.{arith}
-use lib.ListN.{length, getD}
-use Rattle.spec.specs.Lists.{memb, range, sumOf}
-use Rattle.spec.specs.Memory.{over}
-use Rattle.spec.specs.Layout.{firsts, networkOf}
-use Rattle.spec.specs.Network.{Network, leafCount}
+use lib.ListN.{length}
+use Rattle.spec.specs.Lists.{memb}
+use Rattle.spec.specs.Layout.{networkOf}
+use Rattle.spec.specs.Network.{Network}
 use Rattle.spec.specs.Tree.{pairsOf}
-use Rattle.spec.specs.Price.{listAt, listing, work, upTo, widest, sizeAt, workAt, priceOf}
+use Rattle.spec.specs.Price.{listAt, listing, work, upTo, widest, sizeAt, workAt}
 use Rattle.spec.specs.Calls.{flagAt, nodePlaces}
 use Rattle.cells.specs.Cells.{over-length}
-use Rattle.network.specs.Layouts.{layout-leaf-count, layout-weights}
 use Rattle.slots.specs.Slots.{held}
-use Rattle.nodesets.specs.Passes.{nodes, withSets}
 use Rattle.nodesets.specs.Sets.{held-withSets, withSets-length}
 use Rattle.nodesets.specs.Lists.{ordered-steps}
 use Rattle.nodebits.specs.Stepped.{over-front}
 use Rattle.pricing.specs.declared.Prices.{Prices}
-use Rattle.pricing.specs.Promise.{Priceable, Room, PriceList, Pricing}
-use Rattle.pricing.specs.Final.{weights-light}
+use Rattle.pricing.specs.Promise.{Priceable, Room, Pricing}
+use Rattle.pricing.specs.Final.{weights-light, leaf-count, places}
 use Rattle.cost.specs.Back.{totalFrom, widestFrom, total-back, widest-back}
-use Rattle.ranks.specs.Promise.{Rankable, PricedTree, NodeSums, node-sums}
+use Rattle.ranks.specs.Promise.{Rankable, PricedTree, node-sums}
 use Rattle.slicing.specs.Turns.{exactOf, exact-total}
 
 module _ {W m n o : ℕ} {weights counts rows outputs kids order : List ℕ} (p : Priceable W m n o weights counts rows outputs kids order)
@@ -34,20 +30,14 @@ module _ {W m n o : ℕ} {weights counts rows outputs kids order : List ℕ} (p 
   abbrev N : Network
   N = networkOf m n o weights counts rows outputs
 
-  leaf-count : leafCount N ≡ n
-  leaf-count = layout-leaf-count m n o weights counts rows outputs
-
-  places : nodePlaces N ≡ nodes n kids
-  places = omega (arith, leaf-count, ordered-steps (p .ordered) .numbers)
-
   pub priced-tree : PricedTree W N n (flagAt flags) kids order sets sizes works
   priced-tree =
       record {
-        leaf-count = leaf-count;
+        leaf-count = leaf-count p;
         ordered = p .ordered;
-        holds = λ v j h b. ap (λ (l : List ℕ). held l W v j) (q .list .sets-are) ∙ held-withSets sets₀ W (λ v j. memb j (listAt N (pairsOf kids) v)) (nodePlaces N) v j (rw places (room .for-sets)) (omega (arith, places)) b;
-        sizes-are = λ v h. over-front sizes₀ sizes (sizeAt N (flagAt flags) (pairsOf kids)) (nodePlaces N) (omega (arith, places, room .for-sizes)) (q .list .sizes-are) v (omega (arith, places));
-        works-are = λ v h. over-front works₀ works (workAt N (flagAt flags) (pairsOf kids)) (nodePlaces N) (omega (arith, places, room .for-works)) (q .list .works-are) v (omega (arith, places));
+        holds = λ v j h b. ap (λ (l : List ℕ). held l W v j) (q .list .sets-are) ∙ held-withSets sets₀ W (λ v j. memb j (listAt N (pairsOf kids) v)) (nodePlaces N) v j (rw (places p) (room .for-sets)) (omega (arith, (places p))) b;
+        sizes-are = λ v h. over-front sizes₀ sizes (sizeAt N (flagAt flags) (pairsOf kids)) (nodePlaces N) (omega (arith, places p, room .for-sizes)) (q .list .sizes-are) v (omega (arith, (places p)));
+        works-are = λ v h. over-front works₀ works (workAt N (flagAt flags) (pairsOf kids)) (nodePlaces N) (omega (arith, places p, room .for-works)) (q .list .works-are) v (omega (arith, (places p)));
       }
 
   pub widest-is : widestFrom (r .widest) ≡ widest N (flagAt flags) (listing N (flagAt flags) (pairsOf kids))

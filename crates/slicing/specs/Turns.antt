@@ -1,15 +1,14 @@
 -- One turn of slicing, and turn after turn, in the terms of a lent list of flags. Assumes nothing.
-use mathlib.Core.Bool.{Bool, true, false, not, _||_, cond}
-use mathlib.Core.Path.{_≡_, refl, sym, _∙_, ap, fun-ext, subst}
+use mathlib.Core.Bool.{Bool, true, false, cond}
+use mathlib.Core.Path.{_≡_, refl, sym, _∙_, ap, fun-ext}
 use mathlib.Core.List.{List, [], _∷_}
-use Prim.Native.Nat.{ℕ, zero, suc, _+_, _-_, _^_, _≤_, _<_}
+use Prim.Native.Nat.{ℕ, zero, suc, _^_, _≤_, _<_}
 use native.Mathlib.Omega.{arith}
 use native.Mathlib.Decide.{ℕ-discrete}
-use lib.Dec.{eqb}
 use lib.ListN.{length, getD, set, length-set}
 use lib.Seq.{getD-set-same, getD-set-other}
 use borrow.Author.Tests.{eq-eqb, ne-eqb, lt-ltb}
-use Rattle.spec.specs.Lists.{memb, keep, range}
+use Rattle.spec.specs.Lists.{memb, range}
 use Rattle.spec.specs.Network.{Network, indexCount}
 use Rattle.spec.specs.Tree.{pairsOf}
 use Rattle.spec.specs.Price.{Total, exact, beyond, upTo, listing, work}

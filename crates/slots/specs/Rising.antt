@@ -8,12 +8,13 @@ use native.Mathlib.Nat.{suc-mul}
 use native.Mathlib.Numerals.{add-one}
 use lib.Bits.{bitAnd}
 use lib.Count.{trailingZeros, ones, ones-le}
-use lib.ListN.{length, getD, set, length-append}
-use lib.Seq.{sets}
+use lib.ListN.{length, getD, set, length-append, take}
+use lib.Seq.{sets, length-sets}
 use Rattle.spec.specs.Lists.{memb, keep, from, range}
-use Rattle.laws.specs.ListLaws.{keep-ext, memb-keep-range}
+use Rattle.laws.specs.ListLaws.{keep-ext, memb-keep-range, kept-few}
 use Rattle.bits.specs.Lowest.{Tests, places, places-step, places-none, places-ones, keep-places}
-use Rattle.slots.specs.Slots.{held, withSet, held-digit, held-with, held-with-other}
+use Rattle.cells.specs.Cells.{take-sets}
+use Rattle.slots.specs.Slots.{held, withSet, held-digit, held-with}
 
 -- the members of slot s, rising
 unfoldable pub risingOf : List ℕ → ℕ → ℕ → List ℕ
@@ -23,15 +24,25 @@ pub memb-rising : (ws : List ℕ) (W s j : ℕ) → j < W * 64 → memb j (risin
 unfolding risingOf
 memb-rising ws W s j h = memb-keep-range j (W * 64) (held ws W s) h
 
+pub rising-few : (ws : List ℕ) (W s : ℕ) → length (risingOf ws W s) ≤ W * 64
+unfolding risingOf
+rising-few ws W s = kept-few (held ws W s) (W * 64)
+
+-- the members, put at the front of a list
+module _ (ws out out′ : List ℕ) (W s r : ℕ) (e : r ≡ length (risingOf ws W s)) (f : out′ ≡ sets out 0 (risingOf ws W s)) (h : W * 64 ≤ length out) where
+  pub listed-few : r ≤ W * 64
+  listed-few = omega (arith, rising-few ws W s)
+
+  pub listed-fits : r ≤ length out′
+  listed-fits = omega (arith, rising-few ws W s, ap length f, length-sets out 0 (risingOf ws W s))
+
+  pub listed-all : take r out′ ≡ risingOf ws W s
+  listed-all = ap (λ k. take k out′) e ∙ ap (take (length (risingOf ws W s))) f ∙ take-sets out (risingOf ws W s) (omega (arith, rising-few ws W s))
+
 -- after a slot was written
 pub rising-with : (ws : List ℕ) (W s : ℕ) (p : ℕ → Bool) → s * W + W ≤ length ws → risingOf (withSet ws W s p) W s ≡ keep p (range (W * 64))
 unfolding risingOf
 rising-with ws W s p r = keep-ext (held (withSet ws W s p) W s) p (W * 64) (λ j h. held-with ws W s p j r h)
-
-pub rising-with-other : (ws : List ℕ) (W s : ℕ) (p : ℕ → Bool) (u : ℕ) → (u ≡ s → ⊥) → risingOf (withSet ws W s p) W u ≡ risingOf ws W u
-unfolding risingOf
-rising-with-other ws W s p u g =
-    keep-ext (held (withSet ws W s p) W u) (held ws W u) (W * 64) (λ j h. held-with-other ws W s p u j h g)
 
 -- ---- a range in two parts ----
 

@@ -2,18 +2,22 @@
 -- as the set that slot then holds. Assumes nothing.
 use mathlib.Core.Bool.{Bool, false, _||_, or-assoc, or-false}
 use mathlib.Core.Path.{_≡_, sym, _∙_, ap, ap₂}
-use mathlib.Core.List.{List}
+use mathlib.Core.List.{List, [], _∷_}
 use Prim.Native.Nat.{ℕ, zero, suc, _+_, _*_, _/_, _%_, _^_, _≤_, _<_}
 use native.Mathlib.Omega.{arith}
 use native.Mathlib.Numerals.{add-one}
 use native.Mathlib.Decide.{ℕ-discrete}
 use lib.Bits.{bitOr, or-lt}
 use lib.Dec.{eqb}
-use lib.ListN.{length, getD, set, length-set}
+use lib.ListN.{length, getD, set, length-set, drop}
 use lib.Pow.{pow-lt}
-use lib.Seq.{getD-set-same, getD-set-other}
+use lib.Seq.{getD-set-same, getD-set-other, getD-drop}
 use borrow.Author.Tests.{eq-eqb, ne-eqb}
+use Rattle.spec.specs.Lists.{memb}
+use Rattle.spec.specs.Layout.{firsts}
 use Rattle.bits.specs.Digits.{digit, Digitwise, or-digits, pow-digits, zero-digits}
+use Rattle.laws.specs.ListLaws.{memb-append}
+use Rattle.laws.specs.LayoutLaws.{firsts-none, firsts-more}
 use Rattle.slots.specs.Slots.{
   held,
   wordOf,
@@ -82,6 +86,23 @@ module _ (ws : List ℕ) (W s i : ℕ) where
 abbrev pub among : List ℕ → ℕ → ℕ → ℕ → Bool
 among l base zero j = false
 among l base (suc n) j = among l base n j || eqb j (getD l (base + n) 0)
+
+-- is j among the indices of leaf i, of rows of 32 places
+abbrev pub leafHas : List ℕ → List ℕ → ℕ → ℕ → Bool
+leafHas counts legs i j = among legs (i * 32) (getD counts i 0) j
+
+pub memb-firsts : (l : List ℕ) (base n j : ℕ) → memb j (firsts n (drop base l)) ≡ among l base n j
+memb-firsts l base zero j = ap (memb j) (firsts-none (drop base l))
+memb-firsts l base (suc n) j =
+    ap (λ (k : ℕ). memb j (firsts k (drop base l))) (sym (add-one n))
+    ∙ ap (memb j) (firsts-more n (drop base l))
+    ∙ memb-append j (firsts n (drop base l)) (getD (drop base l) n 0 ∷ [])
+    ∙ ap₂ (λ (x y : Bool). x || y) (memb-firsts l base n j) (or-false _ ∙ ap (eqb j) (getD-drop base l n 0))
+
+-- a slot that is emptied, and then given the places of a list
+pub refilled : (ws l r : List ℕ) (W s : ℕ) (list : List ℕ) (base n : ℕ) → l ≡ withSet ws W s (λ j. false)
+    → r ≡ withSet l W s (λ j. held l W s j || among list base n j) → r ≡ withSet ws W s (among list base n)
+refilled ws l r W s list base n e f = f ∙ rw e (withSet-then ws W s (λ j. false) (λ j x. x || among list base n j))
 
 module _ (ws : List ℕ) (W s : ℕ) (l : List ℕ) (base : ℕ) where
   -- the set of slot s with the n places of the list from `base` on

@@ -5,14 +5,13 @@ use mathlib.Core.Option.{Option, none, some}
 use Prim.Native.Nat.{ℕ, zero, suc, _-_, max}
 use lib.Dec.{eqb, leb}
 use lib.ListN.{length, getD, set, replicate}
-use lib.IntN.{pos}
 use lib.Ieee.{Float, binary64, add, mul, div, neg, lt, le}
-use Rattle.spec.specs.Lists.{keep, range}
+use Rattle.spec.specs.Lists.{range}
 use Rattle.spec.specs.Floats.{decimal, zeroFloat, micro, wholeFloat, greater, lesser}
 use Rattle.spec.specs.Draws.{Words, lentWords, Drawn, drawn, unitDraw, indexDraw}
 use Rattle.spec.specs.Refusal.{drawsExhausted, Result, refused, done, andThen}
 use Rattle.spec.specs.Network.{Network, leafCount}
-use Rattle.spec.specs.Tree.{Tree, Pair}
+use Rattle.spec.specs.Tree.{Pair}
 use Rattle.spec.specs.Greedy.{Built, joinAll, leavesOf, greedyFrom}
 use Rattle.spec.specs.Hypergraph.{until, foldOver, Net, Hypergraph, vertexCount, vertexWeight, totalWeight, netsAt, hypergraphOf, sideOf, cut}
 use Rattle.spec.specs.Fm.{fm}

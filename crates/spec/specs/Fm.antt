@@ -4,14 +4,14 @@
 use mathlib.Core.Bool.{Bool, true, false, not, _&&_, _||_, cond}
 use mathlib.Core.List.{List, [], _∷_}
 use mathlib.Core.Option.{Option, none, some}
-use Prim.Native.Nat.{ℕ, zero, suc, _+_, _-_, _*_, _/_}
+use Prim.Native.Nat.{ℕ, suc, _+_, _-_, _*_, _/_}
 use lib.Dec.{eqb, ltb}
 use lib.ListN.{length, getD, set, take, replicate}
 use lib.Ieee.{Float, binary64, add, sub, mul, lt, le, eq}
 use Rattle.spec.specs.Lists.{memb, range}
 use Rattle.spec.specs.Floats.{zeroFloat, micro, nano, roundTo}
 use Rattle.spec.specs.Draws.{Words, Drawn, drawn, unitDraw}
-use Rattle.spec.specs.Hypergraph.{until, foldOver, Net, Hypergraph, vertexCount, vertexWeight, netsAt, allPins, sideOf, otherSide, pinsOn, Sides, sidesOf, sideWeight, moved}
+use Rattle.spec.specs.Hypergraph.{until, foldOver, Hypergraph, vertexCount, vertexWeight, netsAt, allPins, sideOf, otherSide, pinsOn, Sides, sidesOf, sideWeight, moved}
 
 -- ---- gains ----
 

@@ -11,10 +11,10 @@ use lib.Seq.{getD-take, length-take-le}
 use Rattle.spec.specs.Memory.{filled}
 use Rattle.cells.specs.Loop.{turns, turns-more, turns-ext}
 use Rattle.slots.specs.Slots.{held, withSet, withSet-then}
-use Rattle.slots.specs.Writes.{among}
+use Rattle.slots.specs.Writes.{among, leafHas}
 use Rattle.slots.specs.Weigh.{weighed, either}
 use Rattle.parts.specs.Lists.{Lists, listsOf, withSets, withBits, withLive, withRows}
-use Rattle.start.specs.Leaves.{leafSet, withLeaves, outsideTo, withOutside, withSizes, putAll, startWords}
+use Rattle.start.specs.Leaves.{withLeaves, outsideTo, withOutside, withSizes, putAll, startWords}
 
 -- the sets of the leaves whose numbers the first n slots have
 abbrev pub leafSetsIn : ℕ → List ℕ → List ℕ → ℕ → Lists → Lists
@@ -60,12 +60,12 @@ module _ (w : ℕ) (counts legs : List ℕ) (M : Lists) where
   none-put = refl
 
   pub next-put : (K K′ : Lists) (y : List ℕ) (k v : ℕ) → K ≡ leafSetsIn w counts legs k M → v ≡ getD (K .nodes) k 0
-      → y ≡ withSet (K .words) w k (leafSet counts legs v) → K′ ≡ withSets K y → K′ ≡ leafSetsIn w counts legs (k + 1) M
+      → y ≡ withSet (K .words) w k (leafHas counts legs v) → K′ ≡ withSets K y → K′ ≡ leafSetsIn w counts legs (k + 1) M
   unfolding withLeaves
   next-put K K′ y k v p ev ey q =
-      q ∙ ap (withSets K) (ey ∙ ap (λ (u : ℕ). withSet (K .words) w k (leafSet counts legs u)) ev)
-      ∙ ap (λ (L : Lists). withSets L (withSet (L .words) w k (leafSet counts legs (getD (L .nodes) k 0)))) p
-      ∙ ap (withSets M) (sym (turns-more (λ i l. withSet l w i (leafSet counts legs (getD (M .nodes) i 0))) (M .words) k))
+      q ∙ ap (withSets K) (ey ∙ ap (λ (u : ℕ). withSet (K .words) w k (leafHas counts legs u)) ev)
+      ∙ ap (λ (L : Lists). withSets L (withSet (L .words) w k (leafHas counts legs (getD (L .nodes) k 0)))) p
+      ∙ ap (withSets M) (sym (turns-more (λ i l. withSet l w i (leafHas counts legs (getD (M .nodes) i 0))) (M .words) k))
 
 -- ---- one number more in slot 257 ----
 
@@ -94,7 +94,7 @@ among-front l m (suc n) j h =
 leaves-front : (w : ℕ) (counts legs l ws : List ℕ) (m : ℕ) → withLeaves w counts legs l ws m ≡ withLeaves w counts legs (take m l) ws m
 unfolding withLeaves
 leaves-front w counts legs l ws m =
-    turns-ext _ _ ws m (λ k t h. ap (λ (u : ℕ). withSet t w k (leafSet counts legs u)) (sym (getD-take m l k 0 h)))
+    turns-ext _ _ ws m (λ k t h. ap (λ (u : ℕ). withSet t w k (leafHas counts legs u)) (sym (getD-take m l k 0 h)))
 
 -- ---- the start, one list after the other ----
 

@@ -3,17 +3,17 @@ ghost use mathlib.Core.Path.{_≡_};
 ghost use Prim.Native.Nat.{_*_, _<_, _≤_};
 ghost use lib.ListN.{length, getD, take};
 ghost use Rattle.slots.specs.Slots.{withSet};
-ghost use Rattle.slots.specs.Writes.{among};
+ghost use Rattle.slots.specs.Writes.{among, leafHas};
 ghost use Rattle.slots.specs.Weigh.{Light};
 ghost use Rattle.parts.specs.Parts.{low};
 ghost use Rattle.parts.specs.Lists.{nodesIn, listsIn};
-ghost use Rattle.start.specs.Leaves.{leafSet, withOther, outsideTo, putAll};
+ghost use Rattle.start.specs.Leaves.{withOther, outsideTo, putAll};
 ghost use Rattle.start.specs.Within.{leafSetsIn, insideIn, weighedIn, preparedIn};
 
 // Makes slot `s` the set of the indices of leaf `v`.
 fn put_leaf(ws: &mut [u64], w: usize, s: usize, counts: &[u8], legs: &[u16], v: usize)
     requires { ⌜ (w ≤ 16) × (s < 1048576) × (v < 65536) ⌝ }
-    ensures { λ _. ⌜ now (ws .exit) ≡ withSet (now (ws .entry)) w s (leafSet (now (counts .entry)) (now (legs .entry)) v) ⌝ }
+    ensures { λ _. ⌜ now (ws .exit) ≡ withSet (now (ws .entry)) w s (leafHas (now (counts .entry)) (now (legs .entry)) v) ⌝ }
 {
     slots::empty(ws, w, s);
     slots::put_all(ws, w, s, legs, v * 32, cells::at8(counts, v));

@@ -10,9 +10,9 @@ use Rattle.spec.specs.Lists.{keep, from, range}
 use Rattle.spec.specs.Text.{ascii, decimal, lastDigits, spaced, linesOf, stepLine}
 use Rattle.laws.specs.Booleans.{by-cases}
 use Rattle.laws.specs.TextLaws.{decimal-length}
+use Rattle.laws.specs.LayoutLaws.{map-range-more}
 use Rattle.slots.specs.Slots.{held}
 use Rattle.slots.specs.Rising.{keep-add}
-use Rattle.network.specs.Layouts.{map-range-more}
 use Rattle.putfields.specs.Put.{Put, put-both, put-none}
 use Rattle.digits.specs.Digits.{spaced-one, spaced-append}
 use Rattle.steplines.specs.Steps.{stepFrom, stepsFrom}

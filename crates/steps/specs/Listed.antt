@@ -1,9 +1,9 @@
 -- A priced tree's listing as a value: what pricing for a list of records answers. Assumes nothing.
 use mathlib.Core.Bool.{Bool, true, false}
-use mathlib.Core.List.{List, [], _∷_, _++_, map}
+use mathlib.Core.List.{List, [], _∷_}
 use mathlib.Core.Option.{Option, none, some}
 use mathlib.Core.Path.{_≡_, refl, sym, ap, _∙_, subst}
-use Prim.Native.Nat.{ℕ, _+_, _-_, _*_, _<_, _≤_}
+use Prim.Native.Nat.{ℕ, _-_, _*_, _<_, _≤_}
 use native.Mathlib.Omega.{arith}
 use lib.Dec.{ltb}
 use lib.ListN.{length, take, drop}
@@ -11,7 +11,7 @@ use lib.Seq.{take-at}
 use borrow.Author.Tests.{le-ltb}
 use Rattle.spec.specs.Lists.{anyb}
 use Rattle.spec.specs.Memory.{over}
-use Rattle.spec.specs.Refusal.{Refusal, shortBuffer, Check, check, Result, refused, done, decide, checked, numberOf, codeOf}
+use Rattle.spec.specs.Refusal.{Refusal, shortBuffer, check, Result, refused, done, decide, checked, codeOf}
 use Rattle.spec.specs.Network.{Network, leafCount, networkChecks, refusalOf}
 use Rattle.spec.specs.Tree.{valid, pairsOf}
 use Rattle.spec.specs.Price as price
@@ -24,6 +24,7 @@ use Rattle.laws.specs.FileLists.{over-front}
 use Rattle.laws.specs.OrderLaws.{listing-length}
 use Rattle.walk.specs.Entry.{Untouched, answers, same-words}
 use Rattle.pricing.specs.Promise.{ListingSound}
+use Rattle.pricing.specs.Handed.{flat-length}
 use Rattle.cost.specs.declared.Priced.{Priced}
 use Rattle.cost.specs.declared.Priced.the-variants.{Refused, Done}
 use Rattle.cost.specs.Answers.{answerOf, room, pricedSets, TreeCost, tooFew}
@@ -35,7 +36,6 @@ use Rattle.network.specs.declared.Network.{Network as Record}
 use Rattle.memory.specs.Call.{checked-append}
 use Rattle.memory.specs.Numbers.{orShort}
 use Rattle.steps.specs.declared.Listed.{Listed}
-use Rattle.steps.specs.Records.{flat-length}
 
 -- the steps that are handed out with an answer
 abbrev pub countIn : Priced → ℕ → ℕ

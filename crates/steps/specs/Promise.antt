@@ -1,12 +1,12 @@
 -- What pricing with records promises: its answer, and each lent list afterwards. Assumes nothing.
-use mathlib.Core.List.{List, [], _∷_, map}
+use mathlib.Core.List.{List, map}
 use mathlib.Core.Path.{_≡_, refl, sym, ap, _∙_, subst}
 use Prim.Native.Nat.{ℕ, _*_, _≤_}
 use native.Mathlib.Omega.{arith}
 use lib.ListN.{length, take}
 use Rattle.spec.specs.Memory.{over}
-use Rattle.spec.specs.Refusal.{Refusal, Result, refused, done}
-use Rattle.spec.specs.Network.{Network, leafCount, indexCount}
+use Rattle.spec.specs.Refusal.{Result, refused, done}
+use Rattle.spec.specs.Network.{Network, indexCount}
 use Rattle.spec.specs.Tree.{pairsOf}
 use Rattle.spec.specs.Price as price
 use Rattle.spec.specs.Price.{listing}

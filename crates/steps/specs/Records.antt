@@ -12,6 +12,7 @@ use Rattle.spec.specs.Price as price
 use Rattle.spec.specs.Price.{flatSteps}
 use Rattle.laws.specs.LayoutLaws.{map-range-at, map-range-length, map-range-is}
 use Rattle.cells.specs.Cells.{over-length, over-at, over-past, over-fits}
+use Rattle.pricing.specs.Handed.{flat-length}
 use Rattle.steps.specs.declared.Step.{Step}
 
 -- step i of a listing of five numbers a step
@@ -106,11 +107,6 @@ numbers-of-records : (l : List price.Step) → numbersOf (map recordOf l) ≡ fl
 unfolding flatSteps
 numbers-of-records [] = refl
 numbers-of-records (c ∷ l) = ap (λ (z : List ℕ). c .made ∷ c .left ∷ c .right ∷ c .workBits ∷ c .sizeBits ∷ z) (numbers-of-records l)
-
-pub flat-length : (l : List price.Step) → length (flatSteps l) ≡ length l * 5
-unfolding flatSteps
-flat-length [] = refl
-flat-length (c ∷ l) = omega (arith, flat-length l)
 
 -- the numbers of the records that stand in front of a list
 pub records-taken : (l : List price.Step) (xs : List Step) (n : ℕ) → length l ≡ n → n ≤ length xs → take (n * 5) (numbersOf (over xs (map recordOf l))) ≡ flatSteps l

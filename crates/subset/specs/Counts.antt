@@ -10,8 +10,8 @@ use lib.Bits.{bitAnd}
 use lib.Count.{ones}
 use lib.Dec.{eqb}
 use lib.ListN.{length}
-use borrow.Author.Tests.{eq-eqb, ne-eqb, eqb-true, eqb-false}
-use Rattle.spec.specs.Lists.{from, range}
+use borrow.Author.Tests.{eq-eqb, ne-eqb, eqb-true}
+use Rattle.spec.specs.Lists.{from}
 use Rattle.spec.specs.Improve.{splitsOf, sumSubsets, passed, splitCount}
 use Rattle.laws.specs.Booleans.{by-cases}
 use Rattle.laws.specs.Masks.{placesFrom, Lowest, lowest}

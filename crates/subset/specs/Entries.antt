@@ -1,11 +1,11 @@
 -- What is found for one mask, case by case. Assumes nothing.
-use mathlib.Core.Bool.{true, false, _&&_, and-false}
-use mathlib.Core.Path.{_≡_, refl, sym, ap, _∙_}
+use mathlib.Core.Bool.{true, false, and-false}
+use mathlib.Core.Path.{_≡_, ap, _∙_}
 use Prim.Native.Nat.{ℕ, _+_, _-_, _*_, _%_, _^_, _≤_, _<_}
 use native.Mathlib.Omega.{arith}
 use lib.Bits.{bitAnd}
 use lib.Count.{ones, ones-le}
-use lib.Dec.{eqb, ltb}
+use lib.Dec.{ltb}
 use borrow.Author.Tests.{eq-eqb, ne-eqb, lt-ltb, le-ltb}
 use Rattle.bits.specs.Bit.{one-shl}
 use Rattle.subset.specs.Walk.{infinite, cheapestOf, passedOver, entryOf}

@@ -1,8 +1,8 @@
 -- What is found for a mask hangs on smaller masks alone; so the tables are filled from the lowest mask up. Assumes nothing.
-use mathlib.Core.Bool.{Bool, true, false, _||_, cond}
+use mathlib.Core.Bool.{_||_}
 use mathlib.Core.List.{List, [], _∷_}
 use mathlib.Core.Path.{_≡_, refl, sym, ap, ap₂, _∙_, subst, fun-ext}
-use Prim.Native.Nat.{ℕ, zero, suc, _+_, _-_, _*_, _/_, _%_, _^_, _≤_, _<_}
+use Prim.Native.Nat.{ℕ, _+_, _-_, _*_, _/_, _%_, _≤_, _<_}
 use native.Mathlib.Numerals.{add-one}
 use native.Mathlib.Omega.{arith}
 use lib.Bits.{bitAnd, and-le-r}
@@ -13,11 +13,12 @@ use lib.Pow.{pow-mono}
 use lib.Seq.{getD-set-same, getD-set-other}
 use borrow.Author.Tests.{eqb-true, eqb-false}
 use Rattle.laws.specs.Booleans.{by-cases}
-use Rattle.laws.specs.Masks.{submasks, Down, Under, down-under, submasks-first, submasks-down}
+use Rattle.laws.specs.Masks.{Down, Under, down-under, submasks-first, submasks-down}
 use Rattle.bits.specs.Digits.{digit}
 use Rattle.slots.specs.Slots.{held}
 use Rattle.slots.specs.Weigh.{weighed-ext}
 use Rattle.masks.specs.Tables.{workAt, Tables}
+use Rattle.masks.specs.Singles.{own-bits}
 use Rattle.subset.specs.Walk.{
   infinite,
   considered,
@@ -31,7 +32,6 @@ use Rattle.subset.specs.Walk.{
   bestAt,
   splitAt,
 }
-use Rattle.subset.specs.Walking.{own-bits}
 use Rattle.subset.specs.Entries.{few-ones}
 use Rattle.subset.specs.declared.Choice.{Choice}
 use Rattle.subset.specs.declared.Entry.{Entry}

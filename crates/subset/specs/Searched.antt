@@ -1,25 +1,24 @@
 -- The tables, filled, have the search's answer and its count. Assumes nothing.
-use mathlib.Core.Bool.{Bool, true, false, not, _&&_, _||_, or-self, cond}
-use mathlib.Core.List.{List, [], _∷_}
+use mathlib.Core.Bool.{Bool, _&&_, _||_, or-self}
+use mathlib.Core.List.{List, []}
 use mathlib.Core.Option.{Option, none, some}
 use mathlib.Core.Path.{_≡_, refl, sym, ap, ap₂, _∙_, subst}
-use Prim.Native.Nat.{ℕ, zero, suc, _+_, _-_, _*_, _^_, _≤_, _<_}
-use native.Mathlib.Nat.{suc-mul}
+use Prim.Native.Nat.{ℕ, suc, _+_, _-_, _*_, _^_, _≤_, _<_}
 use native.Mathlib.Omega.{arith}
-use lib.Dec.{eqb, ltb}
+use lib.Dec.{ltb}
 use lib.ListN.{length, getD}
-use borrow.Author.Tests.{lt-ltb, le-ltb, ltb-true, ltb-false}
-use Rattle.spec.specs.Lists.{keep, from, range, sumOf}
-use Rattle.spec.specs.Improve.{Region, Found, overLimit, keeps, passed, splitWork, cheapest, splitCount}
+use borrow.Author.Tests.{lt-ltb, le-ltb, ltb-false}
+use Rattle.spec.specs.Lists.{keep, range}
+use Rattle.spec.specs.Improve.{Found, overLimit, keeps, passed, splitWork, cheapest, splitCount}
 use Rattle.laws.specs.Booleans.{by-cases}
 use Rattle.laws.specs.Fuel.{best-same}
-use Rattle.laws.specs.ListLaws.{range-length}
+use Rattle.laws.specs.ListLaws.{range-length, keep-length, sum-bound}
 use Rattle.laws.specs.Masks.{placesFrom}
 use Rattle.slots.specs.Slots.{held}
-use Rattle.slots.specs.Weigh.{Light, openWeight, weighed, either, weighed-ext, sum-bound, open-light}
-use Rattle.masks.specs.Tables.{memberHas, rootHas, keepsIn, United, KeptBelow, workAt}
+use Rattle.slots.specs.Weigh.{Light, openWeight, weighed, either, weighed-ext, open-light}
+use Rattle.masks.specs.Tables.{memberHas, rootHas, United, KeptBelow, workAt}
 use Rattle.masks.specs.Singles.{own-bits}
-use Rattle.subset.specs.Walk.{infinite, passedOver, triedOf, Filled, bestAt, splitAt}
+use Rattle.subset.specs.Walk.{infinite, passedOver, Filled, bestAt, splitAt}
 use Rattle.subset.specs.Regions.{regionOf}
 use Rattle.subset.specs.Stands.{Stands}
 use Rattle.subset.specs.Whole.{tables-stand}
@@ -28,10 +27,6 @@ use Rattle.subset.specs.Sets.{full-places, not-full, keeps-is}
 use Rattle.subset.specs.Search.{limitOf, localBits, foundAt, searchedIn, triedIn}
 
 -- ---- the limit ----
-
-keep-most : (p : ℕ → Bool) (l : List ℕ) → length (keep p l) ≤ length l
-keep-most p [] = omega arith
-keep-most p (x ∷ l) = by-cases (p x) (λ e. rw e (omega (arith, keep-most p l))) (λ e. rw e (omega (arith, keep-most p l)))
 
 eights : (a b : ℕ) → a ≤ b → a * 8 ≤ b * 8
 eights a b h = omega arith
@@ -42,7 +37,7 @@ bits-most wt p n h =
     omega (
       arith,
       sum-bound (openWeight wt []) 8 (keep p (range n)) (open-light wt [] h),
-      eights (length (keep p (range n))) n (omega (arith, keep-most p (range n), range-length 0 n)),
+      eights (length (keep p (range n))) n (omega (arith, keep-length p (range n), range-length 0 n)),
     )
 
 limit-is : (x w : ℕ) → w ≤ 65536 → overLimit w (limitOf x) ≡ ltb x w

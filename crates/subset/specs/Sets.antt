@@ -1,10 +1,10 @@
 -- The sets of the masks are those that the search speaks of: the members outside a mask, the full mask, and what a mask keeps.
 -- Assumes nothing.
-use mathlib.Core.Bool.{Bool, true, false, not, _&&_, _||_, or-self, or-false}
-use mathlib.Core.List.{List, [], _∷_}
+use mathlib.Core.Bool.{Bool, not, _&&_, _||_, or-self, or-false}
+use mathlib.Core.List.{List}
 use mathlib.Core.Option.{Option}
-use mathlib.Core.Path.{_≡_, refl, sym, ap, ap₂, _∙_}
-use Prim.Native.Nat.{ℕ, zero, suc, _+_, _-_, _*_, _/_, _%_, _^_, _≤_, _<_}
+use mathlib.Core.Path.{_≡_, sym, ap, ap₂, _∙_}
+use Prim.Native.Nat.{ℕ, zero, suc, _+_, _-_, _/_, _%_, _^_, _≤_, _<_}
 use native.Mathlib.Decide.{ℕ-discrete}
 use native.Mathlib.Nat.{two-pow-succ}
 use native.Mathlib.Omega.{arith}
@@ -12,15 +12,15 @@ use lib.Count.{ones, ones-step, ones-ones, ones-le}
 use lib.Dec.{eqb, ltb}
 use lib.ListN.{length}
 use borrow.Author.Tests.{eq-eqb, ne-eqb, lt-ltb, le-ltb}
-use Rattle.spec.specs.Lists.{memb, anyb, keep, from, range}
+use Rattle.spec.specs.Lists.{memb, anyb, range}
 use Rattle.spec.specs.Improve.{otherMembers, keeps}
 use Rattle.laws.specs.ListLaws.{keep-ext, keep-all-from, memb-keep-range}
 use Rattle.laws.specs.Masks.{placesFrom}
-use Rattle.bits.specs.Bit.{bit, bit-zero, bit-suc}
+use Rattle.bits.specs.Bit.{bit-zero, bit-suc}
 use Rattle.bits.specs.Digits.{digit, zero-digits}
 use Rattle.bits.specs.Lowest.{places, places-ones}
 use Rattle.slots.specs.Slots.{held}
-use Rattle.masks.specs.Tables.{memberHas, rootHas, unionHas, keepsIn, United}
+use Rattle.masks.specs.Tables.{memberHas, rootHas, keepsIn, United}
 use Rattle.masks.specs.Singles.{own-bits, no-bits, both-places, same-places}
 
 -- ---- the members outside a mask ----

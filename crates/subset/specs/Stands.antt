@@ -1,16 +1,16 @@
 -- Tables and masks stand for the answers of the search: the walk over one mask's splits gives what `cheapestBy` gives for its members.
 -- Assumes nothing.
-use mathlib.Core.Bool.{Bool, true, false, cond}
+use mathlib.Core.Bool.{Bool, false}
 use mathlib.Core.List.{List, [], _∷_, map}
 use mathlib.Core.Option.{Option, none, some}
 use mathlib.Core.Path.{_≡_, refl, sym, ap, ap₂, _∙_, subst}
-use Prim.Native.Nat.{ℕ, zero, suc, _+_, _-_, _^_, _≤_, _<_}
+use Prim.Native.Nat.{ℕ, _+_, _-_, _^_, _≤_, _<_}
 use native.Mathlib.Omega.{arith}
 use lib.Bits.{bitAnd}
 use lib.Dec.{ltb}
 use lib.ListN.{drop}
 use borrow.Author.Tests.{ltb-true, ltb-false}
-use Rattle.spec.specs.Improve.{Split, Region, one, join, Found, withLow, splitsOf, cheaper, joinedBy, splitWork, passed, scan, cheapestBy}
+use Rattle.spec.specs.Improve.{Region, join, Found, withLow, splitsOf, cheaper, joinedBy, splitWork, passed, scan, cheapestBy}
 use Rattle.laws.specs.Booleans.{by-cases}
 use Rattle.laws.specs.Masks.{placesFrom, submasks, cutOf, Below, Under, Down, Lowest, lowest, submasks-below, submasks-down, submasks-first, submasks-parts, down-under}
 use Rattle.subset.specs.Walk.{infinite, considered, scanMasks, cheapestOf}

@@ -1,21 +1,17 @@
 -- The loop over the sub-masks of one mask: its start, a turn, and its end. Assumes nothing.
 use mathlib.Core.List.{List, [], _∷_}
 use mathlib.Core.Path.{_≡_, sym, ap, _∙_, subst}
-use Prim.Native.Nat.{ℕ, zero, suc, _+_, _-_, _^_, _≤_, _<_}
-use native.Mathlib.Nat.{two-pow-succ}
+use Prim.Native.Nat.{ℕ, _+_, _-_, _^_, _≤_, _<_}
 use native.Mathlib.Omega.{arith}
 use lib.Bits.{bitAnd}
 use lib.Dec.{ltb}
 use lib.ListN.{drop}
 use borrow.Author.Tests.{ltb-true}
 use Rattle.laws.specs.Booleans.{by-cases}
-use Rattle.laws.specs.Masks.{submasks, Down, submasks-first, submasks-down}
+use Rattle.laws.specs.Masks.{Down, submasks-first, submasks-down}
+use Rattle.masks.specs.Singles.{own-bits}
 use Rattle.subset.specs.Walk.{infinite, considered, scanMasks, cheapestOf}
 use Rattle.subset.specs.declared.Choice.{Choice}
-
-pub own-bits : (x : ℕ) → x < 2 ^ x
-own-bits zero = omega arith
-own-bits (suc x) = omega (arith, own-bits x, two-pow-succ x)
 
 module _ (best : ℕ → ℕ) (work : ℕ → ℕ → ℕ) (n low rest : ℕ) where
   -- no choice costs more than the one before it

@@ -1,16 +1,16 @@
 -- Filled tables stand for the search: every mask's entry is the answer for its members, with the tree that the splits describe.
 -- Assumes nothing.
-use mathlib.Core.Bool.{Bool, true, false, cond}
-use mathlib.Core.List.{List, [], _∷_}
+use mathlib.Core.Bool.{Bool, true, false}
+use mathlib.Core.List.{List, [], _∷_, head-eq-of-cons-eq}
 use mathlib.Core.Option.{Option, none, some}
 use mathlib.Core.Path.{_≡_, refl, sym, ap, _∙_, subst}
-use Prim.Native.Nat.{ℕ, zero, suc, _+_, _-_, _/_, _%_, _^_, _≤_, _<_}
+use Prim.Native.Nat.{ℕ, zero, suc, _-_, _/_, _%_, _^_, _≤_, _<_}
 use native.Mathlib.Omega.{arith}
 use lib.Bits.{bitAnd, and-le-r}
 use lib.Count.{ones, trailingZeros}
 use lib.Dec.{eqb}
 use lib.ListN.{length}
-use borrow.Author.Tests.{eqb-true, eqb-false, ne-eqb, eq-eqb}
+use borrow.Author.Tests.{eqb-true, eqb-false}
 use Rattle.spec.specs.Improve.{Region, one, join, Found, splitWork, passed, cheapest}
 use Rattle.laws.specs.Booleans.{by-cases}
 use Rattle.laws.specs.Fuel.{best-same}
@@ -36,10 +36,7 @@ lowest-same n s l a b c =
     let k : Lowest 0 64 s (bitAnd s (s - 1)) = lowest 0 64 s a c in
     let e : l .place ∷ placesFrom 0 n (bitAnd s (s - 1)) ≡ k .place ∷ placesFrom 0 64 (bitAnd s (s - 1)) =
     sym (l .all) ∙ same-places n 64 0 s b c ∙ k .all in
-    head _ _ _ _ e ∙ lowest-place 64 s k a c
-  where
-    head : (x y : ℕ) (u v : List ℕ) → x ∷ u ≡ y ∷ v → x ≡ y
-    head x y u v e = cc
+    head-eq-of-cons-eq e ∙ lowest-place 64 s k a c
 
 module _ (n m : ℕ) (has : ℕ → ℕ → Bool) (ext : ℕ → Bool) (weigh : (ℕ → Bool) → ℕ) (limited : Option ℕ)
     (best split : ℕ → ℕ) (work : ℕ → ℕ → ℕ) (limit tried : ℕ)

@@ -6,19 +6,18 @@ use Prim.Native.Nat.{ℕ, zero, suc, _+_, _*_, _^_, _≤_, _<_}
 use native.Mathlib.Omega.{arith}
 use native.Mathlib.Numerals.{add-one}
 use native.Mathlib.Nat.{lt-of-not-le}
-use native.Mathlib.Decide.{decLe}
 use lib.Dec.{ltb}
 use lib.ListN.{length, getD, take, take-append-drop, drop}
 use lib.Pow.{pow-mono}
 use lib.Seq.{take-suc, take-length}
 use Rattle.spec.specs.Lists.{memb, keep, from, range, sumOf}
-use Rattle.laws.specs.ListLaws.{sum-append, range-length}
+use Rattle.laws.specs.ListLaws.{sum-append, range-length, memb-at, sum-bound}
 use Rattle.laws.specs.MemberLaws.{sum-in, memb-in}
-use Rattle.slots.specs.Weigh.{either, sum-bound}
-use Rattle.nodesets.specs.Passes.{leftOf, rightOf, nodes}
+use Rattle.laws.specs.FlatLaws.{leftOf, rightOf}
+use Rattle.slots.specs.Weigh.{either}
+use Rattle.nodesets.specs.Passes.{nodes}
 use Rattle.nodesets.specs.Steps.{Steps}
-use Rattle.nodesets.specs.Places.{getD-in}
-use Rattle.tallies.specs.Sums.{Small, Summed, share, Added, summed-none, summed-next, share-most, share-nothing}
+use Rattle.tallies.specs.Sums.{Small, Summed, share, Added, summed-next, share-most, share-nothing}
 
 -- ---- steps ----
 
@@ -49,7 +48,7 @@ module _ {W n : ℕ} {kids order sets works sums : List ℕ} (c : StepsKnown W n
   pub step-works : (k v b : ℕ) → k < length order → v ≡ getD order k 0 → b ≡ getD works v 0 → b < 53
   step-works k v b h e g =
       lt-of-not-le (λ q.
-      let m : memb (getD order k 0) order ≡ true = getD-in order k h in
+      let m : memb (getD order k 0) order ≡ true = memb-at order k h in
       let z : 2 ^ getD works (getD order k 0) 0 ≤ sumOf (λ v. 2 ^ getD works v 0) order =
       sum-in (λ v. 2 ^ getD works v 0) (getD order k 0) order (memb-in _ order m) in
       let y : b ≡ getD works (getD order k 0) 0 = g ∙ ap (λ (x : ℕ). getD works x 0) e in

@@ -1,6 +1,6 @@
 -- An amount at the set digits of a word, from the lowest on, and at the indices of two slots, word by word. Assumes nothing.
 use mathlib.Core.Path.{_≡_, refl, sym, _∙_, ap}
-use mathlib.Core.List.{List, [], _∷_, _++_}
+use mathlib.Core.List.{List, [], _∷_}
 use Prim.Native.Nat.{ℕ, _+_, _-_, _*_, _^_, _≤_, _<_}
 use native.Mathlib.Omega.{arith}
 use native.Mathlib.Decide.{ℕ-discrete}
@@ -15,7 +15,7 @@ use Rattle.bits.specs.Digits.{digit}
 use Rattle.bits.specs.Lowest.{places, places-step, places-none, tz-small}
 use Rattle.slots.specs.Rising.{word-more}
 use Rattle.slots.specs.Weigh.{either, either-tests}
-use Rattle.tallies.specs.Sums.{Small, Summed, amountAt, share, Added, summed-more, share-most}
+use Rattle.tallies.specs.Sums.{Small, amountAt, share, Added, summed-more, share-most}
 
 -- ---- one word ----
 
@@ -23,9 +23,6 @@ use Rattle.tallies.specs.Sums.{Small, Summed, amountAt, share, Added, su
 pub record Adding (a : ℕ) (old : List ℕ) (base x : ℕ) (new : List ℕ) (rest : ℕ) : Type 0 where
   pub same : length new ≡ length old
   pub at : (j : ℕ) → getD new j 0 + share a j (places base 64 rest) ≡ getD old j 0 + share a j (places base 64 x)
-
-pub adding-none : (a : ℕ) (old : List ℕ) (base x : ℕ) → Adding a old base x old x
-adding-none a old base x = record { same = refl; at = λ j. refl }
 
 pub share-word : (a j base x : ℕ) → share a j (places base 64 x) ≤ a
 unfolding places

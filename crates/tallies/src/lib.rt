@@ -6,7 +6,7 @@ ghost use lib.ListN.{length};
 ghost use Rattle.spec.specs.Lists.{keep, range};
 ghost use Rattle.bits.specs.Lowest.{places};
 ghost use Rattle.slots.specs.Weigh.{either};
-ghost use Rattle.nodesets.specs.Passes.{leftOf, rightOf};
+ghost use Rattle.laws.specs.FlatLaws.{leftOf, rightOf};
 ghost use Rattle.tallies.specs.Sums.{Added, Summed, Small};
 ghost use Rattle.tallies.specs.Nodes.{StepsKnown, TablesKnown, stepShare, tableShare, sizeAbove};
 

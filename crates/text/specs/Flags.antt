@@ -1,7 +1,7 @@
 -- What is printed of a plan depends on the flags of the network's indices only. Assumes nothing.
 use mathlib.Core.Path.{_≡_, refl, sym, ap, ap₂, _∙_}
 use mathlib.Core.Bool.{Bool, true, false, _||_, cond}
-use mathlib.Core.List.{List, [], _∷_, map}
+use mathlib.Core.List.{List, [], _∷_, map, map-map}
 use mathlib.Core.Option.{Option, none, some}
 use Prim.Native.Nat.{ℕ, _+_, _<_, max}
 use native.Mathlib.Omega.{arith}
@@ -13,12 +13,9 @@ use Rattle.spec.specs.Network.{Network, leafCount, indexCount, weight, legs, In
 use Rattle.spec.specs.Tree.{Pair, Tree, leaf, node, treeAt, root, innerOf}
 use Rattle.spec.specs.Price.{kept, listsOf, listAt, union, bits, childrenAt, stepAt, listing, total, largest, priceOf}
 use Rattle.spec.specs.Program.{printed}
-use Rattle.laws.specs.Booleans.{clash, or-intror, and-right}
-use Rattle.laws.specs.ListLaws.{memb-head, memb-keep, from-memb, keep-ext}
-use Rattle.pricing.specs.Tables.{leaves-are, map-map}
-
-kept-low : (p : ℕ → Bool) (j k : ℕ) → memb j (keep p (range k)) ≡ true → j < k
-kept-low p j k e = omega (arith, from-memb j 0 k (and-right (p j) (memb j (range k)) (sym (memb-keep j p (range k)) ∙ e)))
+use Rattle.laws.specs.Booleans.{clash, or-intror}
+use Rattle.laws.specs.ListLaws.{memb-head, keep-ext, kept-below}
+use Rattle.pricing.specs.Tables.{leaves-are}
 
 map-same : {A : Type 0} (f g : ℕ → A) (l : List ℕ) → ((v : ℕ) → f v ≡ g v) → map f l ≡ map g l
 map-same f g [] h = refl
@@ -41,14 +38,14 @@ module _ (N : Network) (within : InRange N) (f g : ℕ → Bool) (same : (j : �
   lists-low : (t : Option Tree) (j : ℕ) → memb j (listsOf N t) ≡ true → j < indexCount N
   lists-low none j e = clash e refl
   lists-low (some (leaf i)) j e = legs-low i j e
-  lists-low (some (node v l r)) j e = kept-low (kept N (node v l r)) j (indexCount N) e
+  lists-low (some (node v l r)) j e = kept-below (kept N (node v l r)) (indexCount N) j e
 
   step-same : (a : List Pair) (v : ℕ) → stepAt N f a v ≡ stepAt N g a v
   step-same a v =
       let k : List ℕ = listAt N a ((childrenAt N a v) .left) in
       let l : List ℕ = listAt N a ((childrenAt N a v) .right) in
       let w : bits N f (union N k l) ≡ bits N g (union N k l) =
-      bits-same (union N k l) (λ j e. kept-low (λ i. memb i k || memb i l) j (indexCount N) e) in
+      bits-same (union N k l) (λ j e. kept-below (λ i. memb i k || memb i l) (indexCount N) j e) in
       let s : bits N f (listAt N a v) ≡ bits N g (listAt N a v) = bits-same (listAt N a v) (λ j e. lists-low (treeAt (leafCount N) a v) j e) in
       λ i.
       record {

@@ -6,10 +6,9 @@ use Prim.Native.Nat.{ℕ, zero, suc, _+_, _*_, _-_, _≤_, _<_}
 use native.Mathlib.Nat.{zero-add}
 use native.Mathlib.Omega.{arith}
 use lib.Dec.{eqb}
-use lib.ListN.{length, getD, take, drop}
-use lib.Seq.{ext-getD, take-at}
+use lib.ListN.{length, getD}
+use lib.Seq.{ext-getD}
 use Rattle.spec.specs.Lists.{memb, range, keep}
-use Rattle.spec.specs.Members.{All}
 use Rattle.spec.specs.Memory.{over, placed}
 use Rattle.spec.specs.Network.{Network, leafCount, indexCount}
 use Rattle.spec.specs.Tree.{Pair, node, valid}
@@ -25,13 +24,15 @@ use Rattle.laws.specs.Results.{done-same}
 use Rattle.laws.specs.Walks.{valid-tree}
 use Rattle.laws.specs.Arrays.{valid-inner}
 use Rattle.laws.specs.OrderLaws.{valid-length, listing-length, listing-is-order}
-use Rattle.cells.specs.Cells.{over-at, over-fits}
+use Rattle.laws.specs.LayoutLaws.{map-range-at, map-range-length}
+use Rattle.laws.specs.MemberLaws.{all-at}
+use Rattle.cells.specs.Cells.{over-at}
 use Rattle.slots.specs.Slots.{held}
-use Rattle.network.specs.Layouts.{map-range-at, map-range-length}
 use Rattle.nodesets.specs.Sets.{held-withSets}
 use Rattle.pricing.specs.declared.Prices.{Prices as HandedPrices}
 use Rattle.pricing.specs.Answers.{pricesOf}
 use Rattle.pricing.specs.Promise.{PriceList, Pricing}
+use Rattle.pricing.specs.Handed.{flat-length}
 use Rattle.cost.specs.declared.Priced.the-variants.{Done}
 use Rattle.cost.specs.Back.{pricesFrom, of-done}
 use Rattle.putfields.specs.Put.{Put}
@@ -47,11 +48,6 @@ record Five (s : List ℕ) (k : ℕ) (c : Step) : Type 0 where
   right : getD s (k * 5 + 2) 0 ≡ c .right
   work : getD s (k * 5 + 3) 0 ≡ c .workBits
   size : getD s (k * 5 + 4) 0 ≡ c .sizeBits
-
-flat-length : (l : List Step) → length (flatSteps l) ≡ length l * 5
-unfolding flatSteps
-flat-length [] = refl
-flat-length (c ∷ l) = omega (arith, flat-length l)
 
 flat-shift : (c : Step) (l : List Step) (i j : ℕ) → i ≡ j + 5 → getD (flatSteps (c ∷ l)) i 0 ≡ getD (flatSteps l) j 0
 unfolding flatSteps
@@ -79,11 +75,6 @@ front-at : {s : List ℕ} (d : List ℕ) (l : List Step) (i : ℕ) → s ≡ ove
 front-at d l i e b h = ap (λ (x : List ℕ). getD x i 0) e ∙ over-at d (flatSteps l) i 0 (omega arith) h
 
 -- ---- members by number ----
-
-all-at : (P : Step → Type 0) (l : List Step) (k : ℕ) (d : Step) → All P l → k < length l → P (getD l k d)
-all-at P [] k d a h = absurd (omega arith)
-all-at P (c ∷ l) zero d a h = a .0
-all-at P (c ∷ l) (suc k) d a h = all-at P l k d (a .1) (omega arith)
 
 made-in : (l : List Step) (k : ℕ) (d : Step) → k < length l → memb ((getD l k d) .made) (madeNodes l) ≡ true
 made-in [] k d h = absurd (omega arith)
@@ -181,8 +172,3 @@ module _ (W : ℕ) (N : Network) (flags : List ℕ) (a : List Pair) (fine : vali
       let e : Put out after 0 n (planText (printed N (planFrom a flags improved splits))) =
       subst (λ (x : Printed). Put out after 0 n (planText x)) plan-printed q in
       (e .bytes, e .past ∙ zero-add (length (planText (printed N (planFrom a flags improved splits)))))
-
--- a buffer that is long enough begins with the text
-pub text-front : {after : List ℕ} {n : ℕ} (out text : List ℕ) → after ≡ over out text → n ≡ length text → n ≤ length out → take n after ≡ text
-text-front {after} {n} out text e f h =
-    ap (take n) (e ∙ over-fits out text (omega arith)) ∙ take-at text (drop (length text) out) n (sym f)

@@ -6,7 +6,7 @@ use mathlib.Core.Option.{none}
 use Prim.Native.Nat.{ℕ, _-_, _≤_, _<_}
 use lib.Dec.{ltb}
 use lib.ListN.{length}
-use borrow.Author.Tests.{lt-ltb, le-ltb}
+use borrow.Author.Tests.{lt-ltb, le-ltb, not-true, not-false}
 use Rattle.spec.specs.Refusal.{invalidTree, numberOf, codeOf, Check, check, Result, refused, done, checked}
 use Rattle.spec.specs.Network.{Network, leafCount, refusalOf}
 use Rattle.spec.specs.Memory.{cleared}
@@ -14,7 +14,6 @@ use Rattle.spec.specs.Tree.{stepOrder, samePlan, pairsOf}
 use Rattle.spec.specs.Calls.{Lent, lent, lengthCheck, plainWords, stepPlaces, wrongTree, treeCheck, validCall, orderCall, sameCall, workspaceAfter}
 use Rattle.spec.specs.Lists.{anyb}
 use Rattle.laws.specs.Booleans.{clash}
-use Rattle.walk.specs.Marks.{was-false, was-true}
 use Rattle.walk.specs.Entry.{Untouched, by-network, past-network, by-length, past-length, holds-first, passes-first}
 use Rattle.tree.specs.declared.Validity.{Validity}
 use Rattle.tree.specs.declared.Validity.the-variants.{Valid}
@@ -111,16 +110,16 @@ module _ (n words places : ℕ) (kids : List ℕ) where
     unfolding orderIn
     order-done f =
         past-length lents (rightTree n kids ∷ []) (done (stepOrder kids n)) enough
-        ∙ passes-first (rightTree n kids) [] (done (stepOrder kids n)) (was-right b (wrongTree n kids) e (was-true b f))
+        ∙ passes-first (rightTree n kids) [] (done (stepOrder kids n)) (was-right b (wrongTree n kids) e (not-false b f))
 
     pub order-wrong : not b ≡ true → orderIn n words places kids ≡ refused invalidTree
     unfolding orderIn
     order-wrong f =
         past-length lents (rightTree n kids ∷ []) (done (stepOrder kids n)) enough
-        ∙ holds-first (rightTree n kids) [] (done (stepOrder kids n)) (was-wrong b (wrongTree n kids) e (was-false b f))
+        ∙ holds-first (rightTree n kids) [] (done (stepOrder kids n)) (was-wrong b (wrongTree n kids) e (not-true b f))
 
     pub order-right : not b ≡ false → wrongTree n kids ≡ false
-    order-right f = was-right b (wrongTree n kids) e (was-true b f)
+    order-right f = was-right b (wrongTree n kids) e (not-false b f)
 
 module _ (n : ℕ) (kids others : List ℕ) where
   abbrev verdict : Result Bool
@@ -128,16 +127,16 @@ module _ (n : ℕ) (kids others : List ℕ) where
 
   pub compared-first : (b : Bool) → b ≡ not (wrongTree n kids) → not b ≡ true → compared n kids others ≡ refused invalidTree
   unfolding compared
-  compared-first b e f = holds-first (rightTree n kids) (rightTree n others ∷ []) verdict (was-wrong b (wrongTree n kids) e (was-false b f))
+  compared-first b e f = holds-first (rightTree n kids) (rightTree n others ∷ []) verdict (was-wrong b (wrongTree n kids) e (not-true b f))
 
   pub tree-right : (kids : List ℕ) (b : Bool) → b ≡ not (wrongTree n kids) → not b ≡ false → wrongTree n kids ≡ false
-  tree-right kids b e f = was-right b (wrongTree n kids) e (was-true b f)
+  tree-right kids b e f = was-right b (wrongTree n kids) e (not-false b f)
 
   pub compared-second : wrongTree n kids ≡ false → (b : Bool) → b ≡ not (wrongTree n others) → not b ≡ true → compared n kids others ≡ refused invalidTree
   unfolding compared
   compared-second h b e f =
       passes-first (rightTree n kids) (rightTree n others ∷ []) verdict h
-      ∙ holds-first (rightTree n others) [] verdict (was-wrong b (wrongTree n others) e (was-false b f))
+      ∙ holds-first (rightTree n others) [] verdict (was-wrong b (wrongTree n others) e (not-true b f))
 
   pub compared-done : wrongTree n kids ≡ false → wrongTree n others ≡ false → compared n kids others ≡ done (samePlan n (pairsOf kids) (pairsOf others))
   unfolding compared

@@ -9,15 +9,15 @@ use native.Mathlib.Decide.{decLe}
 use lib.Dec.{eqb, leb, ltb}
 use lib.ListN.{getD, set, length, getElem?}
 use lib.Seq.{getD-set-other}
-use borrow.Author.Tests.{le-leb, lt-leb, eq-eqb, ltb-true, eqb-true}
+use borrow.Author.Tests.{le-leb, lt-leb, eq-eqb, ltb-true, eqb-true, not-true, not-false}
 use Rattle.spec.specs.Lists.{count, memb}
 use Rattle.spec.specs.Tree.{Tree, leaf, node, number, numbers, Pair, valid, pairsOf}
 use Rattle.laws.specs.Booleans.{by-cases, bool-ext}
 use Rattle.laws.specs.ListLaws.{count-three, count-memb, count-not-memb}
 use Rattle.laws.specs.Walks.{tree-valid, valid-tree}
-use Rattle.laws.specs.FlatLaws.{pairs-length, pair-at}
+use Rattle.laws.specs.FlatLaws.{pairs-length, pair-at, leftOf, rightOf}
 use Rattle.walk.specs.Stack.{stackOf, push, pushedBoth, picked, topped, Inside, inside-push, topped-none, topped-one, topped-top, topped-both, stack-agree, both-le, At, Trees, node-at, grown, grown-trees}
-use Rattle.walk.specs.Marks.{fresh, marked, freshBoth, markedBoth, seen, seenCount, seen-above, seen-agree, seen-clear, one-self, mark-seen, stale-seen, fresh-inside, first-fresh, second-fresh, both-seen, both-length, both-past, both-count, set-seen, count-none, count-agree, count-more, count-le, count-full, full-count, was-false, was-true}
+use Rattle.walk.specs.Marks.{fresh, marked, freshBoth, markedBoth, seen, seenCount, seen-above, seen-agree, seen-clear, one-self, mark-seen, stale-seen, fresh-inside, first-fresh, second-fresh, both-seen, both-length, both-past, both-count, set-seen, count-none, count-agree, count-more, count-le, count-full, full-count}
 
 -- how often k is below the root of a tree, and below the roots of several
 abbrev pub under : Tree → ℕ → ℕ
@@ -216,13 +216,6 @@ pub record Going (kids : List ℕ) (n : ℕ) (ws : List ℕ) (v p met : ℕ) : T
   pub counted : seenCount ws (n * 2 - 2) ≡ met
   pub shallow : p ≤ met
 
--- the children that the flat list names
-abbrev pub leftOf : List ℕ → ℕ → ℕ → ℕ
-leftOf kids n v = getD kids ((v - n) * 2) 0
-
-abbrev pub rightOf : List ℕ → ℕ → ℕ → ℕ
-rightOf kids n v = getD kids ((v - n) * 2 + 1) 0
-
 module _ (kids : List ℕ) (n : ℕ) (two : 2 ≤ n) (small : n ≤ 512) (whole : length kids ≡ n * 2 - 2) where
   pairs : length (pairsOf kids) ≡ n - 1
   pairs = pairs-length kids ∙ omega arith
@@ -274,14 +267,14 @@ module _ (kids : List ℕ) (n : ℕ) (two : 2 ≤ n) (small : n ≤ 512) (whole 
       pub refuses : not b ≡ true → false ≡ valid n (pairsOf kids)
       refuses z =
           sym (stale-child n (pairsOf kids) (n * 2 - 2) (omega (arith, pairs)) (omega (arith, pairs)) ws v x y (stackOf 1024 ws (p - 1)) (omega arith)
-          (above pos .0) here on-top (sym q ∙ was-false b z))
+          (above pos .0) here on-top (sym q ∙ not-true b z))
 
       -- one turn, for the words, the top and the places that the code comes to
       pub goes-on : not b ≡ false → (ws₁ ws₂ : List ℕ) (v₂ p₂ : ℕ) → ws₁ ≡ markedBoth ws (n * 2 - 2) x y
           → (v₂ ≡ picked n y (picked n x (getD ws₁ (1023 + (p - 1)) 0))) × (p₂ ≡ pushedBoth n (p - 1) x y) × (ws₂ ≡ set ws₁ (1024 + (p - 1)) x)
           → Going kids n ws₂ v₂ p₂ (met + 2)
       goes-on z ws₁ ws₂ v₂ p₂ e₁ (e₂, e₃, e₄) =
-          let f : freshBoth ws (n * 2 - 2) x y ≡ true = sym q ∙ was-true b z in
+          let f : freshBoth ws (n * 2 - 2) x y ≡ true = sym q ∙ not-false b z in
           let root = n * 2 - 2 in
           let bound = bounded in
           let deep = g .shallow in

@@ -11,7 +11,7 @@ use lib.Seq.{length-front, length-take-le, getD-append-add, getD-drop}
 use Rattle.spec.specs.Lists.{anyb}
 use Rattle.spec.specs.Members.{All}
 use Rattle.spec.specs.Memory.{cleared}
-use Rattle.spec.specs.Refusal.{Refusal, shortBuffer, numberOf, codeOf, Check, check, first, Result, refused, done, decide, checked}
+use Rattle.spec.specs.Refusal.{Refusal, shortBuffer, numberOf, codeOf, Check, first, Result, refused, done, decide, checked}
 use Rattle.spec.specs.Network.{Network, networkChecks, refusalOf}
 use Rattle.spec.specs.Calls.{Lent, lengthCheck, touches, workspaceAfter, listAfter}
 use Rattle.laws.specs.Booleans.{by-cases}
@@ -27,12 +27,12 @@ module _ {A : Type 0} where
   pub passes-first : (c : Check) (cs : List Check) (x : Result A) → c .holds ≡ false → checked (c ∷ cs) x ≡ checked cs x
   passes-first c cs x h = rw h
 
-first-some : (cs ds : List Check) (r : Refusal) → first cs ≡ some r → first (cs ++ ds) ≡ some r
+pub first-some : (cs ds : List Check) (r : Refusal) → first cs ≡ some r → first (cs ++ ds) ≡ some r
 first-some [] ds r e = absurd (Option·none-ne-some _ e)
 first-some (c ∷ cs) ds r e =
     by-cases (c .holds) (λ h. rw h (rw h at e)) (λ h. rw h (first-some cs ds r (rw h at e)))
 
-first-none : (cs ds : List Check) → first cs ≡ none → first (cs ++ ds) ≡ first ds
+pub first-none : (cs ds : List Check) → first cs ≡ none → first (cs ++ ds) ≡ first ds
 first-none [] ds e = refl
 first-none (c ∷ cs) ds e =
     by-cases (c .holds)

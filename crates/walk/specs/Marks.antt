@@ -8,9 +8,9 @@ use native.Mathlib.Decide.{ℕ-discrete}
 use lib.Dec.{eqb, leb}
 use lib.ListN.{getD, set, length, length-set}
 use lib.Seq.{getD-set-same, getD-set-other}
-use borrow.Author.Tests.{le-leb, lt-leb, leb-true, eq-eqb, ne-eqb, eqb-true}
+use borrow.Author.Tests.{le-leb, lt-leb, leb-true, eq-eqb, ne-eqb, eqb-true, not-true, not-false}
 use Rattle.spec.specs.Lists.{count, sumOf, range}
-use Rattle.laws.specs.Booleans.{by-cases, and-left, and-right, clash}
+use Rattle.laws.specs.Booleans.{by-cases, and-left, and-right}
 use Rattle.laws.specs.ListLaws.{sum-add, sum-length, range-length, from-memb, memb-range}
 use Rattle.laws.specs.MemberLaws.{sum-in, sum-none, memb-in, in-memb}
 use Rattle.laws.specs.Counts.{only-in}
@@ -54,24 +54,16 @@ marks-one ws root x h g =
     let f : eqb (getD ws x 0) 0 ≡ true = eq-eqb (getD ws x 0) 0 g in
     (rw (e, f), rw (e, f))
 
-pub was-false : (b : Bool) → not b ≡ true → b ≡ false
-was-false true e = clash refl (sym e)
-was-false false e = refl
-
-pub was-true : (b : Bool) → not b ≡ false → b ≡ true
-was-true true e = refl
-was-true false e = clash refl e
-
 pub first-not : (ws ws′ : List ℕ) (root x y : ℕ) (b : Bool) → (b ≡ fresh ws root x) × (ws′ ≡ marked ws root x) → not b ≡ true
     → (false ≡ freshBoth ws root x y) × (ws′ ≡ markedBoth ws root x y)
 unfolding freshBoth markedBoth marked
-first-not ws ws′ root x y b m f = let e : fresh ws root x ≡ false = sym (m .0) ∙ was-false b f in (rw e, rw e (rw e at (m .1)))
+first-not ws ws′ root x y b m f = let e : fresh ws root x ≡ false = sym (m .0) ∙ not-true b f in (rw e, rw e (rw e at (m .1)))
 
 pub then-second : (ws ws′ ws″ : List ℕ) (root x y : ℕ) (b c : Bool) → (b ≡ fresh ws root x) × (ws′ ≡ marked ws root x) → not b ≡ false
     → (c ≡ fresh ws′ root y) × (ws″ ≡ marked ws′ root y) → (c ≡ freshBoth ws root x y) × (ws″ ≡ markedBoth ws root x y)
 unfolding freshBoth markedBoth
 then-second ws ws′ ws″ root x y b c m f q =
-    let e : fresh ws root x ≡ true = sym (m .0) ∙ was-true b f in
+    let e : fresh ws root x ≡ true = sym (m .0) ∙ not-false b f in
     (rw (e, ← m .1) (q .0), rw (e, ← m .1) (q .1))
 
 -- ---- what is marked ----

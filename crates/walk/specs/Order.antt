@@ -7,20 +7,19 @@ use Prim.Native.Nat.{ℕ, zero, suc, _+_, _-_, _*_, _≤_, _<_}
 use native.Mathlib.Omega.{arith}
 use native.Mathlib.Decide.{decLe}
 use lib.ListN.{getD, set, length, getElem?, length-append}
-use lib.Dec.{eqb}
 use borrow.Author.Tests.{eqb-true}
 use Rattle.spec.specs.Lists.{memb}
 use Rattle.spec.specs.Memory.{over, placed}
-use Rattle.cells.specs.Cells.{placed-none}
-use Rattle.spec.specs.Tree.{Tree, leaf, node, number, numbers, inner, innerOf, Pair, treeAt, root, valid, pairsOf, stepOrder}
+use Rattle.cells.specs.Cells.{placed-none, over-nil}
+use Rattle.spec.specs.Tree.{Tree, leaf, node, number, numbers, inner, innerOf, Pair, treeAt, pairsOf, stepOrder}
 use Rattle.spec.specs.Calls.{wrongTree}
 use Rattle.laws.specs.Booleans.{clash}
-use Rattle.laws.specs.ListLaws.{three-left, three-right}
-use Rattle.laws.specs.Walks.{valid-tree, inners, valid-inners}
+use Rattle.laws.specs.ListLaws.{three-left, three-right, no-members}
+use Rattle.laws.specs.Walks.{valid-tree, valid-inners}
 use Rattle.laws.specs.Arrays.{number-in}
-use Rattle.laws.specs.FlatLaws.{pairs-length, pair-at}
+use Rattle.laws.specs.FlatLaws.{pairs-length, pair-at, leftOf, rightOf}
+use Rattle.laws.specs.Ordering.{inner-length}
 use Rattle.walk.specs.Stack.{stackOf, push, pushedBoth, picked, topped, Inside, inside-push, topped-none, topped-one, topped-top, topped-both, both-le, At, Trees, node-at, grown, grown-trees}
-use Rattle.walk.specs.Check.{leftOf, rightOf}
 use Rattle.walk.specs.Wrong.{few, not-wrong, not-wrong-length}
 
 -- ---- what the trees on the stack are still to write: the lowest one's nodes first ----
@@ -32,11 +31,6 @@ pending (t ∷ ts) = pending ts ++ inner t
 pending-grown : (t : Tree) (ts : List Tree) → pending (grown t ts) ≡ pending ts ++ inner t
 pending-grown (leaf i) ts = sym (append-nil (pending ts))
 pending-grown (node v l r) ts = refl
-
-inner-length : (t : Tree) → length (inner t) ≡ inners t
-inner-length (leaf i) = refl
-inner-length (node v l r) =
-    omega (arith, length-append (inner l) (inner r ++ (v ∷ [])), length-append (inner r) (v ∷ []), inner-length l, inner-length r)
 
 -- no number is above the root's
 abbrev pub Low : ℕ → Tree → Type 0
@@ -53,10 +47,6 @@ lows-grown top (node v l r) ts h g = (h, g)
 low-number : (top : ℕ) (n : ℕ) (a : List Pair) (x : ℕ) (t : Tree) → Low top t → At n a x t → x ≤ top
 low-number top n a x t h at = subst (λ (k : ℕ). k ≤ top) (at .1) (h (number t) (number-in t))
 
-no-length : (l : List ℕ) → length l ≡ 0 → l ≡ []
-no-length [] e = refl
-no-length (x ∷ l) e = absurd (omega arith)
-
 -- ---- the list that is filled from its end ----
 
 placed-before : (d s : List ℕ) (at x : ℕ) → at < length d → set (placed d (suc at) s) at x ≡ placed d at (x ∷ s)
@@ -68,11 +58,6 @@ placed-before (y ∷ d) s (suc at) x h = ap (λ (l : List ℕ). y ∷ l) (placed
 placed-front : (d s : List ℕ) → placed d 0 s ≡ over d s
 unfolding placed
 placed-front d s = refl
-
-over-none : (d : List ℕ) → over d [] ≡ d
-unfolding over
-over-none [] = refl
-over-none (x ∷ d) = refl
 
 order-none : stepOrder [] 0 ≡ []
 unfolding stepOrder treeAt pairsOf
@@ -122,7 +107,7 @@ module _ (kids : List ℕ) (n : ℕ) (two : 2 ≤ n) (right : wrongTree n kids �
   module _ (out₀ ws : List ℕ) (v p : ℕ) (out : List ℕ) (rest : ℕ) (g : Going kids n out₀ ws v p out rest) where
     pub ends : rest ≡ 0 → out ≡ over out₀ (stepOrder kids n)
     ends e =
-        let w : g .written ≡ stepOrder kids n = ap (λ (l : List ℕ). l ++ g .written) (sym (no-length (pending (g .trees)) (g .left ∙ e))) ∙ g .whole in
+        let w : g .written ≡ stepOrder kids n = ap (λ (l : List ℕ). l ++ g .written) (sym (no-members (pending (g .trees)) (g .left ∙ e))) ∙ g .whole in
         g .filled ∙ ap₂ (λ (k : ℕ) (l : List ℕ). placed out₀ k l) e w ∙ placed-front out₀ (stepOrder kids n)
 
     pub deep : 0 < rest → 0 < p
@@ -211,7 +196,7 @@ module _ (kids : List ℕ) (n : ℕ) (two : 2 ≤ n) (right : wrongTree n kids �
 -- at most one leaf: nothing to write
 few-none : (kids : List ℕ) (n : ℕ) → n < 2 → wrongTree n kids ≡ false → stepOrder kids n ≡ []
 few-none kids n h e =
-    let z : kids ≡ [] = no-length kids (eqb-true (length kids) 0 (few n kids h ∙ ap not e)) in
+    let z : kids ≡ [] = no-members kids (eqb-true (length kids) 0 (few n kids h ∙ ap not e)) in
     ap (λ (l : List ℕ). stepOrder l n) z ∙ none n h
   where
     none : (n : ℕ) → n < 2 → stepOrder [] n ≡ []
@@ -220,7 +205,7 @@ few-none kids n h e =
     none (suc (suc n)) h = absurd (omega arith)
 
 pub few-order : (kids : List ℕ) (n : ℕ) (out : List ℕ) → n < 2 → wrongTree n kids ≡ false → out ≡ over out (stepOrder kids n)
-few-order kids n out h e = sym (ap (over out) (few-none kids n h e) ∙ over-none out)
+few-order kids n out h e = sym (ap (over out) (few-none kids n h e) ∙ over-nil out)
 
 -- as many steps as internal nodes
 pub order-length : (kids : List ℕ) (n : ℕ) → wrongTree n kids ≡ false → length (stepOrder kids n) ≡ n - 1

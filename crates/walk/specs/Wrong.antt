@@ -1,6 +1,6 @@
 -- The condition of refusal 8 by the length of the flat list. Assumes nothing.
 use mathlib.Core.Path.{_≡_, refl, sym, _∙_, ap}
-use mathlib.Core.Bool.{Bool, true, false, not}
+use mathlib.Core.Bool.{Bool, true, false, not, Bool·not-not}
 use mathlib.Core.List.{List, [], _∷_}
 use Prim.Native.Nat.{ℕ, zero, suc, _-_, _*_, _%_, _≤_, _<_}
 use native.Mathlib.Omega.{arith}
@@ -13,10 +13,6 @@ use Rattle.spec.specs.Calls.{wrongTree}
 use Rattle.laws.specs.Booleans.{by-cases, or-intror}
 use Rattle.laws.specs.Walks.{valid-tree}
 use Rattle.laws.specs.FlatLaws.{pairs-length}
-
-not-not : (b : Bool) → not (not b) ≡ b
-not-not true = refl
-not-not false = refl
 
 not-valid : (n : ℕ) (kids : List ℕ) → valid n (pairsOf kids) ≡ false → false ≡ not (wrongTree n kids)
 not-valid n kids e = sym (ap not (or-intror (eqb (length kids % 2) 1) (not (valid n (pairsOf kids))) (ap not e)))
@@ -47,7 +43,7 @@ other-length n kids h g =
     (λ f. f)))
 
 pub right-length : (n : ℕ) (kids : List ℕ) → 2 ≤ n → length kids ≡ n * 2 - 2 → valid n (pairsOf kids) ≡ not (wrongTree n kids)
-right-length n kids h e = rw (ne-eqb (length kids % 2) 1 (λ q. omega arith)) (sym (not-not (valid n (pairsOf kids))))
+right-length n kids h e = rw (ne-eqb (length kids % 2) 1 (λ q. omega arith)) (sym (Bool·not-not (valid n (pairsOf kids))))
 
 -- and the other way round: what is not wrong is valid, and has the right length
 true-not : {P : Type 0} → _≡_ {A = Bool} false true → P

@@ -1,5 +1,5 @@
 -- Assumes nothing.
-use mathlib.Core.Path.{_≡_, refl, sym, ap, _∙_}
+use mathlib.Core.Path.{_∙_}
 use Rattle.bisect.specs.Through.{at-least, tried-stage, tried-more, tried-none, fewer-there, back-stage, through-level, back-bits, up-to, fewer-than, third-of}
 use borrow.Author.Tests.{not-true, not-false}
 use native.Mathlib.Omega.{arith}

@@ -1,5 +1,4 @@
 -- Assumes nothing.
-use borrow.Author.Needs.{needs}
 use denote.Ref.{now}
 use lib.ListN.{length}
 use native.Mathlib.Omega.{arith}

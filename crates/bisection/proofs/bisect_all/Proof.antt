@@ -1,12 +1,9 @@
 -- Assumes nothing.
-use borrow.Author.Needs.{needs}
 use Rattle.bisection.specs.Whole.{whole-fits, whole-light, whole-few, whole-named, whole-answer}
 use lib.Seq.{length-take-le}
 use lib.ListN.{take}
 use native.Mathlib.Omega.{arith}
-use Prim.Native.Nat.{ℕ, _+_, _-_, _*_, _<_, _≤_}
-use mathlib.Core.Path.{_≡_, refl, sym, ap, _∙_, subst}
-use lib.ListN.{length, getD, set, length-set}
+use mathlib.Core.Path.{refl, sym, ap}
 use Rattle.bisection.proofs.bisect_all.Statement.{statement}
 use Rattle.bisection.proofs.bisect_all.Tie as tie
 

@@ -9,11 +9,9 @@ use Rattle.spec.specs.Bisection as spec
 use Rattle.spec.specs.Refusal.{Refusal, Result}
 use Rattle.spec.specs.Tree.{flatOf}
 use Rattle.walk.specs.Entry.{answers, same-words, same-list}
-use mathlib.Core.List.{List}
-use native.Mathlib.Omega.{arith}
-use Prim.Native.Nat.{ℕ, _+_, _-_, _*_, _<_, _≤_}
-use mathlib.Core.Path.{_≡_, refl, sym, ap, _∙_, subst}
-use lib.ListN.{length, getD, set, length-set}
+use Prim.Native.Nat.{ℕ}
+use mathlib.Core.Path.{refl, sym, ap, _∙_}
+use lib.ListN.{length}
 use Rattle.bisection.proofs.bisection.Statement.{statement}
 use Rattle.bisection.proofs.bisection.Tie as tie
 

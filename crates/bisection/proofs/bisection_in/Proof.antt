@@ -7,11 +7,10 @@ use Rattle.spec.specs.Network.{leafCount}
 use Rattle.spec.specs.Memory.{cleared}
 use Rattle.walk.specs.Entry.{lent-cleared}
 use lib.Seq.{length-take-le}
-use lib.ListN.{take}
 use native.Mathlib.Omega.{arith}
-use Prim.Native.Nat.{ℕ, _+_, _-_, _*_, _<_, _≤_}
-use mathlib.Core.Path.{_≡_, refl, sym, ap, _∙_, subst}
-use lib.ListN.{length, getD, set, length-set}
+use Prim.Native.Nat.{_≤_}
+use mathlib.Core.Path.{_≡_, refl, sym, ap, _∙_}
+use lib.ListN.{length}
 use Rattle.bisection.proofs.bisection_in.Statement.{statement}
 use Rattle.bisection.proofs.bisection_in.Tie as tie
 

@@ -2,7 +2,6 @@
 use borrow.Author.Needs.{needs}
 use Rattle.coarsen.specs.Level.{drawn-paired, coarsened}
 use native.Mathlib.Omega.{arith}
-use Prim.Native.Nat.{_-_}
 use Rattle.coarsen.proofs.coarsen.Statement.{statement}
 use Rattle.coarsen.proofs.coarsen.Tie as tie
 

@@ -4,7 +4,6 @@ use mathlib.Core.Bool.{not}
 use lib.Ieee.{inFloat, ofBits, ofInt, round}
 use lib.Dec.{le→leb}
 use native.Mathlib.Omega.{arith}
-use Prim.Native.Nat.{_-_}
 use mathlib.Core.Path.{sym, ap}
 use Rattle.coarsen.proofs.is_worthwhile.Statement.{statement}
 use Rattle.coarsen.proofs.is_worthwhile.Tie as tie

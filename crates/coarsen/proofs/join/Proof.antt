@@ -2,7 +2,6 @@
 use borrow.Author.Needs.{needs}
 use Rattle.coarsen.specs.Joined.{joined-lower, joined-upper}
 use native.Mathlib.Omega.{arith}
-use Prim.Native.Nat.{_-_}
 use Rattle.coarsen.proofs.join.Statement.{statement}
 use Rattle.coarsen.proofs.join.Tie as tie
 

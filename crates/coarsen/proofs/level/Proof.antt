@@ -2,7 +2,6 @@
 use borrow.Author.Needs.{needs}
 use Rattle.coarsen.specs.Level.{coarser-made, count-fits}
 use native.Mathlib.Omega.{arith}
-use Prim.Native.Nat.{_-_}
 use Rattle.coarsen.proofs.level.Statement.{statement}
 use Rattle.coarsen.proofs.level.Tie as tie
 

@@ -1,9 +1,9 @@
 -- Assumes nothing.
 use borrow.Author.Needs.{needs}
+use Rattle.slots.specs.Rising.{listed-fits, listed-all}
 use Rattle.coarsen.specs.Mapped.{images-put}
-use Rattle.ratings.specs.Rated.{listed-pins, listed-room}
 use native.Mathlib.Omega.{arith}
-use Prim.Native.Nat.{_+_, _-_}
+use Prim.Native.Nat.{_+_}
 use mathlib.Core.Path.{refl}
 use Rattle.coarsen.proofs.map_net.Statement.{statement}
 use Rattle.coarsen.proofs.map_net.Tie as tie
@@ -24,13 +24,13 @@ add-put-coarse : tie.Need-add-put-coarse
 add-put-coarse c = search needs
 
 put-coarse-requires : tie.Need-put-coarse-requires
-put-coarse-requires c κs = let d = c .before .before .before .before .before .before .before .before .before .before .before .before in let a = d .args in let o = c .before .before .before .before .before .before .before .members in (omega (arith, d .pre .1, d .pre .2), listed-room (a .graph .now) _ _ (a .nets + a .e) (o .result) (o .ensures .0) (o .ensures .1) (omega arith))
+put-coarse-requires c κs = let d = c .before .before .before .before .before .before .before .before .before .before .before .before in let a = d .args in let o = c .before .before .before .before .before .before .before .members in (omega (arith, d .pre .1, d .pre .2), listed-fits (a .graph .now) _ _ 2 (a .nets + a .e) (o .result) (o .ensures .0) (o .ensures .1) (omega arith))
 
 same-length : tie.Need-same-length
 same-length c = search needs
 
 returns : tie.Need-returns
-returns c = let d = c .before .before .before .before .before .before .before .before .before .before .before .before .before .before .before in let a = d .args in let o = c .before .before .before .before .before .before .before .before .before .before .members in images-put (a .graph .now) _ _ (a .places .now) _ _ (a .coarse + a .e) (o .result) (o .ensures .0) (listed-pins (a .graph .now) _ _ (a .nets + a .e) (o .result) (o .ensures .0) (o .ensures .1) (omega arith)) (c .before .before .before .before .before .before .before .empty .ensures) (c .before .before .put-coarse .ensures)
+returns c = let d = c .before .before .before .before .before .before .before .before .before .before .before .before .before .before .before in let a = d .args in let o = c .before .before .before .before .before .before .before .before .before .before .members in images-put (a .graph .now) _ _ (a .places .now) _ _ (a .coarse + a .e) (o .result) (o .ensures .0) (listed-all (a .graph .now) _ _ 2 (a .nets + a .e) (o .result) (o .ensures .0) (o .ensures .1) (omega arith)) (c .before .before .before .before .before .before .before .empty .ensures) (c .before .before .put-coarse .ensures)
 
 slice-aggregate-put-coarse : tie.Need-slice-aggregate-put-coarse
 slice-aggregate-put-coarse c = omega (arith, c .before .before .before .before .before .before .pins2 .given)

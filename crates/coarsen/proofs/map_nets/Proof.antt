@@ -4,7 +4,7 @@ use Rattle.coarsen.specs.Mapped.{mappedNet, mapped, mapped-length}
 use Rattle.cells.specs.Loop.{turns-none, turns-next, turns-end}
 use native.Mathlib.Omega.{arith}
 use Prim.Native.Nat.{_-_, _≤_}
-use mathlib.Core.Path.{_≡_, refl, sym, ap, _∙_}
+use mathlib.Core.Path.{_≡_, sym, ap, _∙_}
 use lib.ListN.{length}
 use Rattle.coarsen.proofs.map_nets.Statement.{statement}
 use Rattle.coarsen.proofs.map_nets.Tie as tie

@@ -1,7 +1,6 @@
 -- Assumes nothing.
 use borrow.Author.Needs.{needs}
 use Rattle.coarsen.specs.Joined.{weight-alone, weight-both}
-use Prim.Native.Nat.{_-_}
 use Rattle.coarsen.proofs.weight_of.Statement.{statement}
 use Rattle.coarsen.proofs.weight_of.Tie as tie
 

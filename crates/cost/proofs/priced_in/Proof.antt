@@ -12,9 +12,7 @@ use Rattle.spec.specs.Refusal.{invalidTree, invalidFlags}
 use Rattle.spec.specs.Layout.{networkOf}
 use mathlib.Core.Path.{refl, sym, _∙_}
 use native.Mathlib.Omega.{arith}
-use Prim.Native.Nat.{ℕ, _+_, _-_, _*_, _<_, _≤_}
-use mathlib.Core.Path.{_≡_, refl, sym, ap, _∙_, subst}
-use lib.ListN.{length, getD, set, length-set}
+use mathlib.Core.Path.{refl, sym, _∙_}
 use Rattle.cost.proofs.priced_in.Statement.{statement}
 use Rattle.cost.proofs.priced_in.Tie as tie
 

@@ -4,9 +4,7 @@ use Rattle.spec.specs.Memory.{filled}
 use Rattle.dangling.specs.Tally.{counts-answer}
 use lib.Seq.{length-take-le}
 use native.Mathlib.Omega.{arith}
-use Prim.Native.Nat.{ℕ, _+_, _-_, _*_, _<_, _≤_}
-use mathlib.Core.Path.{_≡_, refl, sym, ap, _∙_, subst}
-use lib.ListN.{length, getD, set, length-set}
+use mathlib.Core.Path.{refl, sym}
 use Rattle.dangling.proofs.dangling.Statement.{statement}
 use Rattle.dangling.proofs.dangling.Tie as tie
 

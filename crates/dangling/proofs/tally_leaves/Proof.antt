@@ -4,9 +4,9 @@ use lib.ListN.{drop}
 use Rattle.network.specs.Checks.{leavesOf, row-of}
 use Rattle.dangling.specs.Tally.{tallyRows, rows-next, rows-end}
 use native.Mathlib.Omega.{arith}
-use Prim.Native.Nat.{ℕ, _+_, _-_, _*_, _<_, _≤_}
-use mathlib.Core.Path.{_≡_, refl, sym, ap, _∙_, subst}
-use lib.ListN.{length, getD, set, length-set}
+use Prim.Native.Nat.{_-_, _≤_}
+use mathlib.Core.Path.{_≡_, refl}
+use lib.ListN.{length}
 use Rattle.dangling.proofs.tally_leaves.Statement.{statement}
 use Rattle.dangling.proofs.tally_leaves.Tie as tie
 

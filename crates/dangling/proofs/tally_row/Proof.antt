@@ -3,9 +3,9 @@ use borrow.Author.Needs.{needs}
 use lib.ListN.{drop}
 use Rattle.dangling.specs.Tally.{tallied, tally-next, tally-end}
 use native.Mathlib.Omega.{arith}
-use Prim.Native.Nat.{ℕ, _+_, _-_, _*_, _<_, _≤_}
-use mathlib.Core.Path.{_≡_, refl, sym, ap, _∙_, subst}
-use lib.ListN.{length, getD, set, length-set}
+use Prim.Native.Nat.{_-_, _≤_}
+use mathlib.Core.Path.{_≡_, refl}
+use lib.ListN.{length}
 use Rattle.dangling.proofs.tally_row.Statement.{statement}
 use Rattle.dangling.proofs.tally_row.Tie as tie
 

@@ -1,6 +1,6 @@
 -- `draws::index` meets its contract. Assumes nothing.
 use borrow.Author.Needs.{needs}
-use mathlib.Core.Path.{_≡_, sym, ap, _∙_}
+use mathlib.Core.Path.{sym, ap, _∙_}
 use Prim.Native.Nat.{_%_}
 use native.Mathlib.Nat.{mod-lt}
 use Rattle.draws.specs.Cursor.{index-at}

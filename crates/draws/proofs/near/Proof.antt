@@ -1,5 +1,4 @@
 -- `draws::near` meets its contract. The whole part n of y is below 2 ^ 52, so n, n + 1 and n + 1 / 2 are f64s. Assumes nothing.
-use mathlib.Core.Path.{refl, ap}
 use Prim.Native.Nat.{_<_, _^_, _+_}
 use native.Mathlib.Omega.{arith}
 use lib.Dec.{le→leb}

@@ -3,7 +3,6 @@ use Rattle.fields.specs.Scans.{nothing-due}
 use Rattle.spec.specs.File.{allowed}
 use borrow.Author.Tests.{eq-eqb, ne-eqb}
 use native.Mathlib.Omega.{arith}
-use Prim.Native.Nat.{_-_}
 use mathlib.Core.Path.{sym, ap}
 use Rattle.fields.proofs.tag_allowed.Statement.{statement}
 use Rattle.fields.proofs.tag_allowed.Tie as tie

@@ -7,7 +7,7 @@ use Rattle.payloads.specs.Payload.{outputsRefusal}
 use Rattle.spec.specs.Refusal.{codeOf}
 use Rattle.spec.specs.Memory.{placed}
 use native.Mathlib.Omega.{arith}
-use Prim.Native.Nat.{_+_, _-_}
+use Prim.Native.Nat.{_+_}
 use mathlib.Core.Path.{_≡_, sym, ap, _∙_}
 use Rattle.fields.proofs.take_outputs.Statement.{statement}
 use Rattle.fields.proofs.take_outputs.Tie as tie

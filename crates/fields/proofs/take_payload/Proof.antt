@@ -2,7 +2,6 @@
 use borrow.Author.Needs.{needs}
 use Rattle.fields.specs.Scans.{lists}
 use borrow.Author.Tests.{ne-eqb}
-use Prim.Native.Nat.{_-_}
 use Rattle.fields.proofs.take_payload.Statement.{statement}
 use Rattle.fields.proofs.take_payload.Tie as tie
 

@@ -7,7 +7,7 @@ use Rattle.spec.specs.Refusal.{tooLarge}
 use Rattle.spec.specs.File.{nothingRead}
 use mathlib.Core.Option.{some}
 use native.Mathlib.Omega.{arith}
-use Prim.Native.Nat.{_+_, _-_}
+use Prim.Native.Nat.{_+_}
 use mathlib.Core.Path.{refl, sym, _∙_}
 use Rattle.fields.proofs.take_target.Statement.{statement}
 use Rattle.fields.proofs.take_target.Tie as tie

@@ -8,7 +8,7 @@ use Rattle.fields.specs.Steps.{part}
 use Rattle.payloads.specs.Payload.{weightsRefusal}
 use Rattle.spec.specs.Refusal.{codeOf}
 use native.Mathlib.Omega.{arith}
-use Prim.Native.Nat.{_+_, _-_}
+use Prim.Native.Nat.{_+_}
 use mathlib.Core.Path.{_≡_, sym, ap, _∙_}
 use Rattle.fields.proofs.take_weights.Statement.{statement}
 use Rattle.fields.proofs.take_weights.Tie as tie

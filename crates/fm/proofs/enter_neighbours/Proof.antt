@@ -3,9 +3,9 @@ use borrow.Author.Needs.{needs}
 use native.Mathlib.Omega.{arith}
 use Prim.Native.Nat.{_+_}
 use mathlib.Core.Path.{refl, sym}
-use Rattle.partition.specs.Gains.{listed-fits, listed-nets}
 use Rattle.queue.specs.Enters.{place}
-use Rattle.fm.specs.Neighbours.{own-few, own-under, neighbours-again}
+use Rattle.slots.specs.Rising.{listed-fits, listed-all, listed-few}
+use Rattle.fm.specs.Neighbours.{own-under, neighbours-again}
 use Rattle.fm.proofs.enter_neighbours.Statement.{statement}
 use Rattle.fm.proofs.enter_neighbours.Tie as tie
 
@@ -34,9 +34,9 @@ enter-nets-requires c κs =
     let m = c .before .before .before .before .before .before .before .members in (
       omega arith,
       d .pre .0,
-      own-few (a .words .now) (a .vertices + a .v) (m .result) (m .ensures .0),
+      listed-few (a .words .now) _ _ 4 (a .vertices + a .v) (m .result) (m .ensures .0) (m .ensures .1) (omega arith),
       omega arith,
-      listed-fits (a .words .now) _ _ (a .vertices + a .v) (m .result) (m .ensures .0) (m .ensures .1) (omega arith),
+      listed-fits (a .words .now) _ _ 4 (a .vertices + a .v) (m .result) (m .ensures .0) (m .ensures .1) (omega arith),
       d .pre .2,
       d .pre .3,
       own-under (a .words .now) (place (a .nets) (a .vertices) (a .sides) (a .m) (a .n)) _ _ (a .v) (m .result) (d .pre .2 .laid) (d .pre .1) (m .ensures .0) (m .ensures .1) (omega arith),
@@ -57,7 +57,7 @@ returns c =
     let a = d .args in
     let m = c .before .before .before .before .before .before .before .before .before .before .before .before .before .before .before .before .members in
     neighbours-again (a .words .now) (place (a .nets) (a .vertices) (a .sides) (a .m) (a .n)) (a .weights .now) (a .locked) (a .v) (m .result) _ _ _ (d .pre .2 .laid) (d .pre .1)
-    (listed-nets (a .words .now) _ _ (a .vertices + a .v) (m .result) (m .ensures .0) (m .ensures .1) (omega arith)) (m .ensures .0) (c .before .before .before .before .before .before .before .before .enter-nets .ensures)
+    (listed-all (a .words .now) _ _ 4 (a .vertices + a .v) (m .result) (m .ensures .0) (m .ensures .1) (omega arith)) (m .ensures .0) (c .before .before .before .before .before .before .before .before .enter-nets .ensures)
 
 pub enter-neighbours-spec : {M : Type 1} → statement M
 enter-neighbours-spec =

@@ -2,7 +2,8 @@
 use borrow.Author.Needs.{needs}
 use Prim.Native.Nat.{_+_}
 use Rattle.queue.specs.Enters.{place}
-use Rattle.fm.specs.NetAgain.{pins-fit, pins-listed, pins-under, net-again}
+use Rattle.slots.specs.Rising.{listed-all}
+use Rattle.fm.specs.NetAgain.{pins-fit, pins-under, net-again}
 use Rattle.fm.proofs.enter_net.Statement.{statement}
 use Rattle.fm.proofs.enter_net.Tie as tie
 
@@ -49,7 +50,7 @@ returns c =
     let a = d .args in
     let m = c .before .before .before .before .before .before .before .before .before .before .before .before .before .before .before .before .members in
     net-again (a .words .now) (place (a .nets) (a .vertices) (a .sides) (a .m) (a .n)) (a .weights .now) (a .locked) (a .e) (m .result) _ _ _
-    (pins-listed (a .words .now) (a .pins .now) _ (a .nets + a .e) (m .result) (m .ensures .0) (m .ensures .1) (d .pre .3)) (m .ensures .0) (c .before .before .before .before .before .before .before .before .enter-pins .ensures)
+    (listed-all (a .words .now) (a .pins .now) _ 2 (a .nets + a .e) (m .result) (m .ensures .0) (m .ensures .1) (d .pre .3)) (m .ensures .0) (c .before .before .before .before .before .before .before .before .enter-pins .ensures)
 
 pub enter-net-spec : {M : Type 1} → statement M
 enter-net-spec =

@@ -2,11 +2,11 @@
 use borrow.Author.Needs.{needs}
 use mathlib.Core.List.{List}
 use Rattle.frontier.specs.Turns.{openMost-count, openMost-some, openings-none, openings-next}
-use Rattle.frontier.specs.Opens.{State, state, openMost, openings}
+use Rattle.frontier.specs.Opens.{State, state, openings}
 use native.Mathlib.Omega.{arith}
-use Prim.Native.Nat.{ℕ, _+_, _-_, _*_, _<_, _≤_}
-use mathlib.Core.Path.{_≡_, refl, sym, ap, _∙_, subst}
-use lib.ListN.{length, getD, set, length-set}
+use Prim.Native.Nat.{ℕ, _+_, _-_, _≤_}
+use mathlib.Core.Path.{_≡_, refl, ap, _∙_}
+use lib.ListN.{length}
 use Rattle.frontier.proofs.frontier.Statement.{statement}
 use Rattle.frontier.proofs.frontier.Tie as tie
 

@@ -4,9 +4,8 @@ use Rattle.frontier.specs.Ranks.{Ranking, ranking-next, ranking-end, fro
 use lib.Seq.{length-take-le}
 use lib.ListN.{take}
 use native.Mathlib.Omega.{arith}
-use Prim.Native.Nat.{ℕ, _+_, _-_, _*_, _<_, _≤_}
-use mathlib.Core.Path.{_≡_, refl, sym, ap, _∙_, subst}
-use lib.ListN.{length, getD, set, length-set}
+use Prim.Native.Nat.{_-_, _≤_}
+use mathlib.Core.Path.{refl}
 use Rattle.frontier.proofs.most_work.Statement.{statement}
 use Rattle.frontier.proofs.most_work.Tie as tie
 

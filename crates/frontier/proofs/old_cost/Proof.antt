@@ -2,9 +2,8 @@
 use borrow.Author.Needs.{needs}
 use Rattle.frontier.specs.Costs.{costBelow, cost-none, small-work, cost-add}
 use native.Mathlib.Omega.{arith}
-use Prim.Native.Nat.{ℕ, _+_, _-_, _*_, _<_, _≤_}
-use mathlib.Core.Path.{_≡_, refl, sym, ap, _∙_, subst}
-use lib.ListN.{length, getD, set, length-set}
+use Prim.Native.Nat.{_-_, _<_, _≤_}
+use mathlib.Core.Path.{_≡_, ap, _∙_}
 use Rattle.frontier.proofs.old_cost.Statement.{statement}
 use Rattle.frontier.proofs.old_cost.Tie as tie
 

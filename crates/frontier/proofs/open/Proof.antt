@@ -1,10 +1,9 @@
 -- Assumes nothing.
 use borrow.Author.Needs.{needs}
 use Rattle.frontier.specs.Turns.{open-is}
-use native.Mathlib.Omega.{arith}
-use Prim.Native.Nat.{ℕ, _+_, _-_, _*_, _<_, _≤_}
-use mathlib.Core.Path.{_≡_, refl, sym, ap, _∙_, subst}
-use lib.ListN.{length, getD, set, length-set}
+use Prim.Native.Nat.{ℕ, _+_, _*_}
+use mathlib.Core.Path.{ap, _∙_}
+use lib.ListN.{getD}
 use Rattle.frontier.proofs.open.Statement.{statement}
 use Rattle.frontier.proofs.open.Tie as tie
 

@@ -2,10 +2,6 @@
 use borrow.Author.Needs.{needs}
 use Rattle.frontier.specs.Turns.{most-none, most-some}
 use Rattle.frontier.specs.Opens.{state}
-use native.Mathlib.Omega.{arith}
-use Prim.Native.Nat.{ℕ, _+_, _-_, _*_, _<_, _≤_}
-use mathlib.Core.Path.{_≡_, refl, sym, ap, _∙_, subst}
-use lib.ListN.{length, getD, set, length-set}
 use Rattle.frontier.proofs.open_most.Statement.{statement}
 use Rattle.frontier.proofs.open_most.Tie as tie
 

@@ -6,7 +6,6 @@ use Rattle.spec.specs.Tree.{flatOf}
 use mathlib.Core.List.{[]}
 use lib.Seq.{length-take-le}
 use native.Mathlib.Omega.{arith}
-use Prim.Native.Nat.{_-_}
 use mathlib.Core.Path.{sym}
 use Rattle.greedy.proofs.greedy_all.Statement.{statement}
 use Rattle.greedy.proofs.greedy_all.Tie as tie

@@ -9,7 +9,7 @@ use Rattle.walk.specs.Entry.{lent-cleared}
 use lib.Seq.{length-take-le}
 use lib.ListN.{take}
 use native.Mathlib.Omega.{arith}
-use Prim.Native.Nat.{_-_, _≤_}
+use Prim.Native.Nat.{_≤_}
 use mathlib.Core.Path.{_≡_, refl, sym, ap, _∙_}
 use lib.ListN.{length}
 use Rattle.greedy.proofs.greedy_in.Statement.{statement}

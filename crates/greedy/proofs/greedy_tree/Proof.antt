@@ -5,7 +5,7 @@ use Rattle.parts.specs.Parts.{part, low-length, part-length}
 use Rattle.network.specs.Layouts.{layout-leaf-count}
 use Rattle.spec.specs.Layout.{networkOf}
 use native.Mathlib.Omega.{arith}
-use Prim.Native.Nat.{_-_, _*_}
+use Prim.Native.Nat.{_*_}
 use Rattle.greedy.proofs.greedy_tree.Statement.{statement}
 use Rattle.greedy.proofs.greedy_tree.Tie as tie
 

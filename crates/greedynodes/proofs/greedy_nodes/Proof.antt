@@ -5,7 +5,7 @@ use Rattle.greedynodes.specs.Within.{leaves-put, fits-put}
 use Rattle.parts.specs.Lists.{kidsIn}
 use Rattle.parts.specs.Parts.{part, back, low-length, part-length}
 use native.Mathlib.Omega.{arith}
-use Prim.Native.Nat.{_-_, _*_}
+use Prim.Native.Nat.{_*_}
 use mathlib.Core.Path.{_≡_, refl}
 use lib.ListN.{length}
 use Rattle.greedynodes.proofs.greedy_nodes.Statement.{statement}

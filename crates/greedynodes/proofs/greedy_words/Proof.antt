@@ -9,7 +9,7 @@ use Rattle.parts.specs.Parts.{back, part-length}
 use Rattle.spec.specs.Tree.{flatOf}
 use mathlib.Core.List.{List, _++_}
 use native.Mathlib.Omega.{arith}
-use Prim.Native.Nat.{ℕ, _+_, _-_, _≤_}
+use Prim.Native.Nat.{ℕ, _≤_}
 use mathlib.Core.Path.{refl, sym, ap, _∙_, subst}
 use lib.ListN.{length}
 use Rattle.greedynodes.proofs.greedy_words.Statement.{statement}

@@ -5,10 +5,7 @@ use Rattle.matching.specs.Choices.{mateIf}
 use Rattle.draws.specs.Cursor.{wordsAt}
 use Rattle.partition.specs.Layout.{graphIn}
 use Rattle.spec.specs.Bisection.{growthTurn}
-use native.Mathlib.Omega.{arith}
-use Prim.Native.Nat.{ℕ, _+_, _-_, _*_, _<_, _≤_}
-use mathlib.Core.Path.{_≡_, refl, sym, ap, _∙_, subst}
-use lib.ListN.{length, getD, set, length-set}
+use mathlib.Core.Path.{refl, sym, ap, _∙_}
 use Rattle.growth.proofs.grow_on.Statement.{statement}
 use Rattle.growth.proofs.grow_on.Tie as tie
 

@@ -5,9 +5,9 @@ use Rattle.matching.specs.Choices.{mateIf}
 use Rattle.draws.specs.Cursor.{wordsAt}
 use Rattle.partition.specs.Layout.{graphIn}
 use native.Mathlib.Omega.{arith}
-use Prim.Native.Nat.{ℕ, _+_, _-_, _*_, _<_, _≤_}
-use mathlib.Core.Path.{_≡_, refl, sym, ap, _∙_, subst}
-use lib.ListN.{length, getD, set, length-set}
+use Prim.Native.Nat.{ℕ, _+_, _-_, _<_, _≤_}
+use mathlib.Core.Path.{_≡_, refl, ap, _∙_}
+use lib.ListN.{length}
 use Rattle.growth.proofs.grow_turns.Statement.{statement}
 use Rattle.growth.proofs.grow_turns.Tie as tie
 

@@ -1,14 +1,13 @@
 -- Assumes nothing.
 use borrow.Author.Needs.{needs}
+use Rattle.cells.specs.Cells.{front-filled}
 use Rattle.growth.specs.Grown.{grown-is}
-use Rattle.partition.specs.Folds.{front-filled}
 use Rattle.spec.specs.Floats.{zeroFloat}
 use lib.Seq.{length-take-le}
 use lib.Ieee.{ofBits}
 use native.Mathlib.Omega.{arith}
-use Prim.Native.Nat.{ℕ, _+_, _-_, _*_, _<_, _≤_}
-use mathlib.Core.Path.{_≡_, refl, sym, ap, _∙_, subst}
-use lib.ListN.{length, getD, set, length-set}
+use mathlib.Core.Path.{sym}
+use lib.ListN.{length}
 use Rattle.growth.proofs.grown.Statement.{statement}
 use Rattle.growth.proofs.grown.Tie as tie
 

@@ -1,10 +1,8 @@
 -- Assumes nothing.
 use borrow.Author.Needs.{needs}
 use lib.Ieee.{binary64, add}
-use native.Mathlib.Omega.{arith}
-use Prim.Native.Nat.{ℕ, _+_, _-_, _*_, _<_, _≤_}
-use mathlib.Core.Path.{_≡_, refl, sym, ap, _∙_, subst}
-use lib.ListN.{length, getD, set, length-set}
+use mathlib.Core.Path.{ap, _∙_}
+use lib.ListN.{set}
 use Rattle.growth.proofs.link.Statement.{statement}
 use Rattle.growth.proofs.link.Tie as tie
 

@@ -1,12 +1,9 @@
 -- Assumes nothing.
 use borrow.Author.Needs.{needs}
-use Rattle.growth.specs.Links.{strongIn, offered-better, offered-weak, offered-other}
+use Rattle.growth.specs.Links.{offered-better, offered-weak, offered-other}
 use Rattle.matching.specs.Choices.{mateIf}
 use lib.Ieee.{ofBits, round}
-use native.Mathlib.Omega.{arith}
-use Prim.Native.Nat.{ℕ, _+_, _-_, _*_, _<_, _≤_}
-use mathlib.Core.Path.{_≡_, refl, sym, ap, _∙_, subst}
-use lib.ListN.{length, getD, set, length-set}
+use mathlib.Core.Path.{refl, sym, _∙_}
 use Rattle.growth.proofs.offer.Statement.{statement}
 use Rattle.growth.proofs.offer.Tie as tie
 

@@ -1,15 +1,15 @@
 -- Assumes nothing.
-use borrow.Author.Needs.{needs}
-use Rattle.growth.specs.Links.{strongIn, offeredIn, strongestIn, range-next}
+use Rattle.partition.specs.Folds.{range-next}
+use Rattle.growth.specs.Links.{strongIn, offeredIn, strongestIn}
 use Rattle.matching.specs.Choices.{mateIf}
 use Rattle.draws.specs.Cursor.{wordsAt}
 use Rattle.spec.specs.Floats.{wholeFloat}
 use mathlib.Core.Option.{none}
 use lib.Ieee.{ofBits, ofInt, round, neg}
 use native.Mathlib.Omega.{arith}
-use Prim.Native.Nat.{ℕ, _+_, _-_, _*_, _<_, _≤_}
-use mathlib.Core.Path.{_≡_, refl, sym, ap, _∙_, subst}
-use lib.ListN.{length, getD, set, length-set}
+use Prim.Native.Nat.{ℕ, _-_, _<_, _≤_}
+use mathlib.Core.Path.{_≡_, refl, ap, _∙_}
+use lib.ListN.{length}
 use Rattle.growth.proofs.strongest.Statement.{statement}
 use Rattle.growth.proofs.strongest.Tie as tie
 

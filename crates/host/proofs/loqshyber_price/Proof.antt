@@ -1,6 +1,5 @@
 -- Assumes nothing.
 use borrow.Author.Needs.{needs}
-use Prim.Native.Nat.{_-_}
 use lib.ListN.{length}
 use Rattle.host.specs.Sound.{hands-out}
 use Rattle.host.proofs.loqshyber_price.Statement.{statement}

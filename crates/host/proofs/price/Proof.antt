@@ -1,7 +1,6 @@
 -- Assumes nothing.
 use borrow.Author.Needs.{needs}
 use native.Mathlib.Omega.{arith}
-use Prim.Native.Nat.{_-_}
 use mathlib.Core.Path.{refl, sym, _∙_}
 use lib.ListN.{length, replicate}
 use Rattle.host.specs.Reading.{read-refused, read-done}

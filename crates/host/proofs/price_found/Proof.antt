@@ -1,7 +1,6 @@
 -- Assumes nothing.
 use borrow.Author.Needs.{needs}
 use native.Mathlib.Omega.{arith}
-use Prim.Native.Nat.{_-_}
 use lib.ListN.{length-take}
 use Rattle.host.proofs.price_found.Statement.{statement}
 use Rattle.host.proofs.price_found.Tie as tie

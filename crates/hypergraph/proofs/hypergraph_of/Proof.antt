@@ -5,7 +5,6 @@ use Rattle.ratings.specs.Rated.{one-whole}
 use Rattle.spec.specs.Memory.{filled}
 use lib.Ieee.{ofBits}
 use native.Mathlib.Omega.{arith}
-use Prim.Native.Nat.{_-_}
 use mathlib.Core.Path.{ap, _∙_}
 use lib.ListN.{length}
 use Rattle.hypergraph.proofs.hypergraph_of.Statement.{statement}

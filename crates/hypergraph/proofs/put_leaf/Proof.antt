@@ -3,7 +3,7 @@ use borrow.Author.Needs.{needs}
 use Rattle.hypergraph.specs.Raw.{leafPut}
 use Rattle.mesh.specs.Entries.{entered}
 use native.Mathlib.Omega.{arith}
-use Prim.Native.Nat.{_-_, _*_}
+use Prim.Native.Nat.{_*_}
 use mathlib.Core.Path.{ap, _∙_}
 use Rattle.hypergraph.proofs.put_leaf.Statement.{statement}
 use Rattle.hypergraph.proofs.put_leaf.Tie as tie

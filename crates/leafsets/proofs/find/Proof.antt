@@ -4,7 +4,6 @@ use Rattle.leafsets.specs.Search.{sameWords, firstFrom, first-next, firs
 use native.Mathlib.Omega.{arith}
 use Prim.Native.Nat.{_-_, _≤_}
 use mathlib.Core.Path.{_≡_, refl, sym, _∙_}
-use lib.ListN.{set}
 use Rattle.leafsets.proofs.find.Statement.{statement}
 use Rattle.leafsets.proofs.find.Tie as tie
 

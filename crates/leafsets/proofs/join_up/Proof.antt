@@ -1,7 +1,7 @@
 -- Assumes nothing.
 use borrow.Author.Needs.{needs}
 use lib.ListN.{drop, length, getD}
-use Rattle.leafsets.specs.Passes.{joined, ups, ups-next, ups-none, joined-is, joined-length}
+use Rattle.leafsets.specs.Passes.{ups, ups-next, ups-none, joined-is, joined-length}
 use native.Mathlib.Omega.{arith}
 use Prim.Native.Nat.{_-_, _≤_}
 use mathlib.Core.Path.{_≡_, refl, sym, ap, _∙_}

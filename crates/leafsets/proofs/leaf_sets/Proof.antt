@@ -4,7 +4,7 @@ use Rattle.leafsets.specs.Passes.{singles, single-next, singles-none, si
 use native.Mathlib.Omega.{arith}
 use Prim.Native.Nat.{_-_, _≤_}
 use mathlib.Core.Path.{_≡_, ap, _∙_}
-use lib.ListN.{length, set}
+use lib.ListN.{length}
 use Rattle.leafsets.proofs.leaf_sets.Statement.{statement}
 use Rattle.leafsets.proofs.leaf_sets.Tie as tie
 

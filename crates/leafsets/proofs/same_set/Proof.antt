@@ -8,7 +8,7 @@ use Rattle.spec.specs.Lists.{allb, from}
 use native.Mathlib.Omega.{arith}
 use Prim.Native.Nat.{_+_, _-_, _*_, _≤_}
 use mathlib.Core.Path.{_≡_, sym, _∙_}
-use lib.ListN.{getD, set}
+use lib.ListN.{getD}
 use Rattle.leafsets.proofs.same_set.Statement.{statement}
 use Rattle.leafsets.proofs.same_set.Tie as tie
 

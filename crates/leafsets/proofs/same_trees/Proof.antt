@@ -4,7 +4,6 @@ use Rattle.leafsets.specs.Whole.{one-way, other-way}
 use Rattle.leafsets.specs.Passes.{ups}
 use Prim.Native.Nat.{_*_}
 use mathlib.Core.Path.{ap, _∙_}
-use lib.ListN.{length, set}
 use Rattle.leafsets.proofs.same_trees.Statement.{statement}
 use Rattle.leafsets.proofs.same_trees.Tie as tie
 

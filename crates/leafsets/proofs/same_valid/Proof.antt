@@ -2,7 +2,7 @@
 use borrow.Author.Needs.{needs}
 use Rattle.leafsets.specs.Whole.{order-front}
 use lib.Seq.{length-take-le}
-use lib.ListN.{take, length}
+use lib.ListN.{length}
 use native.Mathlib.Omega.{arith}
 use mathlib.Core.Path.{_≡_, sym}
 use Rattle.leafsets.proofs.same_valid.Statement.{statement}

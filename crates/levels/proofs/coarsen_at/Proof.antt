@@ -7,7 +7,6 @@ use Rattle.matching.specs.Meshed.{Meshed}
 use native.Mathlib.Omega.{arith}
 use Prim.Native.Nat.{ℕ, _+_, _-_, _*_}
 use mathlib.Core.Path.{_≡_, refl, sym, _∙_, subst}
-use lib.ListN.{length}
 use Rattle.levels.proofs.coarsen_at.Statement.{statement}
 use Rattle.levels.proofs.coarsen_at.Tie as tie
 

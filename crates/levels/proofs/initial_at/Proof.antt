@@ -6,8 +6,8 @@ use Rattle.partition.specs.Layout.{graphIn}
 use Rattle.spec.specs.Floats.{wholeFloat}
 use lib.Ieee.{binary64, div, ofBits, ofInt, round}
 use native.Mathlib.Omega.{arith}
-use Prim.Native.Nat.{ℕ, _*_}
-use mathlib.Core.Path.{refl, sym, ap, _∙_}
+use Prim.Native.Nat.{_*_}
+use mathlib.Core.Path.{sym, ap, _∙_}
 use lib.ListN.{length}
 use Rattle.levels.proofs.initial_at.Statement.{statement}
 use Rattle.levels.proofs.initial_at.Tie as tie

@@ -2,9 +2,9 @@
 use borrow.Author.Needs.{needs}
 use Rattle.levels.specs.Spans.{project-next, projected}
 use native.Mathlib.Omega.{arith}
-use Prim.Native.Nat.{ℕ, _+_, _-_, _*_, _<_, _≤_}
-use mathlib.Core.Path.{_≡_, refl, sym, ap, _∙_, subst}
-use lib.ListN.{length, getD, set, length-set}
+use Prim.Native.Nat.{ℕ, _-_, _<_, _≤_}
+use mathlib.Core.Path.{_≡_, refl, ap, _∙_}
+use lib.ListN.{length, getD, length-set}
 use Rattle.levels.proofs.project.Statement.{statement}
 use Rattle.levels.proofs.project.Tie as tie
 

@@ -5,7 +5,7 @@ use lib.Seq.{length-take-le, take-at}
 use Rattle.spec.specs.Hypergraph.{sideOf}
 use Rattle.levels.specs.Spans.{span, span-length, copied-front}
 use native.Mathlib.Omega.{arith}
-use Prim.Native.Nat.{ℕ, _+_, _*_}
+use Prim.Native.Nat.{_+_, _*_}
 use mathlib.Core.Path.{_≡_, refl, sym, ap, _∙_}
 use Rattle.levels.proofs.project_at.Statement.{statement}
 use Rattle.levels.proofs.project_at.Tie as tie

@@ -3,8 +3,8 @@ use lib.Seq.{length-take-le}
 use Rattle.levels.specs.Stage.{stage-site, gives}
 use Rattle.levels.specs.Spans.{span-length, front-as}
 use native.Mathlib.Omega.{arith}
-use Prim.Native.Nat.{ℕ, _*_}
-use mathlib.Core.Path.{refl, sym, _∙_}
+use Prim.Native.Nat.{_*_}
+use mathlib.Core.Path.{sym, _∙_}
 use lib.ListN.{length}
 use Rattle.levels.proofs.refine_at.Statement.{statement}
 use Rattle.levels.proofs.refine_at.Tie as tie

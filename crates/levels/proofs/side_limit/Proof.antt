@@ -2,10 +2,7 @@
 use borrow.Author.Needs.{needs}
 use Rattle.spec.specs.Floats.{lesser}
 use lib.Ieee.{ofBits, ofInt, round}
-use native.Mathlib.Omega.{arith}
-use Prim.Native.Nat.{ℕ, _+_, _-_, _*_, _<_, _≤_}
-use mathlib.Core.Path.{_≡_, refl, sym, ap, _∙_, subst}
-use lib.ListN.{length, getD, set, length-set}
+use mathlib.Core.Path.{_∙_}
 use Rattle.levels.proofs.side_limit.Statement.{statement}
 use Rattle.levels.proofs.side_limit.Tie as tie
 

@@ -7,9 +7,9 @@ use Rattle.levels.specs.Spans.{summed, sum-next}
 use Rattle.spec.specs.Hypergraph.{foldOver}
 use Rattle.spec.specs.Floats.{zeroFloat}
 use native.Mathlib.Omega.{arith}
-use Prim.Native.Nat.{ℕ, _+_, _-_, _*_, _<_, _≤_}
-use mathlib.Core.Path.{_≡_, refl, sym, ap, _∙_, subst}
-use lib.ListN.{length, getD, set, length-set}
+use Prim.Native.Nat.{ℕ, _-_, _≤_}
+use mathlib.Core.Path.{_≡_, refl, ap, _∙_}
+use lib.ListN.{length}
 use Rattle.levels.proofs.total_weight.Statement.{statement}
 use Rattle.levels.proofs.total_weight.Tie as tie
 

@@ -1,7 +1,6 @@
 -- Assumes nothing.
 use borrow.Author.Needs.{needs}
 use native.Mathlib.Omega.{arith}
-use Prim.Native.Nat.{_-_}
 use mathlib.Core.Path.{refl, sym, _∙_}
 use Rattle.listing.specs.Listing.{answer-short, answer-refused, answer-done}
 use Rattle.listing.proofs.list_with.Statement.{statement}

@@ -1,7 +1,7 @@
 -- Assumes nothing.
 use borrow.Author.Needs.{needs}
 use native.Mathlib.Omega.{arith}
-use Prim.Native.Nat.{_-_, _*_}
+use Prim.Native.Nat.{_*_}
 use mathlib.Core.Path.{ap, _∙_}
 use lib.ListN.{take, length-take}
 use Rattle.spec.specs.Memory.{placed}

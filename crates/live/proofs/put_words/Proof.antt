@@ -1,6 +1,5 @@
 -- Assumes nothing.
 use borrow.Author.Needs.{needs}
-use Prim.Native.Nat.{_-_}
 use mathlib.Core.Path.{_∙_}
 use Rattle.live.proofs.put_words.Statement.{statement}
 use Rattle.live.proofs.put_words.Tie as tie

@@ -6,9 +6,9 @@ use Rattle.bits.specs.Digits.{or-digits}
 use lib.Bits.{bitOr, or-lt}
 use mathlib.Core.Bool.{_||_}
 use native.Mathlib.Omega.{arith}
-use Prim.Native.Nat.{ℕ, _+_, _-_, _*_, _<_, _≤_}
-use mathlib.Core.Path.{_≡_, refl, sym, ap, _∙_, subst}
-use lib.ListN.{length, getD, set, length-set}
+use Prim.Native.Nat.{_-_, _*_, _≤_}
+use mathlib.Core.Path.{_≡_, ap, _∙_}
+use lib.ListN.{length}
 use Rattle.locals.proofs.add_slot.Statement.{statement}
 use Rattle.locals.proofs.add_slot.Tie as tie
 

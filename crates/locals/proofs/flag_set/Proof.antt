@@ -2,13 +2,11 @@
 use borrow.Author.Needs.{needs}
 use Rattle.locals.specs.Unions.{Tested, tested-none, tested-yes, tested-no, tested-end, flag-yes, flag-no, flags-all}
 use Rattle.spec.specs.Calls.{flagAt}
-use Rattle.slots.specs.Slots.{withSet-length}
 use mathlib.Core.Logic.{⊎-elim}
-use mathlib.Core.List.{List}
 use native.Mathlib.Omega.{arith}
-use Prim.Native.Nat.{ℕ, _+_, _-_, _*_, _<_, _≤_}
-use mathlib.Core.Path.{_≡_, refl, sym, ap, _∙_, subst}
-use lib.ListN.{length, getD, set, length-set}
+use Prim.Native.Nat.{_-_, _≤_}
+use mathlib.Core.Path.{_≡_, refl, ap, _∙_}
+use lib.ListN.{length}
 use Rattle.locals.proofs.flag_set.Statement.{statement}
 use Rattle.locals.proofs.flag_set.Tie as tie
 

@@ -2,10 +2,8 @@
 use borrow.Author.Needs.{needs}
 use Rattle.locals.specs.Turns.{locals-are}
 use lib.Seq.{sets}
-use native.Mathlib.Omega.{arith}
-use Prim.Native.Nat.{ℕ, _+_, _-_, _*_, _<_, _≤_}
-use mathlib.Core.Path.{_≡_, refl, sym, ap, _∙_, subst}
-use lib.ListN.{length, getD, set, length-set}
+use mathlib.Core.Path.{ap, _∙_}
+use lib.ListN.{length}
 use Rattle.locals.proofs.local_indices.Statement.{statement}
 use Rattle.locals.proofs.local_indices.Tie as tie
 

@@ -3,11 +3,10 @@ use borrow.Author.Needs.{needs}
 use Rattle.locals.specs.Unions.{Tested, tested-none, tested-yes, tested-no, tested-end}
 use Rattle.slots.specs.Slots.{held}
 use mathlib.Core.Logic.{⊎-elim}
-use mathlib.Core.List.{List}
 use native.Mathlib.Omega.{arith}
-use Prim.Native.Nat.{ℕ, _+_, _-_, _*_, _<_, _≤_}
-use mathlib.Core.Path.{_≡_, refl, sym, ap, _∙_, subst}
-use lib.ListN.{length, getD, set, length-set}
+use Prim.Native.Nat.{ℕ, _-_, _≤_}
+use mathlib.Core.Path.{_≡_, refl, sym, ap, _∙_}
+use lib.ListN.{length, getD}
 use Rattle.locals.proofs.local_set.Statement.{statement}
 use Rattle.locals.proofs.local_set.Tie as tie
 

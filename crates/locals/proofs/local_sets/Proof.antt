@@ -2,9 +2,9 @@
 use borrow.Author.Needs.{needs}
 use Rattle.locals.specs.Turns.{Placed, placed-root, placed-next, placed-end}
 use native.Mathlib.Omega.{arith}
-use Prim.Native.Nat.{ℕ, _+_, _-_, _*_, _<_, _≤_}
-use mathlib.Core.Path.{_≡_, refl, sym, ap, _∙_, subst}
-use lib.ListN.{length, getD, set, length-set}
+use Prim.Native.Nat.{ℕ, _+_, _-_, _≤_}
+use mathlib.Core.Path.{_≡_, refl, ap}
+use lib.ListN.{length}
 use Rattle.locals.proofs.local_sets.Statement.{statement}
 use Rattle.locals.proofs.local_sets.Tie as tie
 

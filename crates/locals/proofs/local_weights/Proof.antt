@@ -3,9 +3,9 @@ use borrow.Author.Needs.{needs}
 use Rattle.locals.specs.Locals.{localWeight}
 use Rattle.locals.specs.Turns.{Weights, weights-none, weights-next}
 use native.Mathlib.Omega.{arith}
-use Prim.Native.Nat.{ℕ, _+_, _-_, _*_, _<_, _≤_}
-use mathlib.Core.Path.{_≡_, refl, sym, ap, _∙_, subst}
-use lib.ListN.{length, getD, set, length-set}
+use Prim.Native.Nat.{ℕ, _-_, _≤_}
+use mathlib.Core.Path.{_≡_, refl, ap, _∙_}
+use lib.ListN.{length}
 use Rattle.locals.proofs.local_weights.Statement.{statement}
 use Rattle.locals.proofs.local_weights.Tie as tie
 

@@ -5,9 +5,9 @@ use Rattle.slots.specs.Slots.{written, written-none, written-length, withSet-en
 use Rattle.bits.specs.Digits.{bitDiff, diff-digits, diff-lt}
 use mathlib.Core.Bool.{_&&_, not}
 use native.Mathlib.Omega.{arith}
-use Prim.Native.Nat.{ℕ, _+_, _-_, _*_, _<_, _≤_}
-use mathlib.Core.Path.{_≡_, refl, sym, ap, _∙_, subst}
-use lib.ListN.{length, getD, set, length-set}
+use Prim.Native.Nat.{_-_, _*_, _≤_}
+use mathlib.Core.Path.{_≡_, ap, _∙_}
+use lib.ListN.{length}
 use Rattle.locals.proofs.take_slot.Statement.{statement}
 use Rattle.locals.proofs.take_slot.Tie as tie
 

@@ -2,9 +2,9 @@
 use borrow.Author.Needs.{needs}
 use Rattle.locals.specs.Unions.{Uniting, uniting-none, uniting-next, uniting-end}
 use native.Mathlib.Omega.{arith}
-use Prim.Native.Nat.{ℕ, _+_, _-_, _*_, _<_, _≤_}
-use mathlib.Core.Path.{_≡_, refl, sym, ap, _∙_, subst}
-use lib.ListN.{length, getD, set, length-set}
+use Prim.Native.Nat.{_-_, _≤_}
+use mathlib.Core.Path.{_≡_, refl}
+use lib.ListN.{length}
 use Rattle.locals.proofs.unite_members.Statement.{statement}
 use Rattle.locals.proofs.unite_members.Tie as tie
 

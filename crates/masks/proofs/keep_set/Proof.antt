@@ -1,10 +1,9 @@
 -- Assumes nothing.
 use borrow.Author.Needs.{needs}
-use Rattle.masks.specs.Keeps.{kept-set, kept-bits, withKept-length}
+use Rattle.masks.specs.Keeps.{kept-set, kept-bits}
 use native.Mathlib.Omega.{arith}
-use Prim.Native.Nat.{ℕ, _+_, _-_, _*_, _<_, _≤_}
-use mathlib.Core.Path.{_≡_, refl, sym, ap, _∙_, subst}
-use lib.ListN.{length, getD, set, length-set}
+use mathlib.Core.Path.{refl}
+use lib.ListN.{length-set}
 use Rattle.masks.proofs.keep_set.Statement.{statement}
 use Rattle.masks.proofs.keep_set.Tie as tie
 

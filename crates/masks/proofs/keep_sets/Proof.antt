@@ -1,12 +1,11 @@
 -- Assumes nothing.
 use borrow.Author.Needs.{needs}
-use Rattle.masks.specs.Keeps.{withKept, keep-start, keep-next}
+use Rattle.masks.specs.Keeps.{keep-start, keep-next}
 use Rattle.masks.specs.Tables.{KeptBelow}
 use mathlib.Core.List.{List}
 use native.Mathlib.Omega.{arith}
-use Prim.Native.Nat.{ℕ, _+_, _-_, _*_, _<_, _≤_}
-use mathlib.Core.Path.{_≡_, refl, sym, ap, _∙_, subst}
-use lib.ListN.{length, getD, set, length-set}
+use Prim.Native.Nat.{ℕ, _+_, _-_, _≤_}
+use mathlib.Core.Path.{_≡_, sym, subst}
 use Rattle.masks.proofs.keep_sets.Statement.{statement}
 use Rattle.masks.proofs.keep_sets.Tie as tie
 

@@ -3,12 +3,11 @@ use borrow.Author.Needs.{needs}
 use mathlib.Core.List.{List}
 use Rattle.masks.specs.Unions.{unite-start, unite-single, unite-joint}
 use Rattle.masks.specs.Tables.{United}
-use lib.Bits.{bitAnd, and-le-l, and-le-r}
+use lib.Bits.{and-le-l}
 use mathlib.Core.Logic.{⊎-elim}
 use native.Mathlib.Omega.{arith}
-use Prim.Native.Nat.{ℕ, _+_, _-_, _*_, _<_, _≤_}
-use mathlib.Core.Path.{_≡_, refl, sym, ap, _∙_, subst}
-use lib.ListN.{length, getD, set, length-set}
+use Prim.Native.Nat.{ℕ, _+_, _-_, _≤_}
+use mathlib.Core.Path.{_≡_, sym, _∙_, subst}
 use Rattle.masks.proofs.unions.Statement.{statement}
 use Rattle.masks.proofs.unions.Tie as tie
 

@@ -2,9 +2,6 @@
 use borrow.Author.Needs.{needs}
 use Rattle.masks.specs.Weights.{two-words}
 use native.Mathlib.Omega.{arith}
-use Prim.Native.Nat.{ℕ, _+_, _-_, _*_, _<_, _≤_}
-use mathlib.Core.Path.{_≡_, refl, sym, ap, _∙_, subst}
-use lib.ListN.{length, getD, set, length-set}
 use Rattle.masks.proofs.weigh.Statement.{statement}
 use Rattle.masks.proofs.weigh.Tie as tie
 

@@ -3,9 +3,9 @@ use borrow.Author.Needs.{needs}
 use Rattle.masks.specs.Weights.{weightBelow, below-none, below-next, digit-weight}
 use Rattle.bits.specs.Bit.{bit}
 use native.Mathlib.Omega.{arith}
-use Prim.Native.Nat.{ℕ, _+_, _-_, _*_, _<_, _≤_}
-use mathlib.Core.Path.{_≡_, refl, sym, ap, _∙_, subst}
-use lib.ListN.{length, getD, set, length-set}
+use Prim.Native.Nat.{ℕ, _+_, _-_, _*_, _≤_}
+use mathlib.Core.Path.{_≡_, ap, _∙_}
+use lib.ListN.{getD}
 use Rattle.masks.proofs.weigh_word.Statement.{statement}
 use Rattle.masks.proofs.weigh_word.Tie as tie
 

@@ -9,9 +9,9 @@ use mathlib.Core.Bool.{false}
 use lib.ListN.{take}
 use lib.Ieee.{ofBits}
 use native.Mathlib.Omega.{arith}
-use Prim.Native.Nat.{ℕ, _+_, _-_, _*_, _<_, _≤_}
-use mathlib.Core.Path.{_≡_, refl, sym, ap, _∙_, subst}
-use lib.ListN.{length, getD, set, length-set}
+use Prim.Native.Nat.{ℕ, _-_, _<_, _≤_}
+use mathlib.Core.Path.{_≡_, refl, ap, _∙_}
+use lib.ListN.{length}
 use Rattle.matching.proofs.choose.Statement.{statement}
 use Rattle.matching.proofs.choose.Tie as tie
 

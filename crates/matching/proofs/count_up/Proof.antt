@@ -4,9 +4,9 @@ use Rattle.matching.specs.Order.{counted-next, counted-end}
 use Rattle.spec.specs.Lists.{range}
 use lib.ListN.{take}
 use native.Mathlib.Omega.{arith}
-use Prim.Native.Nat.{ℕ, _+_, _-_, _*_, _<_, _≤_}
-use mathlib.Core.Path.{_≡_, refl, sym, ap, _∙_, subst}
-use lib.ListN.{length, getD, set, length-set}
+use Prim.Native.Nat.{_+_, _-_, _≤_}
+use mathlib.Core.Path.{_≡_, refl, ap, _∙_}
+use lib.ListN.{length, length-set}
 use Rattle.matching.proofs.count_up.Statement.{statement}
 use Rattle.matching.proofs.count_up.Tie as tie
 

@@ -2,10 +2,8 @@
 use borrow.Author.Needs.{needs}
 use Rattle.matching.specs.Choices.{looked-better, looked-light, looked-heavy, mateIf}
 use lib.Ieee.{ofBits, ofInt, round}
-use native.Mathlib.Omega.{arith}
-use Prim.Native.Nat.{ℕ, _+_, _-_, _*_, _<_, _≤_}
-use mathlib.Core.Path.{_≡_, refl, sym, ap, _∙_, subst}
-use lib.ListN.{length, getD, set, length-set}
+use mathlib.Core.Path.{refl, ap, _∙_}
+use lib.ListN.{length, length-set}
 use Rattle.matching.proofs.look.Statement.{statement}
 use Rattle.matching.proofs.look.Tie as tie
 

@@ -2,10 +2,9 @@
 use borrow.Author.Needs.{needs}
 use Rattle.matching.specs.Meshed.{all-matched, order-below, front-long}
 use Rattle.laws.specs.ListLaws.{range-length}
-use Rattle.cells.specs.Cells.{filled-length}
 use native.Mathlib.Omega.{arith}
-use Prim.Native.Nat.{ℕ, _+_, _-_, _*_, _<_, _≤_}
-use mathlib.Core.Path.{_≡_, refl, sym, ap, _∙_, subst}
+use Prim.Native.Nat.{ℕ}
+use mathlib.Core.Path.{refl, sym, ap, _∙_}
 use lib.ListN.{length, take, replicate}
 use Rattle.matching.proofs.match_all.Statement.{statement}
 use Rattle.matching.proofs.match_all.Tie as tie

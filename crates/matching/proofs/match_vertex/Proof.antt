@@ -1,15 +1,16 @@
 -- Assumes nothing.
 use borrow.Author.Needs.{needs}
-use Rattle.matching.specs.Meshed.{matched-laid, matched-already, front-filled, listed-few, listed-fits, listed-nets}
+use Rattle.cells.specs.Cells.{front-filled}
+use Rattle.matching.specs.Meshed.{matched-laid, matched-already}
 use Rattle.matching.specs.Choices.{mated-length}
 use Rattle.spec.specs.Floats.{zeroFloat}
 use lib.Seq.{length-take-le}
-use Rattle.slots.specs.Rising.{risingOf}
+use Rattle.slots.specs.Rising.{listed-few, listed-fits, listed-all}
 use lib.Ieee.{ofBits}
 use native.Mathlib.Omega.{arith}
-use Prim.Native.Nat.{ℕ, _+_, _-_, _*_, _<_, _≤_}
-use mathlib.Core.Path.{_≡_, refl, sym, ap, _∙_, subst}
-use lib.ListN.{length, getD, set, length-set}
+use Prim.Native.Nat.{_+_}
+use mathlib.Core.Path.{refl, sym, _∙_}
+use lib.ListN.{length}
 use Rattle.matching.proofs.match_vertex.Statement.{statement}
 use Rattle.matching.proofs.match_vertex.Tie as tie
 
@@ -23,7 +24,7 @@ members-requires : tie.Need-members-requires
 members-requires c κs = let d = c .before .before .before .before .before .before .before .before .before .before .before in (omega arith, omega (arith, d .pre .1, d .pre .2, d .pre .4 .few .1), omega arith)
 
 rate-nets-requires : tie.Need-rate-nets-requires
-rate-nets-requires c κs = let d = c .before .before .before .before .before .before .before .before .before .before .before .before .before .before .before .before .before in let a = d .args in let m = c .before .before .before .before .before .members in (omega (arith, d .pre .0), listed-few (a .graph .now) _ _ (a .vertices + a .v) (m .result) (m .ensures .0) (m .ensures .1) (omega arith), listed-fits (a .graph .now) _ _ (a .vertices + a .v) (m .result) (m .ensures .0) (m .ensures .1) (omega arith), d .pre .3)
+rate-nets-requires c κs = let d = c .before .before .before .before .before .before .before .before .before .before .before .before .before .before .before .before .before in let a = d .args in let m = c .before .before .before .before .before .members in (omega (arith, d .pre .0), listed-few (a .graph .now) _ _ 4 (a .vertices + a .v) (m .result) (m .ensures .0) (m .ensures .1) (omega arith), listed-fits (a .graph .now) _ _ 4 (a .vertices + a .v) (m .result) (m .ensures .0) (m .ensures .1) (omega arith), d .pre .3)
 
 choose-requires : tie.Need-choose-requires
 choose-requires c κs = let d = c .before .before .before .before .before .before .before .before .before .before .before .before .before .before .before .before .before .before .before .before .before .before .before in let o = c .before .before .before .before .before .rate-nets in omega (arith, o .ensures .1, o .ensures .2, d .pre .3)
@@ -43,7 +44,7 @@ same-length-3 c = search needs
 returns : tie.Need-returns
 unfolding ofBits
 returns c = let d = c .before .before .before .before .before .before .before .before .before .before .before .before .before .before .before .before .before .before .before .before .before .before .before .before .before .before .before .before .before in let a = d .args in let m = c .before .before .before .before .before .before .before .before .before .before .before .before .before .before .before .before .before .members in let o = c .before .before .before .before .before .before .before .before .before .before .before .rate-nets in let k = c .before .before .before .before .before .choose in (
-  matched-laid (a .graph .now) (a .nets) (a .vertices) (a .m) (length (a .vw .now)) (a .weights .now) (a .vw .now) (a .limit) (d .pre .4) (a .v) (a .words .now) (a .mates .now) _ _ (a .touched .now) _ _ _ (m .result) (o .result) (a .at) (k .result .at) (k .result .mate) (k .result .found) (k .result .rating) (d .pre .2) refl (sym (c .before .before .before .before .before .before .before .before .before .before .before .before .before .before .before .before .before .before .before .before .before .at16 .ensures .0) ∙ c .before .before .before .before .before .before .before .before .before .before .before .before .before .before .before .before .before .before .before .before .if1 .taken) (listed-nets (a .graph .now) _ _ (a .vertices + a .v) (m .result) (m .ensures .0) (m .ensures .1) (omega arith)) (front-filled zeroFloat (length (a .vw .now)) 128 (omega (arith, d .pre .4 .few .1))) (o .ensures .0) _ (k .ensures .0) (c .before .before .pair .ensures),
+  matched-laid (a .graph .now) (a .nets) (a .vertices) (a .m) (length (a .vw .now)) (a .weights .now) (a .vw .now) (a .limit) (d .pre .4) (a .v) (a .words .now) (a .mates .now) _ _ (a .touched .now) _ _ _ (m .result) (o .result) (a .at) (k .result .at) (k .result .mate) (k .result .found) (k .result .rating) (d .pre .2) refl (sym (c .before .before .before .before .before .before .before .before .before .before .before .before .before .before .before .before .before .before .before .before .before .at16 .ensures .0) ∙ c .before .before .before .before .before .before .before .before .before .before .before .before .before .before .before .before .before .before .before .before .if1 .taken) (listed-all (a .graph .now) _ _ 4 (a .vertices + a .v) (m .result) (m .ensures .0) (m .ensures .1) (omega arith)) (front-filled (length (a .vw .now)) 128 zeroFloat (omega (arith, d .pre .4 .few .1))) (o .ensures .0) _ (k .ensures .0) (c .before .before .pair .ensures),
   mated-length (a .v) (k .result .mate) (k .result .found) (a .mates .now) _ (c .before .before .pair .ensures),
   o .ensures .2,
 )

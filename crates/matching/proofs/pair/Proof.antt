@@ -1,10 +1,8 @@
 -- Assumes nothing.
 use borrow.Author.Needs.{needs}
 use Rattle.matching.specs.Choices.{matedIn}
-use native.Mathlib.Omega.{arith}
-use Prim.Native.Nat.{ℕ, _+_, _-_, _*_, _<_, _≤_}
-use mathlib.Core.Path.{_≡_, refl, sym, ap, _∙_, subst}
-use lib.ListN.{length, getD, set, length-set}
+use mathlib.Core.Path.{sym, ap, _∙_}
+use lib.ListN.{set}
 use Rattle.matching.proofs.pair.Statement.{statement}
 use Rattle.matching.proofs.pair.Tie as tie
 

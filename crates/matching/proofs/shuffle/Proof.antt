@@ -5,9 +5,9 @@ use Rattle.draws.specs.Cursor.{wordsAt}
 use Rattle.spec.specs.Coarsen.{shuffled}
 use Rattle.spec.specs.Draws.{drawn}
 use native.Mathlib.Omega.{arith}
-use Prim.Native.Nat.{ℕ, _+_, _-_, _*_, _<_, _≤_}
-use mathlib.Core.Path.{_≡_, refl, sym, ap, _∙_, subst}
-use lib.ListN.{length, getD, set, length-set}
+use Prim.Native.Nat.{_-_, _≤_}
+use mathlib.Core.Path.{_≡_, refl, _∙_}
+use lib.ListN.{length}
 use Rattle.matching.proofs.shuffle.Statement.{statement}
 use Rattle.matching.proofs.shuffle.Tie as tie
 

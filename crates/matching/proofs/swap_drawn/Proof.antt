@@ -2,10 +2,8 @@
 use borrow.Author.Needs.{needs}
 use Rattle.matching.specs.Order.{swap-length}
 use Rattle.matching.specs.Order.{swap-is}
-use native.Mathlib.Omega.{arith}
-use Prim.Native.Nat.{ℕ, _+_, _-_, _*_, _<_, _≤_}
-use mathlib.Core.Path.{_≡_, refl, sym, ap, _∙_, subst}
-use lib.ListN.{length, getD, set, length-set}
+use Prim.Native.Nat.{_+_}
+use mathlib.Core.Path.{refl}
 use Rattle.matching.proofs.swap_drawn.Statement.{statement}
 use Rattle.matching.proofs.swap_drawn.Tie as tie
 

@@ -1,6 +1,5 @@
 -- Assumes nothing.
 use borrow.Author.Needs.{needs}
-use Prim.Native.Nat.{_-_}
 use Rattle.spec.specs.Network.{refusalOf}
 use Rattle.network.specs.Record.{netOf}
 use Rattle.memory.specs.Numbers.{none-short, own-number}

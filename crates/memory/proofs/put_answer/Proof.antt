@@ -1,6 +1,5 @@
 -- Assumes nothing.
 use borrow.Author.Needs.{needs}
-use Prim.Native.Nat.{_-_}
 use mathlib.Core.Path.{refl}
 use Rattle.cost.specs.Back.{pricesFrom}
 use Rattle.memory.specs.Numbers.{numbers-put}

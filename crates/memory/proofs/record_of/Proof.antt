@@ -1,6 +1,5 @@
 -- Assumes nothing.
 use borrow.Author.Needs.{needs}
-use Prim.Native.Nat.{_-_}
 use mathlib.Core.Path.{_∙_}
 use lib.ListN.{length, replicate}
 use Rattle.spec.specs.Layout.{networkOf}

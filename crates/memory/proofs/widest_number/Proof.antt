@@ -1,6 +1,5 @@
 -- Assumes nothing.
 use borrow.Author.Needs.{needs}
-use Prim.Native.Nat.{_-_}
 use mathlib.Core.Path.{sym, ap}
 use Rattle.spec.specs.Host.{widestNumber}
 use Rattle.cost.specs.Back.{widestFrom}

@@ -3,10 +3,7 @@ use borrow.Author.Needs.{needs}
 use Rattle.memorybisection.specs.Promise.{too-uneven, large-network, short-answer, bisect-refused, bisect-done}
 use Rattle.memory.specs.Promise.{lent-large}
 use Rattle.spec.specs.Host.{lentNetwork}
-use native.Mathlib.Omega.{arith}
-use Prim.Native.Nat.{ℕ, _+_, _-_, _*_, _<_, _≤_}
-use mathlib.Core.Path.{_≡_, refl, sym, ap, _∙_, subst}
-use lib.ListN.{length, getD, set, length-set}
+use mathlib.Core.Path.{sym, _∙_}
 use Rattle.memorybisection.proofs.bisection.Statement.{statement}
 use Rattle.memorybisection.proofs.bisection.Tie as tie
 

@@ -6,7 +6,7 @@ use Rattle.parts.specs.Lists.{listsIn, nodesIn, rowsIn, sets-back, nodes-back, 
 use Rattle.parts.specs.Parts.{back, part-enough}
 use Prim.Native.Nat.{_/_, _%_}
 use native.Mathlib.Omega.{arith}
-use Prim.Native.Nat.{ℕ, _-_, _<_, _≤_}
+use Prim.Native.Nat.{ℕ, _<_, _≤_}
 use mathlib.Core.Path.{_≡_, sym, ap, _∙_, subst}
 use lib.ListN.{length, getD}
 use Rattle.merging.proofs.merge.Statement.{statement}

@@ -1,6 +1,5 @@
 -- Assumes nothing.
 use borrow.Author.Needs.{needs}
-use Prim.Native.Nat.{_-_}
 use mathlib.Core.Path.{_∙_}
 use Rattle.merging.proofs.put_children.Statement.{statement}
 use Rattle.merging.proofs.put_children.Tie as tie

@@ -2,7 +2,6 @@
 use borrow.Author.Needs.{needs}
 use Rattle.rows.specs.Within.{allRenewed}
 use Rattle.parts.specs.Lists.{Lists}
-use Prim.Native.Nat.{_-_}
 use mathlib.Core.Path.{ap, _∙_}
 use Rattle.merging.proofs.scan.Statement.{statement}
 use Rattle.merging.proofs.scan.Tie as tie

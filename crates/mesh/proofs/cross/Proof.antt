@@ -6,7 +6,7 @@ use Rattle.mesh.specs.Entries.{emptied}
 use Rattle.cells.specs.Loop.{turns-none, turns-next, turns-end}
 use native.Mathlib.Omega.{arith}
 use Prim.Native.Nat.{_-_, _≤_}
-use mathlib.Core.Path.{_≡_, refl, sym, ap, _∙_}
+use mathlib.Core.Path.{_≡_, sym, ap, _∙_}
 use lib.ListN.{length}
 use Rattle.mesh.proofs.cross.Statement.{statement}
 use Rattle.mesh.proofs.cross.Tie as tie

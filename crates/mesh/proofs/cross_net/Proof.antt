@@ -1,9 +1,9 @@
 -- Assumes nothing.
 use borrow.Author.Needs.{needs}
-use Rattle.mesh.specs.Crossed.{crossed-listed, rising-few}
-use Rattle.ratings.specs.Rated.{listed-pins}
+use Rattle.slots.specs.Rising.{rising-few, listed-all}
+use Rattle.mesh.specs.Crossed.{crossed-listed}
 use native.Mathlib.Omega.{arith}
-use Prim.Native.Nat.{_+_, _-_}
+use Prim.Native.Nat.{_+_}
 use mathlib.Core.Path.{refl, _∙_}
 use Rattle.mesh.proofs.cross_net.Statement.{statement}
 use Rattle.mesh.proofs.cross_net.Tie as tie
@@ -21,7 +21,7 @@ same-length : tie.Need-same-length
 same-length c = search needs
 
 returns : tie.Need-returns
-returns c = let d = c .before .before .before .before .before .before .before .before .before .before in let a = d .args in let o = c .before .before .before .before .before .before .members in c .before .before .put-into .ensures ∙ crossed-listed (a .nets) (a .vertices) (a .e) (o .result) (a .graph .now) _ (o .ensures .0) (listed-pins (a .graph .now) _ _ (a .nets + a .e) (o .result) (o .ensures .0) (o .ensures .1) (omega arith))
+returns c = let d = c .before .before .before .before .before .before .before .before .before .before in let a = d .args in let o = c .before .before .before .before .before .before .members in c .before .before .put-into .ensures ∙ crossed-listed (a .nets) (a .vertices) (a .e) (o .result) (a .graph .now) _ (o .ensures .0) (listed-all (a .graph .now) _ _ 2 (a .nets + a .e) (o .result) (o .ensures .0) (o .ensures .1) (omega arith))
 
 slice-aggregate-put-into : tie.Need-slice-aggregate-put-into
 slice-aggregate-put-into c = omega (arith, c .before .before .pins2 .given)

@@ -2,7 +2,6 @@
 use borrow.Author.Needs.{needs}
 use Rattle.mesh.specs.Compact.{kept-more, kept-none}
 use native.Mathlib.Omega.{arith}
-use Prim.Native.Nat.{_-_}
 use Rattle.mesh.proofs.keep_net.Statement.{statement}
 use Rattle.mesh.proofs.keep_net.Tie as tie
 

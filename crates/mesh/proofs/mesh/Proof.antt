@@ -2,7 +2,6 @@
 use borrow.Author.Needs.{needs}
 use Rattle.mesh.specs.Mesh.{built}
 use native.Mathlib.Omega.{arith}
-use Prim.Native.Nat.{_-_}
 use Rattle.mesh.proofs.mesh.Statement.{statement}
 use Rattle.mesh.proofs.mesh.Tie as tie
 

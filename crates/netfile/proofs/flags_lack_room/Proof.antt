@@ -1,7 +1,6 @@
 -- Assumes nothing.
 use Rattle.netfile.specs.Writes.{lack-flags, lack-other}
 use Rattle.fields.specs.Scans.{netIn}
-use Prim.Native.Nat.{_-_}
 use Rattle.netfile.proofs.flags_lack_room.Statement.{statement}
 use Rattle.netfile.proofs.flags_lack_room.Tie as tie
 

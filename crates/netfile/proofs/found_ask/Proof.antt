@@ -4,7 +4,6 @@ use Rattle.netfile.specs.declared.Ask.the-variants.{Flagged, Target}
 use Rattle.netfile.specs.Writes.{ask-flagged, ask-target}
 use Rattle.netfile.specs.Answers.{askAnswer}
 use Rattle.fields.specs.Fields.{part-length}
-use Prim.Native.Nat.{_-_}
 use mathlib.Core.Path.{sym, ap, _∙_}
 use Rattle.netfile.proofs.found_ask.Statement.{statement}
 use Rattle.netfile.proofs.found_ask.Tie as tie

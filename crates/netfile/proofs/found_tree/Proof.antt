@@ -3,7 +3,6 @@ use Rattle.netfile.specs.declared.Tree.the-variants.{Present}
 use Rattle.netfile.specs.Writes.{tree-present, tree-absent}
 use Rattle.netfile.specs.Answers.{treeAnswer}
 use Rattle.fields.specs.Fields.{part-length}
-use Prim.Native.Nat.{_-_}
 use mathlib.Core.Path.{sym, ap, _∙_}
 use Rattle.netfile.proofs.found_tree.Statement.{statement}
 use Rattle.netfile.proofs.found_tree.Tie as tie

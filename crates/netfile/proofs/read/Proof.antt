@@ -11,7 +11,6 @@ use Rattle.spec.specs.Refusal.{shortBuffer}
 use borrow.Author.Tests.{ltb-false}
 use mathlib.Core.Bool.{_||_}
 use mathlib.Core.Path.{ap₂}
-use Prim.Native.Nat.{_-_}
 use mathlib.Core.Path.{refl, sym, ap, _∙_}
 use lib.ListN.{length}
 use Rattle.netfile.proofs.read.Statement.{statement}

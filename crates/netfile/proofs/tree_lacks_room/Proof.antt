@@ -3,7 +3,6 @@ use borrow.Author.Needs.{needs}
 use Rattle.netfile.specs.Writes.{lacking, lack-tree, tree-absent}
 use Rattle.fields.specs.Scans.{netIn}
 use Rattle.spec.specs.File.{treeLent}
-use Prim.Native.Nat.{_-_}
 use mathlib.Core.Path.{sym, ap}
 use Rattle.netfile.proofs.tree_lacks_room.Statement.{statement}
 use Rattle.netfile.proofs.tree_lacks_room.Tie as tie

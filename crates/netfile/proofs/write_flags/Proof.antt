@@ -5,7 +5,6 @@ use Rattle.fields.specs.Fields.{whole, part-length}
 use Rattle.fields.specs.Steps.{part}
 use Rattle.spec.specs.Memory.{placed}
 use native.Mathlib.Omega.{arith}
-use Prim.Native.Nat.{_-_}
 use mathlib.Core.Path.{sym, ap, _∙_}
 use Rattle.netfile.proofs.write_flags.Statement.{statement}
 use Rattle.netfile.proofs.write_flags.Tie as tie

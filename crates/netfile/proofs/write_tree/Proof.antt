@@ -3,7 +3,6 @@ use borrow.Author.Needs.{needs}
 use Rattle.netfile.specs.Writes.{kidsOver, tree-present, tree-absent}
 use Rattle.fields.specs.Fields.{whole}
 use Rattle.spec.specs.Memory.{placed}
-use Prim.Native.Nat.{_-_}
 use mathlib.Core.Path.{sym, ap, _∙_}
 use Rattle.netfile.proofs.write_tree.Statement.{statement}
 use Rattle.netfile.proofs.write_tree.Tie as tie

@@ -1,8 +1,8 @@
 -- Assumes nothing.
 use borrow.Author.Needs.{needs}
 use Rattle.nodebits.specs.Loops.{tests-shared, tests-dropped}
-use Rattle.nodebits.specs.Weights.{weighed-none, weighed-more}
-use Rattle.slots.specs.Weigh.{weighed, either}
+use Rattle.nodebits.specs.Weights.{weighed-more}
+use Rattle.slots.specs.Weigh.{weighed, either, weighed-none}
 use Rattle.slots.specs.Slots.{held}
 use mathlib.Core.Bool.{not, _&&_}
 use mathlib.Core.List.{[]}

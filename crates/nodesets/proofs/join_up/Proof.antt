@@ -1,8 +1,9 @@
 -- Assumes nothing.
 use borrow.Author.Needs.{needs}
 use Rattle.slots.specs.Slots.{withSet-length}
+use Rattle.laws.specs.FlatLaws.{leftOf, rightOf}
 use Rattle.nodesets.specs.Turns.{slot-in, step-inner, step-left, step-right, ups-none, ups-next, ups-end}
-use Rattle.nodesets.specs.Passes.{leftOf, rightOf, nodes, ups}
+use Rattle.nodesets.specs.Passes.{nodes, ups}
 use native.Mathlib.Omega.{arith}
 use Prim.Native.Nat.{_-_, _*_, _≤_}
 use mathlib.Core.Path.{_≡_, refl, ap, _∙_}

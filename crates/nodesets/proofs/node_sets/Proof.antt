@@ -1,9 +1,9 @@
 -- Assumes nothing.
 use borrow.Author.Needs.{needs}
-use Rattle.slots.specs.Writes.{among}
+use Rattle.slots.specs.Writes.{among, refilled}
 use Rattle.slots.specs.Slots.{withSet}
 use Rattle.nodesets.specs.Turns.{ups-length}
-use Rattle.nodesets.specs.Sets.{withSets-length, refilled}
+use Rattle.nodesets.specs.Sets.{withSets-length}
 use Rattle.nodesets.specs.Lists.{ordered-steps, passed}
 use native.Mathlib.Omega.{arith}
 use Prim.Native.Nat.{ℕ}

@@ -1,6 +1,6 @@
 -- `partition::common` meets its contract. The invariant: n is how many members below k * 64 both slots have. Assumes nothing.
 use borrow.Author.Needs.{needs}
-use Prim.Native.Nat.{_-_, _*_, _≤_, _<_, _^_}
+use Prim.Native.Nat.{_-_, _*_, _≤_}
 use mathlib.Core.Path.{_≡_, refl}
 use native.Mathlib.Omega.{arith}
 use lib.Bits.{bitAnd, and-le-r}

@@ -3,8 +3,9 @@ use borrow.Author.Needs.{needs}
 use native.Mathlib.Omega.{arith}
 use Prim.Native.Nat.{_+_}
 use mathlib.Core.Path.{sym, ap, _∙_}
+use Rattle.slots.specs.Rising.{listed-fits, listed-all}
 use Rattle.partition.specs.Layout.{gainSum}
-use Rattle.partition.specs.Gains.{gain-one, gain-zero, listed-fits, listed-nets}
+use Rattle.partition.specs.Gains.{gain-one, gain-zero}
 use Rattle.partition.proofs.gain.Statement.{statement}
 use Rattle.partition.proofs.gain.Tie as tie
 
@@ -30,7 +31,7 @@ gain-sum-requires c κs =
       omega arith,
       omega arith,
       omega arith,
-      listed-fits (d .args .words .now) (d .args .list .now) _ (d .args .vertices + d .args .v) (m .result) (m .ensures .0) (m .ensures .1) (d .pre .4),
+      listed-fits (d .args .words .now) (d .args .list .now) _ 4 (d .args .vertices + d .args .v) (m .result) (m .ensures .0) (m .ensures .1) (d .pre .4),
     )
 
 same-length : tie.Need-same-length
@@ -43,7 +44,7 @@ returns c vw =
     let m = c .before .before .before .before .before .before .members in
     c .gain-sum .ensures
     ∙ ap (gainSum (a .words .now) (a .nets) (a .sides + 1) (a .sides) (a .weights .now))
-    (listed-nets (a .words .now) (a .list .now) _ (a .vertices + a .v) (m .result) (m .ensures .0) (m .ensures .1) (d .pre .4))
+    (listed-all (a .words .now) (a .list .now) _ 4 (a .vertices + a .v) (m .result) (m .ensures .0) (m .ensures .1) (d .pre .4))
     ∙ sym (gain-one (a .words .now) (a .nets) (a .vertices) (a .sides) (a .m) (a .n) (a .weights .now) (d .pre .5) (a .v) vw (d .pre .3)
     (sym (c .before .before .before .has .ensures) ∙ c .before .before .if1 .taken))
 
@@ -57,7 +58,7 @@ gain-sum-requires-2 c κs =
       omega arith,
       omega arith,
       omega arith,
-      listed-fits (d .args .words .now) (d .args .list .now) _ (d .args .vertices + d .args .v) (m .result) (m .ensures .0) (m .ensures .1) (d .pre .4),
+      listed-fits (d .args .words .now) (d .args .list .now) _ 4 (d .args .vertices + d .args .v) (m .result) (m .ensures .0) (m .ensures .1) (d .pre .4),
     )
 
 same-length-2 : tie.Need-same-length-2
@@ -70,7 +71,7 @@ returns-2 c vw =
     let m = c .before .before .before .before .before .before .members in
     c .gain-sum2 .ensures
     ∙ ap (gainSum (a .words .now) (a .nets) (a .sides) (a .sides + 1) (a .weights .now))
-    (listed-nets (a .words .now) (a .list .now) _ (a .vertices + a .v) (m .result) (m .ensures .0) (m .ensures .1) (d .pre .4))
+    (listed-all (a .words .now) (a .list .now) _ 4 (a .vertices + a .v) (m .result) (m .ensures .0) (m .ensures .1) (d .pre .4))
     ∙ sym (gain-zero (a .words .now) (a .nets) (a .vertices) (a .sides) (a .m) (a .n) (a .weights .now) (d .pre .5) (a .v) vw (d .pre .3)
     (sym (c .before .before .before .has .ensures) ∙ c .before .before .if1 .left))
 

@@ -2,7 +2,6 @@
 use borrow.Author.Needs.{needs}
 use Rattle.parts.specs.Parts.{low, low-set}
 use native.Mathlib.Omega.{arith}
-use Prim.Native.Nat.{_-_}
 use mathlib.Core.Path.{ap, _∙_}
 use Rattle.parts.proofs.put_low.Statement.{statement}
 use Rattle.parts.proofs.put_low.Tie as tie

@@ -3,9 +3,8 @@ use borrow.Author.Needs.{needs}
 use lib.Seq.{length-take-le}
 use Rattle.passes.specs.Nodes.{sorted-front}
 use native.Mathlib.Omega.{arith}
-use Prim.Native.Nat.{ℕ, _+_, _-_, _*_, _<_, _≤_}
-use mathlib.Core.Path.{_≡_, refl, sym, ap, _∙_, subst}
-use lib.ListN.{length, getD, set, length-set}
+use mathlib.Core.Path.{refl, sym, ap}
+use lib.ListN.{length}
 use Rattle.passes.proofs.order_nodes.Statement.{statement}
 use Rattle.passes.proofs.order_nodes.Tie as tie
 

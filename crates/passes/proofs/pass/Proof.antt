@@ -7,14 +7,12 @@ use lib.ListN.{take}
 use Rattle.network.specs.Layouts.{layout-leaf-count}
 use Rattle.subset.specs.Search.{limitOf}
 use Rattle.spec.specs.Calls.{flagAt}
-use Rattle.spec.specs.Network.{leafCount}
 use Rattle.spec.specs.Layout.{networkOf}
 use Rattle.passes.specs.Loops.{same-ready}
 use Rattle.passes.specs.Nodes.{nodes-low, right-at, order-at, pass-made}
 use native.Mathlib.Omega.{arith}
-use Prim.Native.Nat.{ℕ, _+_, _-_, _*_, _<_, _≤_}
-use mathlib.Core.Path.{_≡_, refl, sym, ap, _∙_, subst}
-use lib.ListN.{length, getD, set, length-set}
+use Prim.Native.Nat.{ℕ}
+use mathlib.Core.Path.{_≡_, refl, sym, ap, _∙_}
 use Rattle.passes.proofs.pass.Statement.{statement}
 use Rattle.passes.proofs.pass.Tie as tie
 

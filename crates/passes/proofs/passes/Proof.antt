@@ -9,9 +9,8 @@ use Rattle.spec.specs.Network.{leafCount}
 use Rattle.spec.specs.Layout.{networkOf}
 use Rattle.passes.specs.Loops.{Going, going-none, going-next, going-end, same-ready}
 use native.Mathlib.Omega.{arith}
-use Prim.Native.Nat.{ℕ, _+_, _-_, _*_, _<_, _≤_}
-use mathlib.Core.Path.{_≡_, refl, sym, ap, _∙_, subst}
-use lib.ListN.{length, getD, set, length-set}
+use mathlib.Core.Path.{_≡_, refl, _∙_}
+use lib.ListN.{length}
 use Rattle.passes.proofs.passes.Statement.{statement}
 use Rattle.passes.proofs.passes.Tie as tie
 

@@ -1,10 +1,6 @@
 -- Assumes nothing.
 use borrow.Author.Needs.{needs}
 use Rattle.passes.specs.Loops.{stop-passes, go-on}
-use native.Mathlib.Omega.{arith}
-use Prim.Native.Nat.{ℕ, _+_, _-_, _*_, _<_, _≤_}
-use mathlib.Core.Path.{_≡_, refl, sym, ap, _∙_, subst}
-use lib.ListN.{length, getD, set, length-set}
 use Rattle.passes.proofs.passes_left.Statement.{statement}
 use Rattle.passes.proofs.passes_left.Tie as tie
 

@@ -9,9 +9,9 @@ use Rattle.spec.specs.Improve.{visits}
 use Rattle.subset.specs.Search.{limitOf}
 use Rattle.reprice.specs.Held.{treeOf}
 use native.Mathlib.Omega.{arith}
-use Prim.Native.Nat.{ℕ, _+_, _-_, _*_, _<_, _≤_}
-use mathlib.Core.Path.{_≡_, refl, sym, ap, _∙_, subst}
-use lib.ListN.{length, getD, set, length-set}
+use Prim.Native.Nat.{_-_, _≤_}
+use mathlib.Core.Path.{_≡_, refl, _∙_}
+use lib.ListN.{length}
 use Rattle.passes.proofs.visit_all.Statement.{statement}
 use Rattle.passes.proofs.visit_all.Tie as tie
 

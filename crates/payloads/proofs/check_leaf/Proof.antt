@@ -2,7 +2,6 @@
 use borrow.Author.Needs.{needs}
 use Rattle.payloads.specs.Payload.{leafRefusal}
 use borrow.Author.Tests.{lt-ltb, le-ltb, le-leb, lt-leb}
-use Prim.Native.Nat.{_-_}
 use Rattle.payloads.proofs.check_leaf.Statement.{statement}
 use Rattle.payloads.proofs.check_leaf.Tie as tie
 

@@ -5,7 +5,6 @@ use Rattle.spec.specs.Calls.{wrongTree}
 use lib.Seq.{length-take-le}
 use mathlib.Core.Bool.{not}
 use native.Mathlib.Omega.{arith}
-use Prim.Native.Nat.{_-_}
 use mathlib.Core.Path.{sym, ap, _∙_}
 use lib.ListN.{length}
 use Rattle.payloads.proofs.check_tree.Statement.{statement}

@@ -2,7 +2,6 @@
 use borrow.Author.Needs.{needs}
 use Rattle.payloads.specs.Payload.{weightsRefusal}
 use borrow.Author.Tests.{lt-ltb, le-ltb}
-use Prim.Native.Nat.{_-_}
 use Rattle.payloads.proofs.check_weights.Statement.{statement}
 use Rattle.payloads.proofs.check_weights.Tie as tie
 

@@ -1,7 +1,6 @@
 -- Assumes nothing.
 use borrow.Author.Needs.{needs}
 use Rattle.cells.specs.Cells.{placed-back, placed-out}
-use Prim.Native.Nat.{_-_}
 use mathlib.Core.Path.{sym}
 use Rattle.payloads.proofs.place.Statement.{statement}
 use Rattle.payloads.proofs.place.Tie as tie

@@ -4,9 +4,7 @@ use Rattle.planning.specs.Stages.{improved-to}
 use Rattle.network.specs.Record.{netOf}
 use lib.ListN.{length-take}
 use native.Mathlib.Omega.{arith}
-use Prim.Native.Nat.{ℕ, _+_, _-_, _*_, _<_, _≤_}
-use mathlib.Core.Path.{_≡_, refl, sym, ap, _∙_, subst}
-use lib.ListN.{length, getD, set, length-set}
+use mathlib.Core.Path.{refl}
 use Rattle.planning.proofs.improved.Statement.{statement}
 use Rattle.planning.proofs.improved.Tie as tie
 

@@ -4,12 +4,9 @@ use Rattle.planning.specs.Sound.{handed-out}
 use Rattle.planning.specs.Reading.{read-refused, read-done, whole-bytes, found-in, zeros}
 use Rattle.planning.specs.Printing.{put-written, written-as}
 use lib.ListN.{replicate}
-use Prim.Native.Nat.{_-_}
 use mathlib.Core.Path.{refl, sym, _∙_}
 use native.Mathlib.Omega.{arith}
-use Prim.Native.Nat.{ℕ, _+_, _-_, _*_, _<_, _≤_}
-use mathlib.Core.Path.{_≡_, refl, sym, ap, _∙_, subst}
-use lib.ListN.{length, getD, set, length-set}
+use mathlib.Core.Path.{refl, sym, _∙_}
 use Rattle.planning.proofs.plan.Statement.{statement}
 use Rattle.planning.proofs.plan.Tie as tie
 

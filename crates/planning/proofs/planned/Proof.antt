@@ -2,10 +2,7 @@
 use borrow.Author.Needs.{needs}
 use Rattle.planning.specs.Stages.{answers-as}
 use Rattle.netfile.specs.Writer.{askHanded}
-use native.Mathlib.Omega.{arith}
-use Prim.Native.Nat.{ℕ, _+_, _-_, _*_, _<_, _≤_}
-use mathlib.Core.Path.{_≡_, refl, sym, ap, _∙_, subst}
-use lib.ListN.{length, getD, set, length-set}
+use mathlib.Core.Path.{_∙_}
 use Rattle.planning.proofs.planned.Statement.{statement}
 use Rattle.planning.proofs.planned.Tie as tie
 

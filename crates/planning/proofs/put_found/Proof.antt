@@ -1,21 +1,22 @@
 -- Assumes nothing.
 use borrow.Author.Needs.{needs}
 use Rattle.planning.specs.Stages.{givenTree, found-ready, found-flags}
-use Rattle.planning.specs.Printing.{leaf-count, few-counts, written-as}
+use Rattle.planning.specs.Printing.{few-counts, written-as}
 use Rattle.netfile.specs.Writer.{askHanded}
 use Rattle.network.specs.Record.{netOf}
+use Rattle.network.specs.Layouts.{leaf-count}
 use Rattle.spec.specs.Text.{outputOf}
 use Rattle.spec.specs.Program.{program}
 use Rattle.spec.specs.Calls.{treePlaces}
 use lib.Seq.{length-take-le}
 use lib.ListN.{length-take, take}
-use Prim.Native.Nat.{ℕ, _+_, _-_, _≤_}
-use mathlib.Core.Path.{_≡_, refl, ap, _∙_}
+use Prim.Native.Nat.{ℕ, _+_, _≤_}
+use mathlib.Core.Path.{_≡_, ap, _∙_}
 use lib.ListN.{length}
 use native.Mathlib.Omega.{arith}
-use Prim.Native.Nat.{ℕ, _+_, _-_, _*_, _<_, _≤_}
-use mathlib.Core.Path.{_≡_, refl, sym, ap, _∙_, subst}
-use lib.ListN.{length, getD, set, length-set}
+use Prim.Native.Nat.{ℕ, _+_, _≤_}
+use mathlib.Core.Path.{_≡_, ap, _∙_}
+use lib.ListN.{length}
 use Rattle.planning.proofs.put_found.Statement.{statement}
 use Rattle.planning.proofs.put_found.Tie as tie
 

@@ -6,12 +6,9 @@ use Rattle.planning.specs.Printing.{index-count, put-written, written-as
 use Rattle.netfile.specs.Writer.{askHanded}
 use Rattle.network.specs.Record.{netOf}
 use lib.ListN.{length-take}
-use Prim.Native.Nat.{_-_}
 use mathlib.Core.Path.{sym}
 use native.Mathlib.Omega.{arith}
-use Prim.Native.Nat.{ℕ, _+_, _-_, _*_, _<_, _≤_}
-use mathlib.Core.Path.{_≡_, refl, sym, ap, _∙_, subst}
-use lib.ListN.{length, getD, set, length-set}
+use mathlib.Core.Path.{sym}
 use Rattle.planning.proofs.put_planned.Statement.{statement}
 use Rattle.planning.proofs.put_planned.Tie as tie
 

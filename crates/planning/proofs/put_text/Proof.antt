@@ -2,9 +2,7 @@
 use borrow.Author.Needs.{needs}
 use Rattle.planning.specs.Printing.{few-counts, priced-not-refused, text-put}
 use native.Mathlib.Omega.{arith}
-use Prim.Native.Nat.{ℕ, _+_, _-_, _*_, _<_, _≤_}
-use mathlib.Core.Path.{_≡_, refl, sym, ap, _∙_, subst}
-use lib.ListN.{length, getD, set, length-set}
+use mathlib.Core.Path.{refl}
 use Rattle.planning.proofs.put_text.Statement.{statement}
 use Rattle.planning.proofs.put_text.Tie as tie
 

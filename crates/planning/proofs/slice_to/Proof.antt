@@ -2,13 +2,9 @@
 use borrow.Author.Needs.{needs}
 use Rattle.planning.specs.Slices.{slice-refused, slice-counts, slice-done}
 use Rattle.network.specs.Record.{netOf}
-use Prim.Native.Nat.{_-_}
 use mathlib.Core.Path.{refl, sym, _∙_}
-use lib.ListN.{length}
 use native.Mathlib.Omega.{arith}
-use Prim.Native.Nat.{ℕ, _+_, _-_, _*_, _<_, _≤_}
-use mathlib.Core.Path.{_≡_, refl, sym, ap, _∙_, subst}
-use lib.ListN.{length, getD, set, length-set}
+use mathlib.Core.Path.{refl, sym, _∙_}
 use Rattle.planning.proofs.slice_to.Statement.{statement}
 use Rattle.planning.proofs.slice_to.Tie as tie
 

@@ -1,11 +1,6 @@
 -- Assumes nothing.
 use borrow.Author.Needs.{needs}
 use Rattle.planning.specs.Slices.{stands-plain, stands-flagged}
-use Prim.Native.Nat.{_-_}
-use native.Mathlib.Omega.{arith}
-use Prim.Native.Nat.{ℕ, _+_, _-_, _*_, _<_, _≤_}
-use mathlib.Core.Path.{_≡_, refl, sym, ap, _∙_, subst}
-use lib.ListN.{length, getD, set, length-set}
 use Rattle.planning.proofs.sliced.Statement.{statement}
 use Rattle.planning.proofs.sliced.Tie as tie
 

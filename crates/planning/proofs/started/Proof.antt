@@ -3,9 +3,6 @@ use borrow.Author.Needs.{needs}
 use Rattle.planning.specs.Stages.{started-given, started-greedy}
 use Rattle.network.specs.Record.{netOf}
 use native.Mathlib.Omega.{arith}
-use Prim.Native.Nat.{ℕ, _+_, _-_, _*_, _<_, _≤_}
-use mathlib.Core.Path.{_≡_, refl, sym, ap, _∙_, subst}
-use lib.ListN.{length, getD, set, length-set}
 use Rattle.planning.proofs.started.Statement.{statement}
 use Rattle.planning.proofs.started.Tie as tie
 

@@ -1,9 +1,9 @@
 -- Assumes nothing.
 use borrow.Author.Needs.{needs}
+use Rattle.laws.specs.FlatLaws.{leftOf, rightOf}
 use Rattle.pricing.specs.Lines.{linesTo, line-next, lines-end}
 use Rattle.cells.specs.Cells.{copied-none}
 use Rattle.nodesets.specs.Turns.{step-inner}
-use Rattle.nodesets.specs.Passes.{leftOf, rightOf}
 use native.Mathlib.Omega.{arith}
 use Prim.Native.Nat.{ℕ, _-_, _≤_}
 use mathlib.Core.Path.{_≡_, refl, ap}

@@ -3,9 +3,8 @@ use borrow.Author.Needs.{needs}
 use Rattle.ranks.specs.Folds.{best-none, best-next}
 use Rattle.ranks.specs.Best.{bestOf, candidateIn, rankIn}
 use native.Mathlib.Omega.{arith}
-use Prim.Native.Nat.{ℕ, _+_, _-_, _*_, _<_, _≤_}
-use mathlib.Core.Path.{_≡_, refl, sym, ap, _∙_, subst}
-use lib.ListN.{length, getD, set, length-set}
+use Prim.Native.Nat.{_-_, _≤_}
+use mathlib.Core.Path.{_≡_, ap, _∙_}
 use Rattle.ranks.proofs.best_of.Statement.{statement}
 use Rattle.ranks.proofs.best_of.Tie as tie
 

@@ -4,10 +4,6 @@ use Rattle.spec.specs.Memory.{filled}
 use Rattle.spec.specs.Layout.{firsts}
 use Rattle.ranks.specs.Weights.{unlisted-light}
 use Rattle.ranks.specs.Whole.{steps-known, tables-known, touching-most, chosen-is}
-use native.Mathlib.Omega.{arith}
-use Prim.Native.Nat.{ℕ, _+_, _-_, _*_, _<_, _≤_}
-use mathlib.Core.Path.{_≡_, refl, sym, ap, _∙_, subst}
-use lib.ListN.{length, getD, set, length-set}
 use Rattle.ranks.proofs.choose.Statement.{statement}
 use Rattle.ranks.proofs.choose.Tie as tie
 

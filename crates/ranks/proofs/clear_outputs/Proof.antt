@@ -2,9 +2,9 @@
 use borrow.Author.Needs.{needs}
 use Rattle.ranks.specs.Weights.{Unlisted, unlisted-none, unlisted-next}
 use native.Mathlib.Omega.{arith}
-use Prim.Native.Nat.{ℕ, _+_, _-_, _*_, _<_, _≤_}
-use mathlib.Core.Path.{_≡_, refl, sym, ap, _∙_, subst}
-use lib.ListN.{length, getD, set, length-set}
+use Prim.Native.Nat.{_-_, _≤_}
+use mathlib.Core.Path.{_≡_, refl, ap, _∙_}
+use lib.ListN.{length, length-set}
 use Rattle.ranks.proofs.clear_outputs.Statement.{statement}
 use Rattle.ranks.proofs.clear_outputs.Tie as tie
 

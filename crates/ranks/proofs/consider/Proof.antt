@@ -1,12 +1,9 @@
 -- Assumes nothing.
 use borrow.Author.Needs.{needs}
 use Rattle.ranks.specs.Best.{first, replaced, stays}
-use mathlib.Core.Bool.{Bool, cond}
-use Rattle.ranks.specs.Best.{next, weightless, untouched, looked, better}
+use Rattle.ranks.specs.Best.{weightless, untouched, looked}
 use native.Mathlib.Omega.{arith}
-use Prim.Native.Nat.{ℕ, _+_, _-_, _*_, _<_, _≤_}
-use mathlib.Core.Path.{_≡_, refl, sym, ap, _∙_, subst}
-use lib.ListN.{length, getD, set, length-set}
+use mathlib.Core.Path.{_∙_}
 use Rattle.ranks.proofs.consider.Statement.{statement}
 use Rattle.ranks.proofs.consider.Tie as tie
 

@@ -3,9 +3,8 @@ use borrow.Author.Needs.{needs}
 use Rattle.bits.specs.Bit.{one-shl}
 use Rattle.ranks.specs.Best.{cost-fits}
 use native.Mathlib.Omega.{arith}
-use Prim.Native.Nat.{ℕ, _+_, _-_, _*_, _<_, _≤_}
-use mathlib.Core.Path.{_≡_, refl, sym, ap, _∙_, subst}
-use lib.ListN.{length, getD, set, length-set}
+use Prim.Native.Nat.{ℕ, _+_, _-_, _*_}
+use mathlib.Core.Path.{ap}
 use Rattle.ranks.proofs.cost_of.Statement.{statement}
 use Rattle.ranks.proofs.cost_of.Tie as tie
 

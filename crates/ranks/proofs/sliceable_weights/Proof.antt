@@ -3,10 +3,8 @@ use borrow.Author.Needs.{needs}
 use Rattle.spec.specs.Layout.{firsts}
 use Rattle.spec.specs.Lists.{memb}
 use mathlib.Core.Bool.{cond}
-use native.Mathlib.Omega.{arith}
-use Prim.Native.Nat.{ℕ, _+_, _-_, _*_, _<_, _≤_}
-use mathlib.Core.Path.{_≡_, refl, sym, ap, _∙_, subst}
-use lib.ListN.{length, getD, set, length-set}
+use Prim.Native.Nat.{ℕ}
+use mathlib.Core.Path.{ap, _∙_}
 use Rattle.ranks.proofs.sliceable_weights.Statement.{statement}
 use Rattle.ranks.proofs.sliceable_weights.Tie as tie
 

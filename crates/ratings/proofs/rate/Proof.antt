@@ -3,9 +3,8 @@ use borrow.Author.Needs.{needs}
 use Rattle.ratings.specs.Rated.{rated-zero, rated-more}
 use lib.Ieee.{ofBits}
 use native.Mathlib.Omega.{arith}
-use Prim.Native.Nat.{ℕ, _+_, _-_, _*_, _<_, _≤_}
-use mathlib.Core.Path.{_≡_, refl, sym, ap, _∙_, subst}
-use lib.ListN.{length, getD, set, length-set}
+use mathlib.Core.Path.{refl, ap, _∙_}
+use lib.ListN.{length, length-set}
 use Rattle.ratings.proofs.rate.Statement.{statement}
 use Rattle.ratings.proofs.rate.Tie as tie
 

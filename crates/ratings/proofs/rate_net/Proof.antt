@@ -1,12 +1,10 @@
 -- Assumes nothing.
 use borrow.Author.Needs.{needs}
-use Rattle.slots.specs.Rising.{risingOf}
-use Rattle.ratings.specs.Rated.{ratingsIn, net-small, net-large, listed-pins, listed-room}
-use borrow.Author.Tests.{le-leb, lt-leb}
+use Rattle.slots.specs.Rising.{risingOf, listed-fits, listed-all}
+use Rattle.ratings.specs.Rated.{ratingsIn, net-small, net-large}
 use native.Mathlib.Omega.{arith}
-use Prim.Native.Nat.{ℕ, _+_, _-_, _*_, _<_, _≤_}
-use mathlib.Core.Path.{_≡_, refl, sym, ap, _∙_, subst}
-use lib.ListN.{length, getD, set, length-set}
+use Prim.Native.Nat.{_+_}
+use mathlib.Core.Path.{refl, sym, _∙_}
 use Rattle.ratings.proofs.rate_net.Statement.{statement}
 use Rattle.ratings.proofs.rate_net.Tie as tie
 
@@ -23,7 +21,7 @@ rate-of-requires : tie.Need-rate-of-requires
 rate-of-requires c κs = search needs
 
 rate-pins-requires : tie.Need-rate-pins-requires
-rate-pins-requires c κs = let d = c .before .before .before .before .before .before .before .before .before .before .before .before .before .before in let m = c .before .before .before .before .before .before .before .members in (listed-room (d .args .words .now) _ _ (d .args .nets + d .args .e) (m .result) (m .ensures .0) (m .ensures .1) (omega arith), omega (arith, d .pre .2, c .before .before .before .before .before .if1 .taken))
+rate-pins-requires c κs = let d = c .before .before .before .before .before .before .before .before .before .before .before .before .before .before in let m = c .before .before .before .before .before .before .before .members in (listed-fits (d .args .words .now) _ _ 2 (d .args .nets + d .args .e) (m .result) (m .ensures .0) (m .ensures .1) (omega arith), omega (arith, d .pre .2, c .before .before .before .before .before .if1 .taken))
 
 same-length : tie.Need-same-length
 same-length c = search needs
@@ -33,7 +31,7 @@ same-length-2 c = search needs
 
 returns : tie.Need-returns
 returns c = let d = c .before .before .before .before .before .before .before .before .before .before .before .before .before .before .before .before .before .before .before in let a = d .args in let m = c .before .before .before .before .before .before .before .before .before .before .before .before .members in let p = c .before .before .before .before .rate-pins .ensures in (
-  p .0 ∙ net-small (a .mates .now) (a .n) (a .v) (a .words .now) (a .nets + a .e) (m .result) _ (c .before .before .before .before .before .before .before .before .before .get8 .result) _ _ (ratingsIn (a .rating .now) (a .touched .now) (a .count)) (m .ensures .0) (c .before .before .before .before .before .before .before .before .before .before .if1 .taken) (listed-pins (a .words .now) _ _ (a .nets + a .e) (m .result) (m .ensures .0) (m .ensures .1) (omega arith)) (c .before .before .before .before .before .before .before .before .before .get8 .ensures) (c .before .before .before .before .before .before .before .before .rate-of .ensures),
+  p .0 ∙ net-small (a .mates .now) (a .n) (a .v) (a .words .now) (a .nets + a .e) (m .result) _ (c .before .before .before .before .before .before .before .before .before .get8 .result) _ _ (ratingsIn (a .rating .now) (a .touched .now) (a .count)) (m .ensures .0) (c .before .before .before .before .before .before .before .before .before .before .if1 .taken) (listed-all (a .words .now) _ _ 2 (a .nets + a .e) (m .result) (m .ensures .0) (m .ensures .1) (omega arith)) (c .before .before .before .before .before .before .before .before .before .get8 .ensures) (c .before .before .before .before .before .before .before .before .rate-of .ensures),
   omega (arith, p .1, c .before .before .before .before .before .before .before .before .before .before .if1 .taken),
   p .2,
   p .3,

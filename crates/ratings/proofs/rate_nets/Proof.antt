@@ -5,9 +5,9 @@ use Rattle.slots.specs.Rising.{risingOf}
 use Rattle.partition.specs.Folds.{fold-next}
 use lib.ListN.{take}
 use native.Mathlib.Omega.{arith}
-use Prim.Native.Nat.{ℕ, _+_, _-_, _*_, _<_, _≤_}
-use mathlib.Core.Path.{_≡_, refl, sym, ap, _∙_, subst}
-use lib.ListN.{length, getD, set, length-set}
+use Prim.Native.Nat.{ℕ, _+_, _-_, _*_, _≤_}
+use mathlib.Core.Path.{_≡_, refl, ap, _∙_}
+use lib.ListN.{length, getD}
 use Rattle.ratings.proofs.rate_nets.Statement.{statement}
 use Rattle.ratings.proofs.rate_nets.Tie as tie
 

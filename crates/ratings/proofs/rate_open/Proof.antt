@@ -3,9 +3,7 @@ use borrow.Author.Needs.{needs}
 use Rattle.ratings.specs.Rated.{ratingsIn}
 use Rattle.ratings.specs.Rated.{open-self, open-yes, open-no}
 use native.Mathlib.Omega.{arith}
-use Prim.Native.Nat.{ℕ, _+_, _-_, _*_, _<_, _≤_}
-use mathlib.Core.Path.{_≡_, refl, sym, ap, _∙_, subst}
-use lib.ListN.{length, getD, set, length-set}
+use mathlib.Core.Path.{refl, sym, _∙_}
 use Rattle.ratings.proofs.rate_open.Statement.{statement}
 use Rattle.ratings.proofs.rate_open.Tie as tie
 

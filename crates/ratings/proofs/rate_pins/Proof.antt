@@ -2,12 +2,11 @@
 use borrow.Author.Needs.{needs}
 use Rattle.ratings.specs.Rated.{ratingsIn, ratedOpen, ratedPins}
 use Rattle.partition.specs.Folds.{fold-next}
-use Rattle.spec.specs.Coarsen.{Ratings}
 use lib.ListN.{take}
 use native.Mathlib.Omega.{arith}
-use Prim.Native.Nat.{ℕ, _+_, _-_, _*_, _<_, _≤_}
-use mathlib.Core.Path.{_≡_, refl, sym, ap, _∙_, subst}
-use lib.ListN.{length, getD, set, length-set}
+use Prim.Native.Nat.{ℕ, _+_, _-_, _≤_}
+use mathlib.Core.Path.{_≡_, refl, ap, _∙_}
+use lib.ListN.{length}
 use Rattle.ratings.proofs.rate_pins.Statement.{statement}
 use Rattle.ratings.proofs.rate_pins.Tie as tie
 

@@ -3,9 +3,9 @@ use borrow.Author.Needs.{needs}
 use Rattle.rebuild.specs.Builds.{part-proper, build-whole, build-joint}
 use Rattle.subset.specs.Walk.{splitAt}
 use native.Mathlib.Omega.{arith}
-use Prim.Native.Nat.{ℕ, _+_, _-_, _*_, _<_, _≤_}
-use mathlib.Core.Path.{_≡_, refl, sym, ap, _∙_, subst}
-use lib.ListN.{length, getD, set, length-set}
+use Prim.Native.Nat.{ℕ, _<_}
+use mathlib.Core.Path.{ap, _∙_}
+use lib.ListN.{getD}
 use borrow.Fn.Kinds.{In}
 use borrow.Fn.PlainCycle.{Measures, is, falls, and}
 use Rattle.rebuild.proofs.build.Reads as build

@@ -2,10 +2,6 @@
 use borrow.Author.Needs.{needs}
 use Rattle.rebuild.specs.Writes.{part-less, part-not}
 use Rattle.subset.specs.Walk.{splitAt}
-use native.Mathlib.Omega.{arith}
-use Prim.Native.Nat.{ℕ, _+_, _-_, _*_, _<_, _≤_}
-use mathlib.Core.Path.{_≡_, refl, sym, ap, _∙_, subst}
-use lib.ListN.{length, getD, set, length-set}
 use Rattle.rebuild.proofs.part_of.Statement.{statement}
 use Rattle.rebuild.proofs.part_of.Tie as tie
 

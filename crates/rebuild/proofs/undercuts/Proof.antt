@@ -1,12 +1,9 @@
 -- Assumes nothing.
-use borrow.Author.Needs.{needs}
 use Rattle.spec.specs.Undercut.{undercuts}
 use lib.Ieee.{inFloat, ofBits, round}
 use lib.Dec.{le→leb}
 use native.Mathlib.Omega.{arith}
-use Prim.Native.Nat.{ℕ, _+_, _-_, _*_, _<_, _≤_}
-use mathlib.Core.Path.{_≡_, refl, sym, ap, _∙_, subst}
-use lib.ListN.{length, getD, set, length-set}
+use mathlib.Core.Path.{refl}
 use Rattle.rebuild.proofs.undercuts.Statement.{statement}
 use Rattle.rebuild.proofs.undercuts.Tie as tie
 

@@ -4,9 +4,8 @@ use Rattle.spec.specs.Memory.{filled}
 use lib.Seq.{sets}
 use Rattle.reconf.specs.Parts.{locals-listed}
 use native.Mathlib.Omega.{arith}
-use Prim.Native.Nat.{ℕ, _+_, _-_, _*_, _<_, _≤_}
-use mathlib.Core.Path.{_≡_, refl, sym, ap, _∙_, subst}
-use lib.ListN.{length, getD, set, length-set}
+use mathlib.Core.Path.{ap, _∙_}
+use lib.ListN.{length}
 use Rattle.reconf.proofs.local_list.Statement.{statement}
 use Rattle.reconf.proofs.local_list.Tie as tie
 

@@ -1,12 +1,9 @@
 -- Assumes nothing.
 use borrow.Author.Needs.{needs}
+use borrow.Author.Tests.{not-true, not-false}
 use Rattle.spec.specs.Memory.{filled}
-use Rattle.reconf.specs.Parts.{not-not, not-no}
 use Rattle.reconf.specs.Settled.{word-room, mask-room, members-few, members-some, old-small, left-few, left-many, small, stays-searched, rebuilds}
 use native.Mathlib.Omega.{arith}
-use Prim.Native.Nat.{ℕ, _+_, _-_, _*_, _<_, _≤_}
-use mathlib.Core.Path.{_≡_, refl, sym, ap, _∙_, subst}
-use lib.ListN.{length, getD, set, length-set}
 use Rattle.reconf.proofs.reconf_node.Statement.{statement}
 use Rattle.reconf.proofs.reconf_node.Tie as tie
 
@@ -77,7 +74,7 @@ same-length-5 c = search needs
 
 returns-3 : tie.Need-returns-3
 unfolding filled
-returns-3 c = let d = c .before .before .before .before .before .before .before .before .before .before .before .before .before .before .before .before .before .before .before .before .before .before .before .before .before .before .before .before .before .before .before in let a = d .args in let f = c .before .before .before .before .before .before .before .before .before .before .before .before .before .before .before .before .before .before .before .before .before .frontier in let l = c .before .before .before .before .before .before .before .before .before .before .before .before .before .before .local-list in let s = c .before .before .before .before .before .before .search-region in λ N h. stays-searched h (a .v) (d .pre .1 .2) (a .k) (filled 12 0) (filled 12 0) (f .last .1 .1 .1 .1 .1 .0) (f .last .1 .1 .1 .1 .1 .1 .0) (f .result) (omega (arith, d .pre .1 .0)) (omega (arith, d .pre .1 .1)) (omega (arith, d .pre .1 .1)) (f .ensures) (l .result) (filled 256 0) (l .last .1 .1 .1 .1 .1 .0) (l .ensures .0) (l .ensures .1) (omega arith) (a .limit) (s .last .0) (s .result .cost) (s .result .tried) (omega (arith, c .before .before .before .before .before .before .before .before .before .before .if2 .left)) (omega (arith, c .before .before .before .before .before .before .before .before .before .before .before .before .before .before .before .before .before .before .if1 .left)) (s .ensures) (c .before .before .old-cost .result) (c .before .before .old-cost .ensures) (c .before .accepts .result) (c .before .accepts .ensures) (not-not (c .before .accepts .result) (c .if3 .taken))
+returns-3 c = let d = c .before .before .before .before .before .before .before .before .before .before .before .before .before .before .before .before .before .before .before .before .before .before .before .before .before .before .before .before .before .before .before in let a = d .args in let f = c .before .before .before .before .before .before .before .before .before .before .before .before .before .before .before .before .before .before .before .before .before .frontier in let l = c .before .before .before .before .before .before .before .before .before .before .before .before .before .before .local-list in let s = c .before .before .before .before .before .before .search-region in λ N h. stays-searched h (a .v) (d .pre .1 .2) (a .k) (filled 12 0) (filled 12 0) (f .last .1 .1 .1 .1 .1 .0) (f .last .1 .1 .1 .1 .1 .1 .0) (f .result) (omega (arith, d .pre .1 .0)) (omega (arith, d .pre .1 .1)) (omega (arith, d .pre .1 .1)) (f .ensures) (l .result) (filled 256 0) (l .last .1 .1 .1 .1 .1 .0) (l .ensures .0) (l .ensures .1) (omega arith) (a .limit) (s .last .0) (s .result .cost) (s .result .tried) (omega (arith, c .before .before .before .before .before .before .before .before .before .before .if2 .left)) (omega (arith, c .before .before .before .before .before .before .before .before .before .before .before .before .before .before .before .before .before .before .if1 .left)) (s .ensures) (c .before .before .old-cost .result) (c .before .before .old-cost .ensures) (c .before .accepts .result) (c .before .accepts .ensures) (not-true (c .before .accepts .result) (c .if3 .taken))
 
 mask-count-requires : tie.Need-mask-count-requires
 unfolding filled
@@ -106,7 +103,7 @@ same-length-7 c = search needs
 
 returns-4 : tie.Need-returns-4
 unfolding filled
-returns-4 c = let d = c .before .before .before .before .before .before .before .before .before .before .before .before .before .before .before .before .before .before .before .before .before .before .before .before .before .before .before .before .before .before .before .before .before .before .before .before .before .before .before in let a = d .args in let f = c .before .before .before .before .before .before .before .before .before .before .before .before .before .before .before .before .before .before .before .before .before .before .before .before .before .before .before .before .before .frontier in let l = c .before .before .before .before .before .before .before .before .before .before .before .before .before .before .before .before .before .before .before .before .before .before .local-list in let s = c .before .before .before .before .before .before .before .before .before .before .before .before .before .before .search-region in λ N h. rebuilds h (a .v) (d .pre .1 .2) (a .k) (filled 12 0) (filled 12 0) (f .last .1 .1 .1 .1 .1 .0) (f .last .1 .1 .1 .1 .1 .1 .0) (f .result) (omega (arith, d .pre .1 .0)) (omega (arith, d .pre .1 .1)) (omega (arith, d .pre .1 .1)) (f .ensures) (l .result) (filled 256 0) (l .last .1 .1 .1 .1 .1 .0) (l .ensures .0) (l .ensures .1) (omega arith) (a .limit) (s .last .0) (s .result .cost) (s .result .tried) (omega (arith, c .before .before .before .before .before .before .before .before .before .before .before .before .before .before .before .before .before .before .if2 .left)) (omega (arith, c .before .before .before .before .before .before .before .before .before .before .before .before .before .before .before .before .before .before .before .before .before .before .before .before .before .before .if1 .left)) (s .ensures) (c .before .before .before .before .before .before .before .before .before .before .old-cost .result) (c .before .before .before .before .before .before .before .before .before .before .old-cost .ensures) (c .before .before .before .before .before .before .before .before .before .accepts .result) (c .before .before .before .before .before .before .before .before .before .accepts .ensures) (not-no (c .before .before .before .before .before .before .before .before .before .accepts .result) (c .before .before .before .before .before .before .before .before .if3 .left)) (c .before .before .before .before .before .before .before .mask-count .result) (c .before .before .before .before .before .before .before .mask-count .ensures .0) (c .before .before .build .last .1 .1 .1 .1 .1 .1 .0) (c .before .before .build .result .top) (c .before .before .build .result .left) (c .before .before .build .kept .1 .1 .1 .1 .1 .1 .0) (c .before .before .build .ensures)
+returns-4 c = let d = c .before .before .before .before .before .before .before .before .before .before .before .before .before .before .before .before .before .before .before .before .before .before .before .before .before .before .before .before .before .before .before .before .before .before .before .before .before .before .before in let a = d .args in let f = c .before .before .before .before .before .before .before .before .before .before .before .before .before .before .before .before .before .before .before .before .before .before .before .before .before .before .before .before .before .frontier in let l = c .before .before .before .before .before .before .before .before .before .before .before .before .before .before .before .before .before .before .before .before .before .before .local-list in let s = c .before .before .before .before .before .before .before .before .before .before .before .before .before .before .search-region in λ N h. rebuilds h (a .v) (d .pre .1 .2) (a .k) (filled 12 0) (filled 12 0) (f .last .1 .1 .1 .1 .1 .0) (f .last .1 .1 .1 .1 .1 .1 .0) (f .result) (omega (arith, d .pre .1 .0)) (omega (arith, d .pre .1 .1)) (omega (arith, d .pre .1 .1)) (f .ensures) (l .result) (filled 256 0) (l .last .1 .1 .1 .1 .1 .0) (l .ensures .0) (l .ensures .1) (omega arith) (a .limit) (s .last .0) (s .result .cost) (s .result .tried) (omega (arith, c .before .before .before .before .before .before .before .before .before .before .before .before .before .before .before .before .before .before .if2 .left)) (omega (arith, c .before .before .before .before .before .before .before .before .before .before .before .before .before .before .before .before .before .before .before .before .before .before .before .before .before .before .if1 .left)) (s .ensures) (c .before .before .before .before .before .before .before .before .before .before .old-cost .result) (c .before .before .before .before .before .before .before .before .before .before .old-cost .ensures) (c .before .before .before .before .before .before .before .before .before .accepts .result) (c .before .before .before .before .before .before .before .before .before .accepts .ensures) (not-false (c .before .before .before .before .before .before .before .before .before .accepts .result) (c .before .before .before .before .before .before .before .before .if3 .left)) (c .before .before .before .before .before .before .before .mask-count .result) (c .before .before .before .before .before .before .before .mask-count .ensures .0) (c .before .before .build .last .1 .1 .1 .1 .1 .1 .0) (c .before .before .build .result .top) (c .before .before .build .result .left) (c .before .before .build .kept .1 .1 .1 .1 .1 .1 .0) (c .before .before .build .ensures)
 
 pub reconf-node-spec : {M : Type 1} → statement M
 reconf-node-spec =

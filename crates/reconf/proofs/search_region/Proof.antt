@@ -1,11 +1,7 @@
 -- Assumes nothing.
 use borrow.Author.Needs.{needs}
-use Rattle.spec.specs.Memory.{filled}
 use Rattle.reconf.specs.Parts.{light-locals}
 use native.Mathlib.Omega.{arith}
-use Prim.Native.Nat.{ℕ, _+_, _-_, _*_, _<_, _≤_}
-use mathlib.Core.Path.{_≡_, refl, sym, ap, _∙_, subst}
-use lib.ListN.{length, getD, set, length-set}
 use Rattle.reconf.proofs.search_region.Statement.{statement}
 use Rattle.reconf.proofs.search_region.Tie as tie
 

@@ -3,9 +3,6 @@ use borrow.Author.Needs.{needs}
 use Rattle.spec.specs.Layout.{networkOf}
 use Rattle.reconf.specs.Again.{visitable, right-n, some-leaf, visits-same, visits-again}
 use native.Mathlib.Omega.{arith}
-use Prim.Native.Nat.{ℕ, _+_, _-_, _*_, _<_, _≤_}
-use mathlib.Core.Path.{_≡_, refl, sym, ap, _∙_, subst}
-use lib.ListN.{length, getD, set, length-set}
 use Rattle.reconf.proofs.visit.Statement.{statement}
 use Rattle.reconf.proofs.visit.Tie as tie
 

@@ -8,9 +8,7 @@ use Rattle.network.specs.Layouts.{layout-leaf-count, layout-index-count}
 use Rattle.cost.specs.Checks.{tree-wrong, tree-right}
 use Rattle.reconfigure.specs.Checks.{rest-tree, rest-flags, rest-last, answered-refused, answered-as}
 use native.Mathlib.Omega.{arith}
-use Prim.Native.Nat.{ℕ, _+_, _-_, _*_, _<_, _≤_}
-use mathlib.Core.Path.{_≡_, refl, sym, ap, _∙_, subst}
-use lib.ListN.{length, getD, set, length-set}
+use mathlib.Core.Path.{refl, sym, _∙_}
 use Rattle.reconfigure.proofs.improve_in.Statement.{statement}
 use Rattle.reconfigure.proofs.improve_in.Tie as tie
 

@@ -1,6 +1,5 @@
 -- Assumes nothing.
 use borrow.Author.Needs.{needs}
-use lib.ListN.{take}
 use lib.Seq.{length-take-le}
 use Rattle.subset.specs.Search.{limitOf}
 use Rattle.spec.specs.Layout.{networkOf}
@@ -11,9 +10,8 @@ use Rattle.walk.specs.Entry.{lent-cleared}
 use Rattle.reconfigure.specs.Answers.{limitFrom}
 use Rattle.reconfigure.specs.Checks.{stated-is, shorter, as-long, call-large, call-refused, call-short, call-rest, untouched-call, rest-call, rest-same, answered-as}
 use native.Mathlib.Omega.{arith}
-use Prim.Native.Nat.{ℕ, _+_, _-_, _*_, _<_, _≤_}
-use mathlib.Core.Path.{_≡_, refl, sym, ap, _∙_, subst}
-use lib.ListN.{length, getD, set, length-set}
+use mathlib.Core.Path.{_≡_, refl, sym, ap, _∙_}
+use lib.ListN.{length}
 use Rattle.reconfigure.proofs.improve_of.Statement.{statement}
 use Rattle.reconfigure.proofs.improve_of.Tie as tie
 

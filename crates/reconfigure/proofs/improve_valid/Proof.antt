@@ -8,9 +8,7 @@ use Rattle.dangling.specs.Tally.{dangling-of}
 use Rattle.reconfigure.specs.Improves.{answered-done, right-here, beyond-is, standing-start, dangling-asks, ready}
 use Rattle.reconfigure.specs.Checks.{last-beyond, last-dangling, last-done, answered-refused}
 use native.Mathlib.Omega.{arith}
-use Prim.Native.Nat.{ℕ, _+_, _-_, _*_, _<_, _≤_}
-use mathlib.Core.Path.{_≡_, refl, sym, ap, _∙_, subst}
-use lib.ListN.{length, getD, set, length-set}
+use mathlib.Core.Path.{refl, sym, _∙_}
 use Rattle.reconfigure.proofs.improve_valid.Statement.{statement}
 use Rattle.reconfigure.proofs.improve_valid.Tie as tie
 

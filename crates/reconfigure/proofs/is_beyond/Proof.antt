@@ -4,10 +4,8 @@ use Rattle.pricing.specs.Answers.{totalOf}
 use Rattle.pricing.specs.Sums.{workSum}
 use Rattle.spec.specs.Price.{upTo}
 use Rattle.reconfigure.specs.Improves.{beyond-exact, beyond-beyond}
-use native.Mathlib.Omega.{arith}
-use Prim.Native.Nat.{ℕ, _+_, _-_, _*_, _<_, _≤_}
-use mathlib.Core.Path.{_≡_, refl, sym, ap, _∙_, subst}
-use lib.ListN.{length, getD, set, length-set}
+use Prim.Native.Nat.{ℕ, _-_}
+use mathlib.Core.Path.{sym, ap, _∙_}
 use Rattle.reconfigure.proofs.is_beyond.Statement.{statement}
 use Rattle.reconfigure.proofs.is_beyond.Tie as tie
 

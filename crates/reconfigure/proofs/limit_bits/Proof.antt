@@ -1,7 +1,7 @@
 -- Assumes nothing.
 use borrow.Author.Needs.{needs}
 use mathlib.Core.Option.{some}
-use mathlib.Core.Path.{_≡_, refl, sym, ap, _∙_}
+use mathlib.Core.Path.{sym, ap, _∙_}
 use Rattle.reconfigure.specs.Answers.{limitFrom}
 use Rattle.reconfigure.specs.Checks.{no-limit, some-limit}
 use Rattle.reconfigure.proofs.limit_bits.Statement.{statement}

@@ -5,9 +5,9 @@ use lib.ListN.{length}
 use lib.Seq.{length-take-le}
 use lib.Ieee.{ofBits, round}
 use Rattle.spec.specs.Floats.{zeroFloat}
-use Rattle.partition.specs.Folds.{front-filled}
 use Rattle.queue.specs.Enters.{place}
 use Rattle.fmpass.specs.State.{run}
+use Rattle.cells.specs.Cells.{front-filled}
 use Rattle.refine.specs.Starts.{front-room, starts-in}
 use Rattle.refine.specs.Passes.{pass-leads}
 use Rattle.refine.proofs.one_pass.Statement.{statement}

@@ -3,9 +3,6 @@ use borrow.Author.Needs.{needs}
 use Rattle.reprice.specs.Prices.{nodes-held}
 use Rattle.pricing.specs.Final.{known}
 use native.Mathlib.Omega.{arith}
-use Prim.Native.Nat.{ℕ, _+_, _-_, _*_, _<_, _≤_}
-use mathlib.Core.Path.{_≡_, refl, sym, ap, _∙_, subst}
-use lib.ListN.{length, getD, set, length-set}
 use Rattle.reprice.proofs.price_nodes.Statement.{statement}
 use Rattle.reprice.proofs.price_nodes.Tie as tie
 

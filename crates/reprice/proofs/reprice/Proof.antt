@@ -6,9 +6,7 @@ use Rattle.nodesets.specs.Lists.{ordered-steps}
 use Rattle.walk.specs.Order.{order-length}
 use Rattle.cost.specs.Checks.{order-front, front-length, priceable}
 use native.Mathlib.Omega.{arith}
-use Prim.Native.Nat.{ℕ, _+_, _-_, _*_, _<_, _≤_}
-use mathlib.Core.Path.{_≡_, refl, sym, ap, _∙_, subst}
-use lib.ListN.{length, getD, set, length-set}
+use mathlib.Core.Path.{sym, _∙_}
 use Rattle.reprice.proofs.reprice.Statement.{statement}
 use Rattle.reprice.proofs.reprice.Tie as tie
 

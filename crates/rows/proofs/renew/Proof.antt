@@ -3,7 +3,6 @@ use borrow.Author.Needs.{needs}
 use Rattle.rows.specs.Rows.{renewed-stands, renewed-found}
 use Rattle.parts.specs.Lists.{listsIn, setsIn, sizesIn, liveIn, rowsIn, withRows, rows-back}
 use native.Mathlib.Omega.{arith}
-use Prim.Native.Nat.{_-_}
 use mathlib.Core.Path.{ap, _∙_}
 use Rattle.rows.proofs.renew.Statement.{statement}
 use Rattle.rows.proofs.renew.Tie as tie

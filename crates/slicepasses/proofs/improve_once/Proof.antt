@@ -1,18 +1,10 @@
 -- Assumes nothing.
 use borrow.Author.Needs.{needs}
-use Prim.Native.Nat.{max}
-use mathlib.Core.Option.{Option, some}
 use Rattle.network.specs.Layouts.{layout-leaf-count}
-use Rattle.spec.specs.Slicing.{orZero}
 use Rattle.subset.specs.Search.{limitOf}
-use Rattle.reconfigure.specs.Improves.{right-here}
-use Rattle.slicepasses.specs.Widest.{widest-held}
 use Rattle.slicepasses.specs.Once.{standing-of, once, limit-is}
 use Rattle.slicepasses.specs.Asks.{asks-ready}
 use native.Mathlib.Omega.{arith}
-use Prim.Native.Nat.{ℕ, _+_, _-_, _*_, _<_, _≤_}
-use mathlib.Core.Path.{_≡_, refl, sym, ap, _∙_, subst}
-use lib.ListN.{length, getD, set, length-set}
 use Rattle.slicepasses.proofs.improve_once.Statement.{statement}
 use Rattle.slicepasses.proofs.improve_once.Tie as tie
 

@@ -7,10 +7,8 @@ use Rattle.pricing.specs.Answers.{widestOf, widestIn}
 use Rattle.spec.specs.Layout.{firsts}
 use Rattle.spec.specs.Slicing.{orZero}
 use Prim.Native.Nat.{max}
-use native.Mathlib.Omega.{arith}
-use Prim.Native.Nat.{ℕ, _+_, _-_, _*_, _<_, _≤_}
-use mathlib.Core.Path.{_≡_, refl, sym, ap, _∙_, subst}
-use lib.ListN.{length, getD, set, length-set}
+use Prim.Native.Nat.{ℕ, _+_, _-_}
+use mathlib.Core.Path.{ap, _∙_}
 use Rattle.slicepasses.proofs.pass_limit.Statement.{statement}
 use Rattle.slicepasses.proofs.pass_limit.Tie as tie
 

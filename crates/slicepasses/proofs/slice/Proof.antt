@@ -6,9 +6,9 @@ use Rattle.spec.specs.Layout.{networkOf}
 use Rattle.slicepasses.specs.Choices.{Going, going-none, going-next, going-stops, going-ends}
 use Rattle.slicepasses.specs.Asks.{same-asks}
 use native.Mathlib.Omega.{arith}
-use Prim.Native.Nat.{ℕ, _+_, _-_, _*_, _<_, _≤_}
-use mathlib.Core.Path.{_≡_, refl, sym, ap, _∙_, subst}
-use lib.ListN.{length, getD, set, length-set}
+use Prim.Native.Nat.{_+_, _-_, _≤_}
+use mathlib.Core.Path.{_≡_, refl, _∙_}
+use lib.ListN.{length}
 use Rattle.slicepasses.proofs.slice.Statement.{statement}
 use Rattle.slicepasses.proofs.slice.Tie as tie
 

@@ -8,9 +8,7 @@ use Rattle.cost.specs.Checks.{order-front, front-length}
 use Rattle.slicepasses.specs.Choices.{choice-none, choice-made, within-next}
 use Rattle.slicepasses.specs.Asks.{asks-priceable, asks-room, same-asks}
 use native.Mathlib.Omega.{arith}
-use Prim.Native.Nat.{ℕ, _+_, _-_, _*_, _<_, _≤_}
-use mathlib.Core.Path.{_≡_, refl, sym, ap, _∙_, subst}
-use lib.ListN.{length, getD, set, length-set}
+use mathlib.Core.Path.{sym, _∙_}
 use Rattle.slicepasses.proofs.turn.Statement.{statement}
 use Rattle.slicepasses.proofs.turn.Tie as tie
 

@@ -12,9 +12,8 @@ use mathlib.Core.Bool.{false}
 use Prim.Native.Nat.{ℕ}
 use mathlib.Core.Path.{refl, sym, _∙_}
 use native.Mathlib.Omega.{arith}
-use Prim.Native.Nat.{ℕ, _+_, _-_, _*_, _<_, _≤_}
-use mathlib.Core.Path.{_≡_, refl, sym, ap, _∙_, subst}
-use lib.ListN.{length, getD, set, length-set}
+use Prim.Native.Nat.{ℕ}
+use mathlib.Core.Path.{refl, sym, _∙_}
 use Rattle.slicetree.proofs.slice_as_is.Statement.{statement}
 use Rattle.slicetree.proofs.slice_as_is.Tie as tie
 

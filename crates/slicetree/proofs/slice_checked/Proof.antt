@@ -4,9 +4,8 @@ use Rattle.spec.specs.Layout.{networkOf}
 use Rattle.network.specs.Layouts.{layout-leaf-count}
 use Rattle.slicetree.specs.Answers.{words-as-is, words-improved, late-exact, number-none, answered-number, answered-done}
 use native.Mathlib.Omega.{arith}
-use Prim.Native.Nat.{ℕ, _+_, _-_, _*_, _<_, _≤_}
-use mathlib.Core.Path.{_≡_, refl, sym, ap, _∙_, subst}
-use lib.ListN.{length, getD, set, length-set}
+use mathlib.Core.Path.{sym, _∙_}
+use lib.ListN.{length}
 use Rattle.slicetree.proofs.slice_checked.Statement.{statement}
 use Rattle.slicetree.proofs.slice_checked.Tie as tie
 

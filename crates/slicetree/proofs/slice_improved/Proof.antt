@@ -8,9 +8,7 @@ use Rattle.slicetree.specs.Clear.{stands-clear, sliced-to}
 use mathlib.Core.Bool.{true}
 use Prim.Native.Nat.{ℕ}
 use native.Mathlib.Omega.{arith}
-use Prim.Native.Nat.{ℕ, _+_, _-_, _*_, _<_, _≤_}
-use mathlib.Core.Path.{_≡_, refl, sym, ap, _∙_, subst}
-use lib.ListN.{length, getD, set, length-set}
+use Prim.Native.Nat.{ℕ}
 use Rattle.slicetree.proofs.slice_improved.Statement.{statement}
 use Rattle.slicetree.proofs.slice_improved.Tie as tie
 

@@ -10,9 +10,9 @@ use Rattle.network.specs.Codes.{accepted-facts}
 use Rattle.reconfigure.specs.Checks.{shorter, as-long}
 use Rattle.slicetree.specs.Answers.{few-words, few-flags, by-rest, slices-refused, slices-accepted}
 use native.Mathlib.Omega.{arith}
-use Prim.Native.Nat.{ℕ, _+_, _-_, _*_, _<_, _≤_}
-use mathlib.Core.Path.{_≡_, refl, sym, ap, _∙_, subst}
-use lib.ListN.{length, getD, set, length-set}
+use Prim.Native.Nat.{_≤_}
+use mathlib.Core.Path.{_≡_, refl, sym, ap, _∙_}
+use lib.ListN.{length}
 use Rattle.slicetree.proofs.slice_of.Statement.{statement}
 use Rattle.slicetree.proofs.slice_of.Tie as tie
 

@@ -1,10 +1,6 @@
 -- Assumes nothing.
 use borrow.Author.Needs.{needs}
 use Rattle.network.specs.Record.{netOf}
-use native.Mathlib.Omega.{arith}
-use Prim.Native.Nat.{ℕ, _+_, _-_, _*_, _<_, _≤_}
-use mathlib.Core.Path.{_≡_, refl, sym, ap, _∙_, subst}
-use lib.ListN.{length, getD, set, length-set}
 use Rattle.slicetree.proofs.slice_tree.Statement.{statement}
 use Rattle.slicetree.proofs.slice_tree.Tie as tie
 

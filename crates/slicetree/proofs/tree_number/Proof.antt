@@ -13,9 +13,8 @@ use Rattle.slicetree.specs.Answers.{late-beyond, late-as-is, late-improv
 use mathlib.Core.Bool.{true, false}
 use borrow.Author.Tests.{not-true, not-false}
 use native.Mathlib.Omega.{arith}
-use Prim.Native.Nat.{ℕ, _+_, _-_, _*_, _<_, _≤_}
-use mathlib.Core.Path.{_≡_, refl, sym, ap, _∙_, subst}
-use lib.ListN.{length, getD, set, length-set}
+use Prim.Native.Nat.{ℕ}
+use mathlib.Core.Path.{sym, _∙_}
 use Rattle.slicetree.proofs.tree_number.Statement.{statement}
 use Rattle.slicetree.proofs.tree_number.Tie as tie
 

@@ -1,10 +1,7 @@
 -- Assumes nothing.
 use borrow.Author.Needs.{needs}
 use Rattle.slicing.specs.Turns.{isIndex, withFlag}
-use native.Mathlib.Omega.{arith}
-use Prim.Native.Nat.{ℕ, _+_, _-_, _*_, _<_, _≤_}
-use mathlib.Core.Path.{_≡_, refl, sym, ap, _∙_, subst}
-use lib.ListN.{length, getD, set, length-set}
+use mathlib.Core.Path.{sym, ap, _∙_}
 use Rattle.slicing.proofs.flag.Statement.{statement}
 use Rattle.slicing.proofs.flag.Tie as tie
 

@@ -3,9 +3,7 @@ use borrow.Author.Needs.{needs}
 use Rattle.cost.specs.Back.{widestFrom}
 use Rattle.spec.specs.Slicing.{orZero}
 use native.Mathlib.Omega.{arith}
-use Prim.Native.Nat.{ℕ, _+_, _-_, _*_, _<_, _≤_}
-use mathlib.Core.Path.{_≡_, refl, sym, ap, _∙_, subst}
-use lib.ListN.{length, getD, set, length-set}
+use mathlib.Core.Path.{ap}
 use Rattle.slicing.proofs.limit.Statement.{statement}
 use Rattle.slicing.proofs.limit.Tie as tie
 

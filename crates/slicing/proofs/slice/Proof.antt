@@ -1,15 +1,14 @@
 -- Assumes nothing.
 use borrow.Author.Needs.{needs}
 use Rattle.slicing.specs.Priced.{same-room}
-use Rattle.slicing.specs.Turns.{Slicing, Sliced, slicing-none, slicing-next, slicing-stops, slicing-ends}
+use Rattle.slicing.specs.Turns.{Slicing, slicing-none, slicing-next, slicing-stops, slicing-ends}
 use borrow.Author.Tests.{not-true, not-false}
-use mathlib.Core.Bool.{not}
 use Rattle.spec.specs.Layout.{networkOf}
-use Prim.Native.Nat.{ℕ, suc, _+_, _-_, _*_, _<_, _≤_}
+use Prim.Native.Nat.{ℕ, suc, _+_, _-_, _≤_}
 use native.Mathlib.Omega.{arith}
-use Prim.Native.Nat.{ℕ, _+_, _-_, _*_, _<_, _≤_}
-use mathlib.Core.Path.{_≡_, refl, sym, ap, _∙_, subst}
-use lib.ListN.{length, getD, set, length-set}
+use Prim.Native.Nat.{ℕ, _+_, _-_, _≤_}
+use mathlib.Core.Path.{_≡_, refl, _∙_, subst}
+use lib.ListN.{length}
 use Rattle.slicing.proofs.slice.Statement.{statement}
 use Rattle.slicing.proofs.slice.Tie as tie
 

@@ -4,10 +4,7 @@ use Rattle.slicing.specs.Priced.{priced-tree, widest-is, rankable}
 use Rattle.slicing.specs.Turns.{turned-within, turned}
 use Rattle.spec.specs.Layout.{networkOf}
 use Rattle.spec.specs.Slicing.{withinTarget}
-use native.Mathlib.Omega.{arith}
-use Prim.Native.Nat.{ℕ, _+_, _-_, _*_, _<_, _≤_}
-use mathlib.Core.Path.{_≡_, refl, sym, ap, _∙_, subst}
-use lib.ListN.{length, getD, set, length-set}
+use mathlib.Core.Path.{sym, ap, _∙_}
 use Rattle.slicing.proofs.turn.Statement.{statement}
 use Rattle.slicing.proofs.turn.Tie as tie
 

@@ -4,7 +4,7 @@ use Rattle.start.specs.Within.{prepared-all}
 use Rattle.parts.specs.Lists.{listsIn, sets-back, live-back, rows-back}
 use Rattle.parts.specs.Parts.{part, back, part-enough, low-length}
 use native.Mathlib.Omega.{arith}
-use Prim.Native.Nat.{_-_, _≤_}
+use Prim.Native.Nat.{_≤_}
 use mathlib.Core.Path.{_≡_}
 use lib.ListN.{length}
 use Rattle.start.proofs.prepare.Statement.{statement}

@@ -1,8 +1,8 @@
 -- Assumes nothing.
 use borrow.Author.Needs.{needs}
-use Rattle.start.specs.Leaves.{places-put}
 use Rattle.start.proofs.put_list.Statement.{statement}
 use Rattle.start.proofs.put_list.Tie as tie
+use Rattle.slots.specs.Writes.{refilled}
 
 empty-requires : tie.Need-empty-requires
 empty-requires c κs = search needs
@@ -14,7 +14,7 @@ same-length : tie.Need-same-length
 same-length c = search needs
 
 returns : tie.Need-returns
-returns c = let d = c .before .before .before .before .before .before .before .before .before .before .args in places-put (d .w) (d .ws .now) _ _ (d .list .now) (d .s) (d .n) (c .before .before .before .before .before .before .empty .ensures) (c .before .before .put-all .ensures)
+returns c = let d = c .before .before .before .before .before .before .before .before .before .before .args in refilled (d .ws .now) _ _ (d .w) (d .s) (d .list .now) 0 (d .n) (c .before .before .before .before .before .before .empty .ensures) (c .before .before .put-all .ensures)
 
 pub put-list-spec : {M : Type 1} → statement M
 put-list-spec = tie.close (tie.spec empty-requires put-all-requires same-length returns)

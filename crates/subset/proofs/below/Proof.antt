@@ -4,9 +4,8 @@ use Rattle.subset.specs.Considers.{power-large}
 use Rattle.bits.specs.Bit.{one-shl}
 use lib.Dec.{ltb}
 use native.Mathlib.Omega.{arith}
-use Prim.Native.Nat.{ℕ, _+_, _-_, _*_, _<_, _≤_}
-use mathlib.Core.Path.{_≡_, refl, sym, ap, _∙_, subst}
-use lib.ListN.{length, getD, set, length-set}
+use Prim.Native.Nat.{ℕ}
+use mathlib.Core.Path.{ap}
 use Rattle.subset.proofs.below.Statement.{statement}
 use Rattle.subset.proofs.below.Tie as tie
 

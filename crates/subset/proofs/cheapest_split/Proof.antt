@@ -5,9 +5,7 @@ use Rattle.masks.specs.Tables.{workAt}
 use Rattle.subset.specs.Walk.{bestAt}
 use lib.Bits.{and-le-l}
 use native.Mathlib.Omega.{arith}
-use Prim.Native.Nat.{ℕ, _+_, _-_, _*_, _<_, _≤_}
-use mathlib.Core.Path.{_≡_, refl, sym, ap, _∙_, subst}
-use lib.ListN.{length, getD, set, length-set}
+use Prim.Native.Nat.{_-_, _≤_}
 use Rattle.subset.proofs.cheapest_split.Statement.{statement}
 use Rattle.subset.proofs.cheapest_split.Tie as tie
 

@@ -4,9 +4,6 @@ use Rattle.subset.specs.Considers.{stays, gains, step-not, step-is}
 use Rattle.masks.specs.Tables.{workAt}
 use Rattle.subset.specs.Walk.{bestAt}
 use native.Mathlib.Omega.{arith}
-use Prim.Native.Nat.{ℕ, _+_, _-_, _*_, _<_, _≤_}
-use mathlib.Core.Path.{_≡_, refl, sym, ap, _∙_, subst}
-use lib.ListN.{length, getD, set, length-set}
 use Rattle.subset.proofs.consider.Statement.{statement}
 use Rattle.subset.proofs.consider.Tie as tie
 

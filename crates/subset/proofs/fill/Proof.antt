@@ -4,9 +4,8 @@ use Rattle.subset.specs.Fills.{SameSets, same-self, tables-same, next-sa
 use Rattle.masks.specs.Tables.{workAt}
 use Rattle.subset.specs.Walk.{Filled, bestAt, splitAt}
 use native.Mathlib.Omega.{arith}
-use Prim.Native.Nat.{ℕ, _+_, _-_, _*_, _<_, _≤_}
-use mathlib.Core.Path.{_≡_, refl, sym, ap, _∙_, subst}
-use lib.ListN.{length, getD, set, length-set}
+use Prim.Native.Nat.{_-_, _*_, _≤_}
+use lib.ListN.{length-set}
 use Rattle.subset.proofs.fill.Statement.{statement}
 use Rattle.subset.proofs.fill.Tie as tie
 

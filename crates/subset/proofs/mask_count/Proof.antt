@@ -3,9 +3,6 @@ use borrow.Author.Needs.{needs}
 use lib.Pow.{pow-mono, pow-pos}
 use Rattle.bits.specs.Bit.{one-shl}
 use native.Mathlib.Omega.{arith}
-use Prim.Native.Nat.{ℕ, _+_, _-_, _*_, _<_, _≤_}
-use mathlib.Core.Path.{_≡_, refl, sym, ap, _∙_, subst}
-use lib.ListN.{length, getD, set, length-set}
 use Rattle.subset.proofs.mask_count.Statement.{statement}
 use Rattle.subset.proofs.mask_count.Tie as tie
 

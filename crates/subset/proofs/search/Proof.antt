@@ -3,9 +3,7 @@ use borrow.Author.Needs.{needs}
 use Rattle.subset.specs.Searched.{search-found, search-tried}
 use Rattle.masks.specs.Keeps.{keep-tables}
 use native.Mathlib.Omega.{arith}
-use Prim.Native.Nat.{ℕ, _+_, _-_, _*_, _<_, _≤_}
-use mathlib.Core.Path.{_≡_, refl, sym, ap, _∙_, subst}
-use lib.ListN.{length, getD, set, length-set}
+use mathlib.Core.Path.{refl}
 use Rattle.subset.proofs.search.Statement.{statement}
 use Rattle.subset.proofs.search.Tie as tie
 

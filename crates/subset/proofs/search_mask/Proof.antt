@@ -8,9 +8,8 @@ use lib.Pow.{pow-pos}
 use lib.Bits.{bitAnd, and-le-l, and-le-r}
 use mathlib.Core.Logic.{⊎-elim}
 use native.Mathlib.Omega.{arith}
-use Prim.Native.Nat.{ℕ, _+_, _-_, _*_, _<_, _≤_}
-use mathlib.Core.Path.{_≡_, refl, sym, ap, _∙_, subst}
-use lib.ListN.{length, getD, set, length-set}
+use Prim.Native.Nat.{ℕ, _-_}
+use mathlib.Core.Path.{ap}
 use Rattle.subset.proofs.search_mask.Statement.{statement}
 use Rattle.subset.proofs.search_mask.Tie as tie
 

@@ -5,9 +5,8 @@ use Rattle.masks.specs.Tables.{workAt}
 use Rattle.subset.specs.Walk.{stepCost}
 use Rattle.bits.specs.Bit.{one-shl}
 use native.Mathlib.Omega.{arith}
-use Prim.Native.Nat.{ℕ, _+_, _-_, _*_, _<_, _≤_}
-use mathlib.Core.Path.{_≡_, refl, sym, ap, _∙_, subst}
-use lib.ListN.{length, getD, set, length-set}
+use Prim.Native.Nat.{ℕ}
+use mathlib.Core.Path.{sym, ap, _∙_}
 use Rattle.subset.proofs.step_cost.Statement.{statement}
 use Rattle.subset.proofs.step_cost.Tie as tie
 

@@ -1,14 +1,7 @@
 -- Assumes nothing.
 use borrow.Author.Needs.{needs}
-use Rattle.slots.specs.Weigh.{either}
-use Rattle.spec.specs.Lists.{keep, range}
-use Rattle.tallies.specs.Sums.{Added}
 use Rattle.tallies.specs.Nodes.{sizeAbove, added-nothing}
 use borrow.Author.Tests.{lt-ltb, le-ltb}
-use native.Mathlib.Omega.{arith}
-use Prim.Native.Nat.{ℕ, _+_, _-_, _*_, _<_, _≤_}
-use mathlib.Core.Path.{_≡_, refl, sym, ap, _∙_, subst}
-use lib.ListN.{length, getD, set, length-set}
 use Rattle.tallies.proofs.add_size.Statement.{statement}
 use Rattle.tallies.proofs.add_size.Tie as tie
 

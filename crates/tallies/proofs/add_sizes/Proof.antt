@@ -5,9 +5,8 @@ use Rattle.spec.specs.Lists.{range}
 use Rattle.tallies.specs.Sums.{Summed, summed-none}
 use Rattle.tallies.specs.Nodes.{tableShare, tables-small, tables-next}
 use native.Mathlib.Omega.{arith}
-use Prim.Native.Nat.{ℕ, _+_, _-_, _*_, _<_, _≤_}
-use mathlib.Core.Path.{_≡_, refl, sym, ap, _∙_, subst}
-use lib.ListN.{length, getD, set, length-set}
+use Prim.Native.Nat.{ℕ, _-_, _≤_}
+use mathlib.Core.Path.{_≡_, refl, subst}
 use Rattle.tallies.proofs.add_sizes.Statement.{statement}
 use Rattle.tallies.proofs.add_sizes.Tie as tie
 

@@ -3,9 +3,8 @@ use borrow.Author.Needs.{needs}
 use Rattle.tallies.specs.Sums.{summed-none}
 use Rattle.tallies.specs.Words.{AddedTo, slots-small, slots-next}
 use native.Mathlib.Omega.{arith}
-use Prim.Native.Nat.{ℕ, _+_, _-_, _*_, _<_, _≤_}
-use mathlib.Core.Path.{_≡_, refl, sym, ap, _∙_, subst}
-use lib.ListN.{length, getD, set, length-set}
+use Prim.Native.Nat.{ℕ, _-_, _≤_}
+use mathlib.Core.Path.{_≡_, refl, subst}
 use Rattle.tallies.proofs.add_slots.Statement.{statement}
 use Rattle.tallies.proofs.add_slots.Tie as tie
 

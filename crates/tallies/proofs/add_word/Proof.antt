@@ -1,12 +1,10 @@
 -- Assumes nothing.
 use borrow.Author.Needs.{needs}
-use lib.Seq.{getD-set-same}
 use Rattle.bits.specs.Lowest.{drop-less}
-use Rattle.tallies.specs.Words.{Adding, adding-none, adding-small, adding-next, adding-end}
+use Rattle.tallies.specs.Words.{Adding, adding-small, adding-next, adding-end}
 use native.Mathlib.Omega.{arith}
-use Prim.Native.Nat.{ℕ, _+_, _-_, _*_, _<_, _≤_}
-use mathlib.Core.Path.{_≡_, refl, sym, ap, _∙_, subst}
-use lib.ListN.{length, getD, set, length-set}
+use Prim.Native.Nat.{_+_, _≤_}
+use mathlib.Core.Path.{refl}
 use Rattle.tallies.proofs.add_word.Statement.{statement}
 use Rattle.tallies.proofs.add_word.Tie as tie
 

@@ -1,12 +1,11 @@
 -- Assumes nothing.
 use borrow.Author.Needs.{needs}
 use Rattle.nodesets.specs.Turns.{step-inner, step-left, step-right, slot-in}
-use Rattle.nodesets.specs.Passes.{leftOf, rightOf}
+use Rattle.laws.specs.FlatLaws.{leftOf, rightOf}
 use Rattle.tallies.specs.Sums.{Summed, summed-none}
 use Rattle.tallies.specs.Nodes.{stepShare, step-works, steps-small, steps-next, steps-end}
 use native.Mathlib.Omega.{arith}
-use Prim.Native.Nat.{ℕ, _+_, _-_, _*_, _<_, _≤_}
-use mathlib.Core.Path.{_≡_, refl, sym, ap, _∙_, subst}
+use Prim.Native.Nat.{_-_, _≤_}
 use lib.ListN.{length, take}
 use Rattle.tallies.proofs.add_works.Statement.{statement}
 use Rattle.tallies.proofs.add_works.Tie as tie

@@ -3,9 +3,7 @@ use borrow.Author.Needs.{needs}
 use lib.Pow.{pow-mono}
 use Rattle.bits.specs.Bit.{one-shl}
 use native.Mathlib.Omega.{arith}
-use Prim.Native.Nat.{ℕ, _+_, _-_, _*_, _^_, _<_, _≤_}
-use mathlib.Core.Path.{_≡_, refl, sym, ap, _∙_, subst}
-use lib.ListN.{length, getD, set, length-set}
+use Prim.Native.Nat.{_^_, _≤_}
 use Rattle.tallies.proofs.exp2.Statement.{statement}
 use Rattle.tallies.proofs.exp2.Tie as tie
 

@@ -10,7 +10,7 @@ use Rattle.walk.specs.Entry.{answers, same-words, same-list, done-words, refuse
 use Rattle.spec.specs.Calls.{plainWords, orderedSteps}
 use Rattle.spec.specs.Tree.{stepOrder}
 use Rattle.spec.specs.Memory.{cleared}
-use Rattle.spec.specs.Refusal.{Refusal, Result, done, invalidTree}
+use Rattle.spec.specs.Refusal.{Refusal, Result, invalidTree}
 use native.Mathlib.Omega.{arith}
 use Prim.Native.Nat.{ℕ, _-_, _≤_}
 use mathlib.Core.Path.{_≡_, refl, sym, ap, _∙_}

@@ -2,7 +2,7 @@
 use borrow.Author.Needs.{needs}
 use Rattle.spec.specs.Memory.{cleared}
 use lib.Seq.{length-take-le}
-use lib.ListN.{take, length-take, length}
+use lib.ListN.{take, length}
 use Rattle.tree.specs.declared.Validity.{Validity}
 use Rattle.tree.specs.Answers.{validityOf, validIn, valid-short, valid-done, valid-wrong}
 use Rattle.walk.specs.Entry.{answers, same-words, done-words, refused-words, lent-cleared}

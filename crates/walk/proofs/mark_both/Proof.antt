@@ -1,7 +1,6 @@
 -- Assumes nothing.
 use borrow.Author.Needs.{needs}
 use Rattle.walk.specs.Marks.{first-not, then-second}
-use lib.ListN.{length}
 use Rattle.walk.proofs.mark_both.Statement.{statement}
 use Rattle.walk.proofs.mark_both.Tie as tie
 

@@ -5,7 +5,7 @@ use Rattle.walk.specs.Check.{Going, begins, bounded, ends, internal, ref
 use native.Mathlib.Omega.{arith}
 use Prim.Native.Nat.{_+_, _-_, _*_, _≤_}
 use mathlib.Core.Path.{_≡_, refl, ap, _∙_}
-use lib.ListN.{length, set, length-set}
+use lib.ListN.{length, length-set}
 use Rattle.walk.proofs.meets_all.Statement.{statement}
 use Rattle.walk.proofs.meets_all.Tie as tie
 

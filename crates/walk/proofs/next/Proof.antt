@@ -4,7 +4,6 @@ use Rattle.walk.specs.Stack.{pushed, picked, pushedBoth, pushed-le}
 use native.Mathlib.Omega.{arith}
 use Prim.Native.Nat.{ℕ}
 use mathlib.Core.Path.{refl, ap, _∙_}
-use lib.ListN.{length}
 use Rattle.walk.proofs.next.Statement.{statement}
 use Rattle.walk.proofs.next.Tie as tie
 

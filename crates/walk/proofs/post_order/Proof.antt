@@ -2,7 +2,6 @@
 use borrow.Author.Needs.{needs}
 use Rattle.walk.specs.Order.{few-order}
 use native.Mathlib.Omega.{arith}
-use lib.ListN.{length}
 use Rattle.walk.proofs.post_order.Statement.{statement}
 use Rattle.walk.proofs.post_order.Tie as tie
 

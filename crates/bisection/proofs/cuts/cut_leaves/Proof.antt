@@ -1,12 +1,11 @@
 -- Assumes nothing.
-use borrow.Author.Needs.{needs}
 use Rattle.halving.specs.Cuts.{cut-spent, cut-left, cut-some}
 use Rattle.halves.specs.Picks.{few-left}
 use Prim.Native.Nat.{_≤_}
 use lib.Seq.{length-take-le}
 use lib.ListN.{length, take}
 use native.Mathlib.Omega.{arith}
-use mathlib.Core.Path.{refl, sym, _∙_}
+use mathlib.Core.Path.{refl, sym}
 use Rattle.bisection.proofs.cuts.cut_leaves.Statement.{statement}
 use Rattle.bisection.proofs.cuts.cut_leaves.Tie as tie
 

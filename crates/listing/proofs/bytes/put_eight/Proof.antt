@@ -1,6 +1,5 @@
 -- Assumes nothing.
 use borrow.Author.Needs.{needs}
-use Prim.Native.Nat.{_-_}
 use mathlib.Core.Path.{_∙_}
 use Rattle.listing.proofs.bytes.put_eight.Statement.{statement}
 use Rattle.listing.proofs.bytes.put_eight.Tie as tie

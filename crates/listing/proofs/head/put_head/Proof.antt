@@ -1,6 +1,5 @@
 -- Assumes nothing.
 use borrow.Author.Needs.{needs}
-use Prim.Native.Nat.{_-_}
 use Rattle.cost.specs.Back.{pricesFrom}
 use Rattle.listing.specs.Head.{head-placed}
 use Rattle.listing.proofs.head.put_head.Statement.{statement}
