@@ -124,8 +124,8 @@ module _ (N : Network) (i cutoff : ℕ) (draws tree ws : List ℕ) where
           go (isPlan z a g w l) = absurd (omega arith)
 
       -- 13
-      pub answer-spent : 65536 < top → Answers N i cutoff draws tree tree ws ws′ (Bisected.Refused 13)
-      answer-spent e = go whole
+      pub answer-exhausted : 65536 < top → Answers N i cutoff draws tree tree ws ws′ (Bisected.Refused 13)
+      answer-exhausted e = go whole
         where
           go : Whole N i cutoff draws kids₀ kids top next → Answers N i cutoff draws tree tree ws ws′ (Bisected.Refused 13)
           go (isRefused z g) =

@@ -12,7 +12,7 @@ use Rattle.laws.specs.Booleans.{by-cases}
 use Rattle.laws.specs.ListLaws.{count-memb, count-not-memb, count-append}
 use Rattle.laws.specs.BisectionHalves.{onZero, members-count}
 use Rattle.hypergraph.specs.Whole.{Names}
-use Rattle.halving.specs.Cuts.{CutBy, isSpent, isWhole, isCut}
+use Rattle.halving.specs.Cuts.{CutBy, isExhausted, isWhole, isCut}
 use Rattle.halving.specs.Recursion.{rest-part}
 
 -- there is such a network
@@ -46,7 +46,7 @@ module _ (weights counts legs leaves : List ℕ) (s : Named weights counts legs 
     same-count v = go cut
       where
         go : CutBy (s .network) leaves eps words at l left next → count v l ≡ count v leaves
-        go (isSpent z part ep d same) = ap (count v) same
+        go (isExhausted z part ep d same) = ap (count v) same
         go (isWhole z part ep d q same) = ap (count v) same
         go (isCut z m part ep d q same) =
             ap (count v) same ∙ count-append v (leftHalf part leaves) (rightHalf part leaves) ∙ members-count (onZero part) v 0 leaves

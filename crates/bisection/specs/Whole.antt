@@ -105,7 +105,7 @@ module _ (m n o : ℕ) (weights counts cells outputs : List ℕ) (lent : Lent we
     from-all i cutoff words =
         ap (λ (x : Result Halved). andThen x (λ h. done (bisectedFrom words h)))
         (ap₂ (λ (k : ℕ) (l : List ℕ). bisectRec N (imbalance i) cutoff k l [] (lentWords words)) (count-is ∙ sym leaves-many) (ap range count-is ∙ sym all-leaves)
-        ∙ ap (λ (b : Bool). bisectRec N (imbalance i) cutoff (length leaves) leaves [] (record { left = words; spent = b })) (sym (le-ltb (length words) 0 (omega arith))))
+        ∙ ap (λ (b : Bool). bisectRec N (imbalance i) cutoff (length leaves) leaves [] (record { left = words; exhausted = b })) (sym (le-ltb (length words) 0 (omega arith))))
       where
         count-is : leafCount N ≡ n
         count-is = layout-leaf-count m n o weights counts cells outputs

@@ -74,7 +74,7 @@ pub(crate) fn cut_leaves(
 {
     let mut part = [0u8; 128];
     let next = partition_of(ws, weights, counts, legs, leaves, eps, draws, at, &mut part);
-    if draws::is_spent(draws, next) {
+    if draws::is_exhausted(draws, next) {
         return Cut { left: 0, at: next };
     }
     let n = leaves.len();

@@ -13,14 +13,14 @@ use lib.Seq.{drop-cons}
 use Rattle.spec.specs.Draws.{Words, Drawn, drawn, drawFrom, draw, unitOf, unitDraw, indexDraw}
 
 abbrev pub wordsAt : List ℕ → ℕ → Words
-wordsAt words at = record { left = drop at words; spent = ltb (length words) at }
+wordsAt words at = record { left = drop at words; exhausted = ltb (length words) at }
 
 -- the cursor after a draw
 abbrev pub afterDraw : List ℕ → ℕ → ℕ
 afterDraw words at = cond (ltb at (length words)) (at + 1) (length words + 1)
 
 abbrev made : ℕ → List ℕ → Bool → Drawn ℕ
-made w l s = drawn w (record { left = l; spent = s })
+made w l s = drawn w (record { left = l; exhausted = s })
 
 -- A DRAW BY THE CURSOR: the word there, or 0 past the end, and the words from the next cursor on.
 pub draw-at : (words : List ℕ) (at : ℕ) → draw (wordsAt words at) ≡ drawn (getD words at 0) (wordsAt words (afterDraw words at))

@@ -43,8 +43,8 @@ pub fn after(words: &[u64], at: usize) -> usize
 }
 
 // Was a draw due past the end.
-pub fn is_spent(words: &[u64], at: usize) -> bool
-    ensures { λ r. ⌜ r ≡ wordsAt (now (words .entry)) at .spent ⌝ }
+pub fn is_exhausted(words: &[u64], at: usize) -> bool
+    ensures { λ r. ⌜ r ≡ wordsAt (now (words .entry)) at .exhausted ⌝ }
 {
     words.len() < at
 }

@@ -57,14 +57,14 @@ module _ (N : Network) (eps : Float) (cutoff : ℕ) where
               (lt-leb (length leaves) (max cutoff 2) h)
               ∙ ap (split N eps cutoff (λ l c w. bisectRec N eps cutoff k l c w) leaves a) ep
 
-      pub halved-spent : next .spent ≡ true → halved N eps cutoff leaves a ws ≡ refused drawsExhausted
-      halved-spent s = halved-parts ∙ rw s
+      pub halved-exhausted : next .exhausted ≡ true → halved N eps cutoff leaves a ws ≡ refused drawsExhausted
+      halved-exhausted s = halved-parts ∙ rw s
 
-      pub halved-whole : next .spent ≡ false → (eqb (length (leftHalf part leaves)) 0 || eqb (length (rightHalf part leaves)) 0) ≡ true
+      pub halved-whole : next .exhausted ≡ false → (eqb (length (leftHalf part leaves)) 0 || eqb (length (rightHalf part leaves)) 0) ≡ true
           → halved N eps cutoff leaves a ws ≡ smallEnd N eps cutoff leaves a next
       halved-whole s q = halved-parts ∙ rw (s, q)
 
-      module _ (s : next .spent ≡ false) (hl : 0 < length (leftHalf part leaves)) (hr : length (leftHalf part leaves) < length leaves) where
+      module _ (s : next .exhausted ≡ false) (hl : 0 < length (leftHalf part leaves)) (hr : length (leftHalf part leaves) < length leaves) where
         abbrev f : ℕ
         f = length leaves - 1
 
@@ -101,8 +101,8 @@ pub data Halves (N : Network) (eps : Float) (cutoff : ℕ) (a : List Pair) (leav
 
 -- leaves that are not halved: 13, or greedy's answer
 pub data Unsplit (N : Network) (a : List Pair) (leaves words : List ℕ) (at : ℕ) (kids₀ kids : List ℕ) (top : ℕ) : Type 0 where
-  isDry : top ≡ 65537 → wordsAt words at .spent ≡ true → Unsplit N a leaves words at kids₀ kids top
-  isGreedy : wordsAt words at .spent ≡ false → Greedied N a leaves kids₀ kids top → Unsplit N a leaves words at kids₀ kids top
+  isDry : top ≡ 65537 → wordsAt words at .exhausted ≡ true → Unsplit N a leaves words at kids₀ kids top
+  isGreedy : wordsAt words at .exhausted ≡ false → Greedied N a leaves kids₀ kids top → Unsplit N a leaves words at kids₀ kids top
 
 -- a node over two tops
 pub data Joins (n : ℕ) (kids₀ kids : List ℕ) (count left right at top next : ℕ) : Type 0 where

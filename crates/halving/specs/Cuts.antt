@@ -24,13 +24,13 @@ module _ (N : Network) (leaves : List ℕ) (eps : Float) (words : List ℕ) (at 
 
   -- the leaves are halved, or they are not: a draw was due past the end, or one side is empty
   pub data CutBy (leaves′ : List ℕ) (left next : ℕ) : Type 0 where
-    isSpent : left ≡ 0 → (part : List ℕ) → bisect (hypergraphOf N leaves) eps (wordsAt words at) ≡ drawn part (wordsAt words next)
-        → wordsAt words next .spent ≡ true → leaves′ ≡ leaves → CutBy leaves′ left next
+    isExhausted : left ≡ 0 → (part : List ℕ) → bisect (hypergraphOf N leaves) eps (wordsAt words at) ≡ drawn part (wordsAt words next)
+        → wordsAt words next .exhausted ≡ true → leaves′ ≡ leaves → CutBy leaves′ left next
     isWhole : left ≡ 0 → (part : List ℕ) → bisect (hypergraphOf N leaves) eps (wordsAt words at) ≡ drawn part (wordsAt words next)
-        → wordsAt words next .spent ≡ false → (eqb (length (leftHalf part leaves)) 0 || eqb (length (rightHalf part leaves)) 0) ≡ true
+        → wordsAt words next .exhausted ≡ false → (eqb (length (leftHalf part leaves)) 0 || eqb (length (rightHalf part leaves)) 0) ≡ true
         → leaves′ ≡ leaves → CutBy leaves′ left next
     isCut : 0 < left → left < length leaves → (part : List ℕ) → bisect (hypergraphOf N leaves) eps (wordsAt words at) ≡ drawn part (wordsAt words next)
-        → wordsAt words next .spent ≡ false → left ≡ length (leftHalf part leaves) → leaves′ ≡ leftHalf part leaves ++ rightHalf part leaves
+        → wordsAt words next .exhausted ≡ false → left ≡ length (leftHalf part leaves) → leaves′ ≡ leftHalf part leaves ++ rightHalf part leaves
         → CutBy leaves′ left next
 
 -- where no member passes a test all pass its opposite
@@ -54,10 +54,10 @@ module _ (N : Network) (leaves : List ℕ) (eps : Float) (words : List ℕ) (at 
     abbrev sides : List ℕ
     sides = take (length leaves) part
 
-    pub cut-spent : (t : Bool) → t ≡ wordsAt words next .spent → t ≡ true → CutBy N leaves eps words at leaves 0 next
-    cut-spent t e h = isSpent refl sides (sym ep) (sym e ∙ h) refl
+    pub cut-exhausted : (t : Bool) → t ≡ wordsAt words next .exhausted → t ≡ true → CutBy N leaves eps words at leaves 0 next
+    cut-exhausted t e h = isExhausted refl sides (sym ep) (sym e ∙ h) refl
 
-    module _ (t : Bool) (e : t ≡ wordsAt words next .spent) (h : t ≡ false) (leaves′ : List ℕ) (left : ℕ)
+    module _ (t : Bool) (e : t ≡ wordsAt words next .exhausted) (h : t ≡ false) (leaves′ : List ℕ) (left : ℕ)
         (eh : (left ≡ length (leftHalf sides leaves)) × (leaves′ ≡ leftHalf sides leaves ++ rightHalf sides leaves))
       where
         -- all go left

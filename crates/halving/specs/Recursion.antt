@@ -23,8 +23,8 @@ use Rattle.draws.specs.Cursor.{wordsAt}
 use Rattle.merging.specs.Removed.{flat-length, put-node}
 use Rattle.greedynodes.specs.Begin.{Asks}
 use Rattle.greedynodes.specs.Ends.{Greedied, isRefused, isBuilt}
-use Rattle.halving.specs.Cuts.{CutBy, isSpent, isWhole, isCut}
-use Rattle.halving.specs.Cases.{halved, refusalAt, halved-small, halved-spent, halved-whole, left-refused, right-refused, both-done, Halves, isOff, isTree, Unsplit, isDry, isGreedy, Joins, isRight, isNode}
+use Rattle.halving.specs.Cuts.{CutBy, isExhausted, isWhole, isCut}
+use Rattle.halving.specs.Cases.{halved, refusalAt, halved-small, halved-exhausted, halved-whole, left-refused, right-refused, both-done, Halves, isOff, isTree, Unsplit, isDry, isGreedy, Joins, isRight, isNode}
 
 -- ---- lists ----
 
@@ -65,7 +65,7 @@ module _ (N : Network) (eps : Float) (cutoff : ℕ) (a : List Pair) (leaves word
   rec-small h kids top g = by-greedy at (halved-small N eps cutoff leaves a (wordsAt words at) h) kids top g
 
   pub cut-same : (leaves′ : List ℕ) (left next : ℕ) → CutBy N leaves eps words at leaves′ left next → left ≡ 0 → leaves′ ≡ leaves
-  cut-same leaves′ left next (isSpent l part ep s same) z = same
+  cut-same leaves′ left next (isExhausted l part ep s same) z = same
   cut-same leaves′ left next (isWhole l part ep s q same) z = same
   cut-same leaves′ left next (isCut l m part ep s q same) z = absurd (omega arith)
 
@@ -76,10 +76,10 @@ module _ (N : Network) (eps : Float) (cutoff : ℕ) (a : List Pair) (leaves word
       go c (subst (λ (l : List ℕ). Unsplit N a l words next kids₀ kids top) (cut-same leaves′ left next c z) u)
     where
       go : CutBy N leaves eps words at leaves′ left next → Unsplit N a leaves words next kids₀ kids top → Halves N eps cutoff a leaves words at kids₀ kids top next
-      go (isSpent l part ep s same) (isDry e t) =
+      go (isExhausted l part ep s same) (isDry e t) =
           isOff (omega (arith, e))
-          (halved-spent N eps cutoff leaves a (wordsAt words at) h part (wordsAt words next) ep s ∙ ap (λ (k : ℕ). refused (refusalAt k)) (sym e))
-      go (isSpent l part ep s same) (isGreedy t g) = clash s t
+          (halved-exhausted N eps cutoff leaves a (wordsAt words at) h part (wordsAt words next) ep s ∙ ap (λ (k : ℕ). refused (refusalAt k)) (sym e))
+      go (isExhausted l part ep s same) (isGreedy t g) = clash s t
       go (isWhole l part ep s q same) (isDry e t) = clash t s
       go (isWhole l part ep s q same) (isGreedy t g) =
           by-greedy next (halved-whole N eps cutoff leaves a (wordsAt words at) h part (wordsAt words next) ep s q) kids top g
@@ -91,7 +91,7 @@ module _ (N : Network) (eps : Float) (cutoff : ℕ) (a : List Pair) (leaves word
 record Parts (N : Network) (leaves : List ℕ) (eps : Float) (words : List ℕ) (at : ℕ) (leaves′ : List ℕ) (left next : ℕ) : Type 0 where
   part : List ℕ
   is : bisect (hypergraphOf N leaves) eps (wordsAt words at) ≡ drawn part (wordsAt words next)
-  going : wordsAt words next .spent ≡ false
+  going : wordsAt words next .exhausted ≡ false
   some : 0 < length (leftHalf part leaves)
   few : length (leftHalf part leaves) < length leaves
   front : take left leaves′ ≡ leftHalf part leaves
@@ -99,7 +99,7 @@ record Parts (N : Network) (leaves : List ℕ) (eps : Float) (words : List ℕ) 
 
 parts-of : (N : Network) (leaves : List ℕ) (eps : Float) (words : List ℕ) (at : ℕ) (leaves′ : List ℕ) (left next : ℕ)
     → CutBy N leaves eps words at leaves′ left next → (left ≡ 0 → ⊥) → Parts N leaves eps words at leaves′ left next
-parts-of N leaves eps words at leaves′ left next (isSpent l part ep s same) n = absurd (n l)
+parts-of N leaves eps words at leaves′ left next (isExhausted l part ep s same) n = absurd (n l)
 parts-of N leaves eps words at leaves′ left next (isWhole l part ep s q same) n = absurd (n l)
 parts-of N leaves eps words at leaves′ left next (isCut l m part ep s q same) n =
     record {

@@ -11,9 +11,9 @@ ghost use Rattle.halving.specs.Cases.{Unsplit, Joins};
 use merging::REFUSED;
 
 // The answer where a draw was due past the end of the words.
-pub const SPENT: usize = 65537;
+pub const EXHAUSTED: usize = 65537;
 
-// The top of what was built over some leaves, or REFUSED, or SPENT; and the cursor into the words.
+// The top of what was built over some leaves, or REFUSED, or EXHAUSTED; and the cursor into the words.
 pub struct Half {
     pub top: usize,
     pub at: usize,
@@ -41,7 +41,7 @@ pub fn small(cutoff: usize) -> usize
     if cutoff < 2 { 2 } else { cutoff }
 }
 
-// Greedy over leaves that are not halved, or SPENT.
+// Greedy over leaves that are not halved, or EXHAUSTED.
 pub fn unsplit(
     ws: &mut [u64],
     weights: &[u8],
@@ -59,8 +59,8 @@ pub fn unsplit(
     ensures { λ r. ⌜ r .at ≡ at ⌝ }
     ensures { λ r. ⌜ ((N : Net) (a : List Pair) → Asks N a n count (now (weights .entry)) (now (counts .entry)) (now (legs .entry)) (now (outputs .entry)) (now (leaves .entry)) (now (kids .entry)) → Unsplit N a (now (leaves .entry)) (now (draws .entry)) at (now (kids .entry)) (now (kids .exit)) (r .top)) ⌝ }
 {
-    if draws::is_spent(draws, at) {
-        return Half { top: SPENT, at };
+    if draws::is_exhausted(draws, at) {
+        return Half { top: EXHAUSTED, at };
     }
     let top = greedynodes::greedy_nodes(
         ws,

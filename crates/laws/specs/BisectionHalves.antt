@@ -77,7 +77,7 @@ module _ (N : Network) (eps : Float) (cutoff : ℕ) where
       → ((l : List ℕ) → length l < length leaves → (b : List Pair) (w : Words) → f l b w ≡ g l b w)
       → split N eps cutoff f leaves a d ≡ split N eps cutoff g leaves a d
   split-same f g leaves a d h =
-      ap (λ answer. cond (d .words .spent) (refused drawsExhausted) answer)
+      ap (λ answer. cond (d .words .exhausted) (refused drawsExhausted) answer)
       (by-cases (eqb (length (leftHalf (d .value) leaves)) 0 || eqb (length (rightHalf (d .value) leaves)) 0)
       (λ q. rw q)
       (λ q. rw q

@@ -171,7 +171,7 @@ module _ (N : Network) (eps : Float) (cutoff : ℕ) where
   -- what an answer of a split comes from, by the tests in it
   split-half : (fuel : ℕ) → Rec fuel → (leaves : List ℕ) (a : List Pair) (d : Drawn (List ℕ)) (h : Halved) → Below (leafCount N) leaves → 1 ≤ length leaves
       → split N eps cutoff (λ l b w. bisectRec N eps cutoff fuel l b w) leaves a d ≡ done h → Half N leaves a h
-  split-half fuel rec leaves a d h low some e = go (d .words .spent) (eqb (length left) 0 || eqb (length right) 0) refl e
+  split-half fuel rec leaves a d h low some e = go (d .words .exhausted) (eqb (length left) 0 || eqb (length right) 0) refl e
     where
       left : List ℕ
       left = leftHalf (d .value) leaves

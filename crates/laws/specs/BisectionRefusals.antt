@@ -15,7 +15,7 @@ use Rattle.spec.specs.Draws.{Words, Drawn, lentWords}
 use Rattle.spec.specs.Greedy.{Cand, State, Built, anyWide, turn, merge, least, connect, sharingPairs, finish, startOf, leavesOf, greedyFrom}
 use Rattle.spec.specs.Hypergraph.{hypergraphOf}
 use Rattle.spec.specs.Bisection.{imbalance, Halved, leftHalf, rightHalf, smallEnd, halves, split, bisect, bisectRec, bisection}
-use Rattle.spec.specs.BisectionClaims.{OnlyWideOrSpent}
+use Rattle.spec.specs.BisectionClaims.{OnlyWideOrExhausted}
 use Rattle.laws.specs.Booleans.{by-cases}
 use Rattle.laws.specs.Results.{refused-same, not-refused, then-refused}
 
@@ -55,7 +55,7 @@ module _ (N : Network) (eps : Float) (cutoff : ℕ) (k : Refusal) where
 
   split-refused : (fuel : ℕ) → ((leaves : List ℕ) (a : List Pair) (ws : Words) → bisectRec N eps cutoff fuel leaves a ws ≡ refused k → Only)
       → (leaves : List ℕ) (a : List Pair) (d : Drawn (List ℕ)) → split N eps cutoff (λ l b w. bisectRec N eps cutoff fuel l b w) leaves a d ≡ refused k → Only
-  split-refused fuel rec leaves a d e = go (d .words .spent) (eqb (length (leftHalf (d .value) leaves)) 0 || eqb (length (rightHalf (d .value) leaves)) 0) e
+  split-refused fuel rec leaves a d e = go (d .words .exhausted) (eqb (length (leftHalf (d .value) leaves)) 0 || eqb (length (rightHalf (d .value) leaves)) 0) e
     where
       go : (s t : Bool) → cond s (refused drawsExhausted) (cond t (smallEnd N eps cutoff leaves a (d .words))
           (halves N eps cutoff (λ l b w. bisectRec N eps cutoff fuel l b w) (leftHalf (d .value) leaves) (rightHalf (d .value) leaves) a (d .words))) ≡ refused k → Only
@@ -73,8 +73,8 @@ module _ (N : Network) (eps : Float) (cutoff : ℕ) (k : Refusal) where
       (λ q. small-refused leaves a ws (rw q at e))
       (λ q. split-refused fuel (rec-refused fuel) leaves a (bisect (hypergraphOf N leaves) eps ws) (rw q at e))
 
-pub only-wide-or-spent : OnlyWideOrSpent
+pub only-wide-or-exhausted : OnlyWideOrExhausted
 unfolding bisection
-only-wide-or-spent N i cutoff words r e =
+only-wide-or-exhausted N i cutoff words r e =
     then-refused (bisectRec N (imbalance i) cutoff (leafCount N) (range (leafCount N)) [] (lentWords words)) _ r e
     (rec-refused N (imbalance i) cutoff r (leafCount N) (range (leafCount N)) [] (lentWords words)) (λ x _ q. not-refused _ r q)

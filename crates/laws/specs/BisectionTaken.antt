@@ -18,10 +18,10 @@ use Rattle.spec.specs.Draws.{Words, lentWords, Drawn}
 use Rattle.spec.specs.Greedy.{Built, joinAll, leavesOf, greedyFrom}
 use Rattle.spec.specs.Hypergraph.{hypergraphOf}
 use Rattle.spec.specs.Bisection.{imbalance, Halved, withWords, leftHalf, rightHalf, smallEnd, joinHalves, halves, bisectRec, bisectedFrom, Bisected, bisection}
-use Rattle.spec.specs.BisectionClaims.{firstOf, WordsSuffice, TakenDecide, SpentShort, SpentJust, WideStands, WideMet}
+use Rattle.spec.specs.BisectionClaims.{firstOf, WordsSuffice, TakenDecide, ExhaustedShort, ExhaustedJust, WideStands, WideMet}
 use Rattle.laws.specs.Booleans.{by-cases, clash}
 use Rattle.laws.specs.Results.{not-done, done-same, refused-same, and-then, not-refused, then-refused}
-use Rattle.laws.specs.BisectionRefusals.{greedy-refused, only-wide-or-spent}
+use Rattle.laws.specs.BisectionRefusals.{greedy-refused, only-wide-or-exhausted}
 use Rattle.laws.specs.WordLaws.{afterFirst, first-more, drawn-held, Past, Alike, Goes, leaves}
 use Rattle.laws.specs.BisectionWords.{bisect-goes}
 
@@ -30,7 +30,7 @@ use Rattle.laws.specs.BisectionWords.{bisect-goes}
 -- some of the words l are taken: an answer has fewer left, and with none to take it is refused 13
 abbrev Over : List ℕ → Result Halved → Type 0
 Over l (refused k) = (k ≡ drawsExhausted) ⊎ (0 < length l)
-Over l (done h) = (h .words .spent ≡ false) × (length (h .words .left) < length l)
+Over l (done h) = (h .words .exhausted ≡ false) × (length (h .words .left) < length l)
 
 -- two runs, one with r and the other with m after the words that both may take: the same answer with r and m left; or both are past that
 abbrev Agree : List ℕ → List ℕ → Result Halved → Result Halved → Type 0
@@ -43,7 +43,7 @@ Settled (refused k) = k ≡ drawsExhausted → ⊥
 Settled (done h) = h .words ≡ lentWords []
 
 record Answers (c : Words → Result Halved) : Type 0 where
-  past : (l : List ℕ) (ws : Words) → ws .spent ≡ false → length (ws .left) < length l → Over l (c ws)
+  past : (l : List ℕ) (ws : Words) → ws .exhausted ≡ false → length (ws .left) < length l → Over l (c ws)
   step : (r m p : List ℕ) → Agree r m (c (lentWords (p ++ r))) (c (lentWords (p ++ m)))
   ends : (s : ℕ → ℕ) → (k : ℕ) × Settled (c (lentWords (firstOf s k)))
 
@@ -55,7 +55,7 @@ plain v n = record { past = λ l ws e h. go l ws e h v; step = λ r m p. inl (p,
     settled (refused k) n = λ e. n (ap (λ k. refused k) e)
     settled (done b) n = refl
 
-    go : (l : List ℕ) (ws : Words) → ws .spent ≡ false → length (ws .left) < length l → (v : Result Built) → Over l (withWords ws v)
+    go : (l : List ℕ) (ws : Words) → ws .exhausted ≡ false → length (ws .left) < length l → (v : Result Built) → Over l (withWords ws v)
     go l ws e h (refused k) = inr (omega arith)
     go l ws e h (done b) = (e, h)
 
@@ -116,31 +116,31 @@ next {c} f g h =
     go r m x y (inr (o, o′)) = inr (beyond r x o, beyond m y o′)
 
 -- a draw that was due and got no word is refused 13, before anything else is answered
-abbrev unlessSpent : (List ℕ → Words → Result Halved) → Drawn (List ℕ) → Result Halved
-unlessSpent f d = cond (d .words .spent) (refused drawsExhausted) (f (d .value) (d .words))
+abbrev unlessExhausted : (List ℕ → Words → Result Halved) → Drawn (List ℕ) → Result Halved
+unlessExhausted f d = cond (d .words .exhausted) (refused drawsExhausted) (f (d .value) (d .words))
 
-spent-or : {c : Words → Drawn (List ℕ)} (f : List ℕ → Words → Result Halved) → Goes (drawn-held (List ℕ)) c → ((part : List ℕ) → Answers (f part))
-    → Answers (λ ws. unlessSpent f (c ws))
-spent-or {c} f g h =
+exhausted-or : {c : Words → Drawn (List ℕ)} (f : List ℕ → Words → Result Halved) → Goes (drawn-held (List ℕ)) c → ((part : List ℕ) → Answers (f part))
+    → Answers (λ ws. unlessExhausted f (c ws))
+exhausted-or {c} f g h =
     record {
       past = λ l ws e k. beyond l (c ws) (g .past l ws (λ s. k));
       step = λ r m p. go r m (c (lentWords (p ++ r))) (c (lentWords (p ++ m))) (g .step r m p);
       ends = both;
     }
   where
-    both : (s : ℕ → ℕ) → (k : ℕ) × Settled (unlessSpent f (c (lentWords (firstOf s k))))
+    both : (s : ℕ → ℕ) → (k : ℕ) × Settled (unlessExhausted f (c (lentWords (firstOf s k))))
     both s =
         let (k, e) = g .ends s in
         let (j, d) = h (c (lentWords (firstOf s k)) .value) .ends (afterFirst k s) in (
           k + j,
-          subst Settled (sym (ap (λ (l : List ℕ). unlessSpent f (c (lentWords l))) (first-more k j s)
-              ∙ ap (unlessSpent f) (leaves (drawn-held (List ℕ)) g (firstOf s k) (firstOf (afterFirst k s) j) e))) d,
+          subst Settled (sym (ap (λ (l : List ℕ). unlessExhausted f (c (lentWords l))) (first-more k j s)
+              ∙ ap (unlessExhausted f) (leaves (drawn-held (List ℕ)) g (firstOf s k) (firstOf (afterFirst k s) j) e))) d,
         )
 
-    beyond : (l : List ℕ) (d : Drawn (List ℕ)) → Past l (d .words) → Over l (unlessSpent f d)
-    beyond l d k = by-cases (d .words .spent) (λ e. rw e (inl refl)) (λ e. rw e (h (d .value) .past l (lentWords (d .words .left)) refl (k e)))
+    beyond : (l : List ℕ) (d : Drawn (List ℕ)) → Past l (d .words) → Over l (unlessExhausted f d)
+    beyond l d k = by-cases (d .words .exhausted) (λ e. rw e (inl refl)) (λ e. rw e (h (d .value) .past l (lentWords (d .words .left)) refl (k e)))
 
-    go : (r m : List ℕ) (d d′ : Drawn (List ℕ)) → Alike (drawn-held (List ℕ)) r m d d′ → Agree r m (unlessSpent f d) (unlessSpent f d′)
+    go : (r m : List ℕ) (d d′ : Drawn (List ℕ)) → Alike (drawn-held (List ℕ)) r m d d′ → Agree r m (unlessExhausted f d) (unlessExhausted f d′)
     go r m d d′ (inl (q, u, e, e′)) = rw (e, e′) (h (u .value) .step r m q)
     go r m d d′ (inr (k, k′)) = inr (beyond r d k, beyond m d′ k′)
 
@@ -161,7 +161,7 @@ module _ (N : Network) (eps : Float) (cutoff : ℕ) where
   rec-answers zero leaves a = small-answers leaves a
   rec-answers (suc fuel) leaves a =
       choose (leb (length leaves) (max cutoff 2)) (small-answers leaves a)
-      (spent-or
+      (exhausted-or
       (λ part ws. cond (eqb (length (leftHalf part leaves)) 0 || eqb (length (rightHalf part leaves)) 0) (smallEnd N eps cutoff leaves a ws)
       (halves N eps cutoff (λ l b w. bisectRec N eps cutoff fuel l b w) (leftHalf part leaves) (rightHalf part leaves) a ws))
       (bisect-goes (hypergraphOf N leaves) eps)
@@ -193,8 +193,8 @@ module _ (N : Network) (i cutoff : ℕ) (p r m : List ℕ) (h : Halved) (e : bis
       go (inr (o, o′)) = absurd (omega (arith, k, (rw e at o) .1))
 
   -- with fewer left, and no words after p, it is refused 13
-  spent-answer : length (h .words .left) < length r → m ≡ [] → bisected N i cutoff (lentWords (p ++ m)) ≡ refused drawsExhausted
-  spent-answer k n = go (answers N i cutoff .step r m p)
+  exhausted-answer : length (h .words .left) < length r → m ≡ [] → bisected N i cutoff (lentWords (p ++ m)) ≡ refused drawsExhausted
+  exhausted-answer k n = go (answers N i cutoff .step r m p)
     where
       none-left : (x : Result Halved) → Over m x → x ≡ refused drawsExhausted
       none-left (refused j) (inl e) = ap (λ j. refused j) e
@@ -227,13 +227,13 @@ taken-decide N i cutoff words b e =
         rw s (ap (λ k. done (record { pairs = h .built .pairs; taken = k }))
         (omega (arith, length-append (take t words) more, length-take-le t words (omega arith))))
 
-pub spent-short : SpentShort
+pub exhausted-short : ExhaustedShort
 unfolding bisection
-spent-short N i cutoff words b k e lt =
+exhausted-short N i cutoff words b k e lt =
     and-then (bisected N i cutoff (lentWords words)) (λ h. done (bisectedFrom words h)) b e
     (λ h e₁ e₂.
     ap (λ x. andThen x (λ h. done (bisectedFrom (take k words) h)))
-    (rw append-nil at (spent-answer N i cutoff (take k words) (drop k words) [] h (rw (take-append-drop k words) e₁)
+    (rw append-nil at (exhausted-answer N i cutoff (take k words) (drop k words) [] h (rw (take-append-drop k words) e₁)
     (omega (arith, length-drop k words, ap (λ (b : Bisected). b .taken) (done-same (bisectedFrom words h) b e₂))) refl)))
 
 pub words-suffice : WordsSuffice
@@ -263,8 +263,8 @@ wide-stands N i cutoff words more e =
     (stands more (bisected N i cutoff (lentWords (words ++ []))) (bisected N i cutoff (lentWords (words ++ more))) (rw append-nil q) (answers N i cutoff .step [] more words)))
     (λ h _ q. not-refused (bisectedFrom words h) tableTooWide q)
 
-pub spent-just : SpentJust
-spent-just N i cutoff words more b e f =
+pub exhausted-just : ExhaustedJust
+exhausted-just N i cutoff words more b e f =
     by-cases (ltb (length words) (b .taken)) (ltb-true (length words) (b .taken))
     (λ k. not-done drawsExhausted b (sym e ∙ enough (ltb-false (length words) (b .taken) k)))
   where
@@ -291,15 +291,15 @@ first-of p n h = go n 0 (omega arith) (λ k l. absurd (omega arith))
         by-cases (p j) (λ q. (j, omega arith, q, f)) (λ q. go d (suc j) (omega arith) (next q))
 
 -- what a bisection answers that is not refused 12 with some of the words, where with all of them it is: it is refused 13
-short-spent : (N : Network) (i cutoff : ℕ) (words : List ℕ) (k : ℕ) → bisection N i cutoff words ≡ refused tableTooWide
+short-exhausted : (N : Network) (i cutoff : ℕ) (words : List ℕ) (k : ℕ) → bisection N i cutoff words ≡ refused tableTooWide
     → (x : Result Bisected) → bisection N i cutoff (take k words) ≡ x → isWide x ≡ false → bisection N i cutoff (take k words) ≡ refused drawsExhausted
-short-spent N i cutoff words k e (done b) x h =
+short-exhausted N i cutoff words k e (done b) x h =
     let l : List ℕ = take k words in
     let whole : take (b .taken) l ++ (drop (b .taken) l ++ drop k words) ≡ words =
     sym (append-assoc (take (b .taken) l) (drop (b .taken) l) (drop k words)) ∙ ap (λ (z : List ℕ). z ++ drop k words) (take-append-drop (b .taken) l)
     ∙ take-append-drop k words in
     not-done tableTooWide b (sym e ∙ ap (bisection N i cutoff) (sym whole) ∙ taken-decide N i cutoff l b x .1 (drop (b .taken) l ++ drop k words))
-short-spent N i cutoff words k e (refused r) x h = go (only-wide-or-spent N i cutoff (take k words) r x)
+short-exhausted N i cutoff words k e (refused r) x h = go (only-wide-or-exhausted N i cutoff (take k words) r x)
   where
     go : (r ≡ tableTooWide) ⊎ (r ≡ drawsExhausted) → bisection N i cutoff (take k words) ≡ refused drawsExhausted
     go (inl q) = clash (rw q) h
@@ -308,7 +308,7 @@ short-spent N i cutoff words k e (refused r) x h = go (only-wide-or-spent N i cu
 is-wide : (N : Network) (i cutoff : ℕ) (words : List ℕ) (x : Result Bisected) → bisection N i cutoff words ≡ x → isWide x ≡ true
     → bisection N i cutoff words ≡ refused tableTooWide
 is-wide N i cutoff words (done b) x h = clash h refl
-is-wide N i cutoff words (refused r) x h = go (only-wide-or-spent N i cutoff words r x)
+is-wide N i cutoff words (refused r) x h = go (only-wide-or-exhausted N i cutoff words r x)
   where
     go : (r ≡ tableTooWide) ⊎ (r ≡ drawsExhausted) → bisection N i cutoff words ≡ refused tableTooWide
     go (inl q) = x ∙ ap (λ r. refused r) q
@@ -321,5 +321,5 @@ wide-met N i cutoff words e =
       t = t;
       within = within;
       wide = λ more. wide-stands N i cutoff (take t words) more (is-wide N i cutoff (take t words) (bisection N i cutoff (take t words)) refl wide);
-      short = λ k l. short-spent N i cutoff words k e (bisection N i cutoff (take k words)) refl (first k l);
+      short = λ k l. short-exhausted N i cutoff words k e (bisection N i cutoff (take k words)) refl (first k l);
     }

@@ -19,7 +19,7 @@ use Rattle.spec.specs.Draws.{Words, Drawn, lentWords}
 use Rattle.spec.specs.Greedy.{leavesOf, greedyFrom}
 use Rattle.spec.specs.Hypergraph.{hypergraphOf}
 use Rattle.spec.specs.Bisection.{imbalance, Halved, withWords, leftHalf, rightHalf, smallEnd, joinHalves, halves, split, bisect, bisectRec, bisectedFrom, bisection}
-use Rattle.spec.specs.EndClaims.{Partitioned, TwoHalves, Comes, itself, inLeft, inRight, SmallEnd, few, whole, Met, WideEnd, WideByGreedy, SpentPart, SpentByDraws}
+use Rattle.spec.specs.EndClaims.{Partitioned, TwoHalves, Comes, itself, inLeft, inRight, SmallEnd, few, whole, Met, WideEnd, WideByGreedy, ExhaustedPart, ExhaustedByDraws}
 use Rattle.laws.specs.Booleans.{by-cases, or-cases, or-none, or-introl, or-intror}
 use Rattle.laws.specs.ListLaws.{range-length, no-members}
 use Rattle.laws.specs.Results.{refused-same, not-refused, then-refused}
@@ -117,9 +117,9 @@ module _ (N : Network) (eps : Float) (cutoff : ℕ) where
 
     in-split : bisect (hypergraphOf N leaves) eps ws ≡ d → max cutoff 2 < length leaves → split N eps cutoff (part fuel) leaves a d ≡ refused k
         → Place k leaves a ws
-    in-split p m e = go (d .words .spent) (sided leaves d) refl refl e
+    in-split p m e = go (d .words .exhausted) (sided leaves d) refl refl e
       where
-        go : (s t : Bool) → d .words .spent ≡ s → sided leaves d ≡ t
+        go : (s t : Bool) → d .words .exhausted ≡ s → sided leaves d ≡ t
             → cond s (refused drawsExhausted) (cond t (smallEnd N eps cutoff leaves a (d .words))
             (halves N eps cutoff (part fuel) (left leaves d) (right leaves d) a (d .words))) ≡ refused k → Place k leaves a ws
         go true t i j e =
@@ -161,11 +161,11 @@ module _ (N : Network) (eps : Float) (cutoff : ℕ) where
   side-empty leaves d (inr e) = or-intror (eqb (length (left leaves d)) 0) _ (eq-eqb _ 0 (ap length e))
 
   -- what a split answers, by its two tests
-  split-whole : (fuel : ℕ) (leaves : List ℕ) (a : List Pair) (d : Drawn (List ℕ)) → d .words .spent ≡ false → sided leaves d ≡ true
+  split-whole : (fuel : ℕ) (leaves : List ℕ) (a : List Pair) (d : Drawn (List ℕ)) → d .words .exhausted ≡ false → sided leaves d ≡ true
       → split N eps cutoff (part fuel) leaves a d ≡ smallEnd N eps cutoff leaves a (d .words)
   split-whole fuel leaves a d i j = rw (i, j)
 
-  split-halves : (fuel : ℕ) (leaves : List ℕ) (a : List Pair) (d : Drawn (List ℕ)) → d .words .spent ≡ false → sided leaves d ≡ false
+  split-halves : (fuel : ℕ) (leaves : List ℕ) (a : List Pair) (d : Drawn (List ℕ)) → d .words .exhausted ≡ false → sided leaves d ≡ false
       → split N eps cutoff (part fuel) leaves a d ≡ halves N eps cutoff (part fuel) (left leaves d) (right leaves d) a (d .words)
   split-halves fuel leaves a d i j = rw (i, j)
 
@@ -176,9 +176,9 @@ module _ (N : Network) (eps : Float) (cutoff : ℕ) where
   end-refused k leaves a ws (whole d p o) w fuel h =
       part-turn k leaves a ws d false p (λ f b. split-whole f leaves a d (p .words) (side-empty leaves d o) ∙ ap (withWords (d .words)) w) fuel h
 
-  spent-refused : (leaves : List ℕ) (a : List Pair) (ws : Words) (d : Drawn (List ℕ)) → Partitioned N eps cutoff leaves ws d true
+  exhausted-refused : (leaves : List ℕ) (a : List Pair) (ws : Words) (d : Drawn (List ℕ)) → Partitioned N eps cutoff leaves ws d true
       → IsRefused drawsExhausted leaves a ws
-  spent-refused leaves a ws d p fuel h = part-turn drawsExhausted leaves a ws d true p (λ f b. rw (p .words)) fuel h
+  exhausted-refused leaves a ws d p fuel h = part-turn drawsExhausted leaves a ws d true p (λ f b. rw (p .words)) fuel h
 
   comes-refused : (k : Refusal) (leaves : List ℕ) (a : List Pair) (ws : Words) (end : List ℕ) (onto : List Pair) (rest : Words)
       → Comes N eps cutoff leaves a ws end onto rest → IsRefused k end onto rest → IsRefused k leaves a ws
@@ -208,8 +208,8 @@ unfolding greedyFrom
 some-leaf N a [] k e = not-refused _ k e
 some-leaf N a (i ∷ l) k e = omega arith
 
-wide-not-spent : {P : Type 0} → drawsExhausted ≡ tableTooWide → P
-wide-not-spent e = absurd (let w : _≡_ {A = ℕ} 13 12 = ap numberOf e in omega arith)
+wide-not-exhausted : {P : Type 0} → drawsExhausted ≡ tableTooWide → P
+wide-not-exhausted e = absurd (let w : _≡_ {A = ℕ} 13 12 = ap numberOf e in omega arith)
 
 module _ (N : Network) (i cutoff : ℕ) (words : List ℕ) where
   abbrev At : Refusal → Type 0
@@ -256,13 +256,13 @@ module _ (N : Network) (i cutoff : ℕ) (words : List ℕ) where
             small = s;
             wide = w;
           }
-      go (inr (d, p, e)) = wide-not-spent e
+      go (inr (d, p, e)) = wide-not-exhausted e
 
-  spent-part : At drawsExhausted → SpentPart N i cutoff words
-  spent-part f = go (f .there)
+  exhausted-part : At drawsExhausted → ExhaustedPart N i cutoff words
+  exhausted-part f = go (f .there)
     where
-      go : Refused N (imbalance i) cutoff drawsExhausted (f .end) (f .onto) (f .rest) → SpentPart N i cutoff words
-      go (inl (s, w)) = wide-not-spent (refuses-from N (f .onto) (leavesOf (f .end)) .only drawsExhausted w)
+      go : Refused N (imbalance i) cutoff drawsExhausted (f .end) (f .onto) (f .rest) → ExhaustedPart N i cutoff words
+      go (inl (s, w)) = wide-not-exhausted (refuses-from N (f .onto) (leavesOf (f .end)) .only drawsExhausted w)
       go (inr (d, p, e)) =
           record {
             part = f .end;
@@ -270,7 +270,7 @@ module _ (N : Network) (i cutoff : ℕ) (words : List ℕ) where
             rest = f .rest;
             met = met drawsExhausted f (omega (arith, p .many));
             d = d;
-            spent = p;
+            exhausted = p;
           }
 
 -- LAW B8
@@ -283,10 +283,10 @@ wide-by-greedy N i cutoff words =
     }
 
 -- LAW B9
-pub spent-by-draws : SpentByDraws
-spent-by-draws N i cutoff words =
+pub exhausted-by-draws : ExhaustedByDraws
+exhausted-by-draws N i cutoff words =
     record {
-      because = λ e. spent-part N i cutoff words (from-refused N i cutoff words drawsExhausted e);
+      because = λ e. exhausted-part N i cutoff words (from-refused N i cutoff words drawsExhausted e);
       whenever = λ part onto rest d m p. to-refused N i cutoff words drawsExhausted part onto rest m
-          (spent-refused N (imbalance i) cutoff part onto rest d p);
+          (exhausted-refused N (imbalance i) cutoff part onto rest d p);
     }

@@ -42,7 +42,7 @@ drawn-held A =
 
 -- some of the words l are taken, or a draw was due and none was left
 abbrev pub Past : List ℕ → Words → Type 0
-Past l ws = ws .spent ≡ false → length (ws .left) < length l
+Past l ws = ws .exhausted ≡ false → length (ws .left) < length l
 
 module _ {T : Type 0} (H : Held T) where
   -- Two runs, one with r and the other with m after the words that both may take: both are where r and m are whole, and alike but for
@@ -73,7 +73,7 @@ module _ {T : Type 0} (H : Held T) where
       go t e (inl (q, u, x, y)) =
           let z : q ≡ [] = none-more q (sym (H .get-put (lentWords (q ++ [])) u) ∙ sym (ap (H .get) x) ∙ e) in
           y ∙ ap (λ (l : List ℕ). H .put (lentWords (l ++ m)) u) z ∙ sym (H .put-put (lentWords m) (lentWords (q ++ [])) u) ∙ sym (ap (H .put (lentWords m)) x)
-      go t e (inr (k, k′)) = absurd (let z : length (H .get t .left) < 0 = k (ap (λ (ws : Words). ws .spent) e) in omega arith)
+      go t e (inr (k, k′)) = absurd (let z : length (H .get t .left) < 0 = k (ap (λ (ws : Words). ws .exhausted) e) in omega arith)
 
   -- nothing is drawn
   pub still : {c : Words → T} → ((ws ws′ : Words) → c ws ≡ H .put ws (c ws′)) → Goes c
@@ -153,7 +153,7 @@ pub drawing : {T : Type 0} (H : Held T) {c : Words → T}
     → ((ws ws′ : Words) → draw ws .value ≡ draw ws′ .value → c ws ≡ H .put (draw ws .words) (c ws′)) → Goes H c
 drawing H {c} e =
     record {
-      past = λ l ws h. rw (ap (H .get) (e ws ws refl), H .get-put) (draw-past l (ws .left) (ws .spent) (λ k. omega (arith, h k)));
+      past = λ l ws h. rw (ap (H .get) (e ws ws refl), H .get-put) (draw-past l (ws .left) (ws .exhausted) (λ k. omega (arith, h k)));
       step = go;
       ends = λ s. let ws : Words = lentWords (s 0 ∷ []) in (1, ap (H .get) (e ws ws refl) ∙ H .get-put (lentWords []) (c ws));
     }

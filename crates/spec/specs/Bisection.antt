@@ -200,7 +200,7 @@ module _ (N : Network) (eps : Float) (cutoff : ℕ) where
       let whole = smallEnd leaves a (d .words) in
       let parts = halves go left right a (d .words) in
       let answer = cond (eqb (length left) 0 || eqb (length right) 0) whole parts in
-      cond (d .words .spent) (refused drawsExhausted) answer
+      cond (d .words .exhausted) (refused drawsExhausted) answer
 
   -- "any whole cutoff, read as at least 2"
   abbrev pub bisectRec : ℕ → List ℕ → List Pair → Words → Result Halved

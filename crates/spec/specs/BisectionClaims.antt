@@ -34,23 +34,23 @@ FuelEnough = (N : Network) (eps : Float) (cutoff fuel : ℕ) (leaves : List ℕ)
     → bisectRec N eps cutoff fuel leaves a ws ≡ bisectRec N eps cutoff (length leaves) leaves a ws
 
 -- LAW B4. Bisection refuses by nothing but 12 and 13.
-abbrev pub OnlyWideOrSpent : Type 0
-OnlyWideOrSpent = (N : Network) (i cutoff : ℕ) (words : List ℕ) (r : Refusal) → bisection N i cutoff words ≡ refused r
+abbrev pub OnlyWideOrExhausted : Type 0
+OnlyWideOrExhausted = (N : Network) (i cutoff : ℕ) (words : List ℕ) (r : Refusal) → bisection N i cutoff words ≡ refused r
     → (r ≡ tableTooWide) ⊎ (r ≡ drawsExhausted)
 
--- LAW B5. "with no refusal, words past those taken do not matter"
+-- LAW B5. Where nothing is refused, words past those taken do not matter.
 abbrev pub TakenDecide : Type 0
 TakenDecide = (N : Network) (i cutoff : ℕ) (words : List ℕ) (b : Bisected) → bisection N i cutoff words ≡ done b
     → (b .taken ≤ length words) × ((more : List ℕ) → bisection N i cutoff (take (b .taken) words ++ more) ≡ done b)
 
 -- LAW B6. 13 comes with fewer words than are taken: with any fewer, and if more words bring an answer then with these alone. (Where in the run: LAW B9,
--- `SpentByDraws` of EndClaims.)
-abbrev pub SpentShort : Type 0
-SpentShort = (N : Network) (i cutoff : ℕ) (words : List ℕ) (b : Bisected) (k : ℕ) → bisection N i cutoff words ≡ done b → k < b .taken
+-- `ExhaustedByDraws` of EndClaims.)
+abbrev pub ExhaustedShort : Type 0
+ExhaustedShort = (N : Network) (i cutoff : ℕ) (words : List ℕ) (b : Bisected) (k : ℕ) → bisection N i cutoff words ≡ done b → k < b .taken
     → bisection N i cutoff (take k words) ≡ refused drawsExhausted
 
-abbrev pub SpentJust : Type 0
-SpentJust = (N : Network) (i cutoff : ℕ) (words more : List ℕ) (b : Bisected) → bisection N i cutoff words ≡ refused drawsExhausted
+abbrev pub ExhaustedJust : Type 0
+ExhaustedJust = (N : Network) (i cutoff : ℕ) (words more : List ℕ) (b : Bisected) → bisection N i cutoff words ≡ refused drawsExhausted
     → bisection N i cutoff (words ++ more) ≡ done b → length words < b .taken
 
 -- And words suffice: of any row without end, some first ones are not refused 13.

@@ -57,7 +57,7 @@ LaidOut =
     (m n o : ℕ) (weights counts cells outputs : List ℕ)
     → Holds m n o weights counts cells outputs (networkOf m n o weights counts cells outputs)
 
--- "Array places of a record past its counts are no part of the network": a network that is what the lists hold is theirs, so lists that
+-- Places of a record's arrays past its counts are no part of the network: a network that is what the lists hold is theirs, so lists that
 -- agree within the counts have one network
 abbrev pub OneNetwork : Type 0
 OneNetwork =

@@ -20,10 +20,10 @@ indexOf w n = w % n
 -- run is refused, whatever it does with that.
 pub record Words : Type 0 where
   pub left : List ℕ
-  pub spent : Bool
+  pub exhausted : Bool
 
 abbrev pub lentWords : List ℕ → Words
-lentWords l = record { left = l; spent = false }
+lentWords l = record { left = l; exhausted = false }
 
 -- a value that was made with draws, and the words after them
 pub record Drawn (A : Type 0) : Type 0 where
@@ -34,12 +34,12 @@ abbrev pub drawn : {A : Type 0} → A → Words → Drawn A
 drawn x ws = record { value = x; words = ws }
 
 abbrev pub drawFrom : List ℕ → Bool → Drawn ℕ
-drawFrom [] s = drawn 0 (record { left = []; spent = true })
-drawFrom (w ∷ l) s = drawn w (record { left = l; spent = s })
+drawFrom [] s = drawn 0 (record { left = []; exhausted = true })
+drawFrom (w ∷ l) s = drawn w (record { left = l; exhausted = s })
 
 -- the next word
 abbrev pub draw : Words → Drawn ℕ
-draw ws = drawFrom (ws .left) (ws .spent)
+draw ws = drawFrom (ws .left) (ws .exhausted)
 
 abbrev pub unitDraw : Words → Drawn Float
 unitDraw ws = drawn (unitOf (draw ws .value)) (draw ws .words)

@@ -56,10 +56,10 @@ EndsFrom = (N : Network) (a : List Pair) (ts : List Tree) (b : Built) → greedy
 -- ---- where bisection is refused ----
 
 -- some leaves are more than the cutoff, so a partition of them is drawn; is a draw due past the words' end
-pub record Partitioned (N : Network) (eps : Float) (cutoff : ℕ) (leaves : List ℕ) (ws : Words) (d : Drawn (List ℕ)) (spent : Bool) : Type 0 where
+pub record Partitioned (N : Network) (eps : Float) (cutoff : ℕ) (leaves : List ℕ) (ws : Words) (d : Drawn (List ℕ)) (exhausted : Bool) : Type 0 where
   pub many : max cutoff 2 < length leaves
   pub parts : bisect (hypergraphOf N leaves) eps ws ≡ d
-  pub words : d .words .spent ≡ spent
+  pub words : d .words .exhausted ≡ exhausted
 
 -- neither half is empty
 pub record TwoHalves (leaves part : List ℕ) : Type 0 where
@@ -91,7 +91,7 @@ pub record Met (N : Network) (i cutoff : ℕ) (words end : List ℕ) (onto : Lis
   pub leaves : All (λ v. v < leafCount N) end
   pub once : (v : ℕ) → count v end ≤ 1
 
--- LAW B8. "12 as greedy meets it": bisection is refused 12 just if it comes to a small end that greedy refuses by 12.
+-- LAW B8. 12 comes of greedy alone: bisection is refused 12 just if it comes to a small end that greedy refuses by 12.
 pub record WideEnd (N : Network) (i cutoff : ℕ) (words : List ℕ) : Type 0 where
   pub end : List ℕ
   pub onto : List Pair
@@ -109,20 +109,20 @@ pub record WideAtEnd (N : Network) (i cutoff : ℕ) (words : List ℕ) : Type 0 
 abbrev pub WideByGreedy : Type 0
 WideByGreedy = (N : Network) (i cutoff : ℕ) (words : List ℕ) → WideAtEnd N i cutoff words
 
--- LAW B9. "13 exactly if a draw is due past the list's end": just if it comes to leaves in whose partition one is.
-pub record SpentPart (N : Network) (i cutoff : ℕ) (words : List ℕ) : Type 0 where
+-- LAW B9. 13 comes of draws alone: just if it comes to leaves in whose partition one is.
+pub record ExhaustedPart (N : Network) (i cutoff : ℕ) (words : List ℕ) : Type 0 where
   pub part : List ℕ
   pub onto : List Pair
   pub rest : Words
   pub met : Met N i cutoff words part onto rest
   pub d : Drawn (List ℕ)
-  pub spent : Partitioned N (imbalance i) cutoff part rest d true
+  pub exhausted : Partitioned N (imbalance i) cutoff part rest d true
 
-pub record SpentAtDraw (N : Network) (i cutoff : ℕ) (words : List ℕ) : Type 0 where
-  pub because : bisection N i cutoff words ≡ refused drawsExhausted → SpentPart N i cutoff words
+pub record ExhaustedAtDraw (N : Network) (i cutoff : ℕ) (words : List ℕ) : Type 0 where
+  pub because : bisection N i cutoff words ≡ refused drawsExhausted → ExhaustedPart N i cutoff words
   pub whenever : (part : List ℕ) (onto : List Pair) (rest : Words) (d : Drawn (List ℕ))
       → Comes N (imbalance i) cutoff (range (leafCount N)) [] (lentWords words) part onto rest → Partitioned N (imbalance i) cutoff part rest d true
       → bisection N i cutoff words ≡ refused drawsExhausted
 
-abbrev pub SpentByDraws : Type 0
-SpentByDraws = (N : Network) (i cutoff : ℕ) (words : List ℕ) → SpentAtDraw N i cutoff words
+abbrev pub ExhaustedByDraws : Type 0
+ExhaustedByDraws = (N : Network) (i cutoff : ℕ) (words : List ℕ) → ExhaustedAtDraw N i cutoff words

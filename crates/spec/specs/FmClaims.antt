@@ -83,7 +83,7 @@ pub record HeapOf (n : ℕ) (moves : List ℕ) (q : Queue) (heap : List Entry) :
 abbrev pub Numbered : Entry → Type 0
 Numbered e = eq (e .key) (e .key) ≡ true
 
--- LAW B7. "the largest live entry is what the heap would give", whichever way the heap is kept.
+-- LAW B7. The largest live entry is what a heap would give, whichever way the heap is kept.
 abbrev pub HeapGives : Type 0
 HeapGives = (n : ℕ) (moves : List ℕ) (q : Queue) (heap : List Entry) (o : Option Entry) (rest : List Entry) → HeapOf n moves q heap
     → ((v : ℕ) → waits q v ≡ true → Numbered (entryOf q v)) → Gives moves q heap o rest → o ≡ largest n q

@@ -15,9 +15,9 @@ use Rattle.subset.specs.declared.Choice.{Choice}
 
 module _ (best : ℕ → ℕ) (work : ℕ → ℕ → ℕ) (n low rest : ℕ) where
   -- no choice costs more than the one before it
-  pub no-dearer : (sub : ℕ) (c d : Choice) → d ≡ considered best work low rest sub c → d .cost ≤ c .cost
+  pub no-costlier : (sub : ℕ) (c d : Choice) → d ≡ considered best work low rest sub c → d .cost ≤ c .cost
   unfolding considered
-  no-dearer sub c d e =
+  no-costlier sub c d e =
       let new : ℕ = best (sub + low) + best (rest - sub) + 2 ^ work (sub + low) (rest - sub) in
       by-cases (ltb new (c .cost))
       (λ q. let z : d .cost ≡ new = ap (λ (x : Choice). x .cost) (rw q at e) in omega (arith, ltb-true new (c .cost) q))
@@ -49,7 +49,7 @@ module _ (best : ℕ → ℕ) (work : ℕ → ℕ → ℕ) (n low rest : ℕ) wh
       go [] y e = absurd (h y)
       go (x ∷ l) y e =
           record {
-            below = omega (arith, w .below, no-dearer (bitAnd (sub - 1) rest) c d q);
+            below = omega (arith, w .below, no-costlier (bitAnd (sub - 1) rest) c d q);
             left = l;
             down = subst (λ s. Down rest (s ∷ l)) (y .1) (y .2);
             leads = ap (λ f. scanMasks best work low rest f l) q ∙ ap (λ s. scanMasks best work low rest (considered best work low rest s c) l) (sym (y .1)) ∙ e;

@@ -1,6 +1,6 @@
 -- Assumes nothing.
 use borrow.Author.Needs.{needs}
-use Rattle.bisection.specs.Answers.{answer-few-words, answer-few-places, answer-wide, answer-spent, answer-done}
+use Rattle.bisection.specs.Answers.{answer-few-words, answer-few-places, answer-wide, answer-exhausted, answer-done}
 use Rattle.network.specs.Layouts.{layout-leaf-count}
 use Rattle.spec.specs.Layout.{networkOf}
 use Rattle.spec.specs.Network.{leafCount}
@@ -70,7 +70,7 @@ returns-4 c = let d = c .before .before .before .before .before .before .before 
     let n : leafCount (networkOf (a .m) (a .n) (a .o) (a .weights .now) (a .counts .now) (a .legs .now) (a .outputs .now)) ≡ a .n = layout-leaf-count (a .m) (a .n) (a .o) (a .weights .now) (a .counts .now) (a .legs .now) (a .outputs .now) in
     let ran = c .before .before .before .before .before .before .before .before .before .before .before .bisect-all in
     let z = c .before .before .before .before .before .before .clear .ensures ∙ lent-cleared (a .ws .now) (ran .last .0) (stated .result) (stated .result) fit (ran .kept .0) refl ∙ ap (cleared (a .ws .now)) (stated .ensures) in
-    answer-spent (networkOf (a .m) (a .n) (a .o) (a .weights .now) (a .counts .now) (a .legs .now) (a .outputs .now)) (a .imbalance) (a .cutoff) (a .draws .now) (a .tree .now) (a .ws .now) (omega (arith, fit, stated .ensures))
+    answer-exhausted (networkOf (a .m) (a .n) (a .o) (a .weights .now) (a .counts .now) (a .legs .now) (a .outputs .now)) (a .imbalance) (a .cutoff) (a .draws .now) (a .tree .now) (a .ws .now) (omega (arith, fit, stated .ensures))
     (omega (arith, c .before .before .before .before .before .before .before .before .before .before .before .before .before .before .if2 .left, c .before .before .before .before .before .before .before .before .before .before .before .before .before .before .before .less .ensures, n)) _ z _ _ (ran .result .top) (ran .result .at) (ran .ensures) (c .if4 .taken)
 
 slice-aggregate-copy16 : tie.Need-slice-aggregate-copy16

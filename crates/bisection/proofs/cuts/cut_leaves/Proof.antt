@@ -1,5 +1,5 @@
 -- Assumes nothing.
-use Rattle.halving.specs.Cuts.{cut-spent, cut-left, cut-some}
+use Rattle.halving.specs.Cuts.{cut-exhausted, cut-left, cut-some}
 use Rattle.halves.specs.Picks.{few-left}
 use Prim.Native.Nat.{_≤_}
 use lib.Seq.{length-take-le}
@@ -12,8 +12,8 @@ use Rattle.bisection.proofs.cuts.cut_leaves.Tie as tie
 partition-of-requires : tie.Need-partition-of-requires
 partition-of-requires c κs = let d = c .before .before .before .before .before .before .before .before .before in let p = d .pre in (p .0, p .1, p .2, p .3, p .4, omega arith)
 
-is-spent-requires : tie.Need-is-spent-requires
-is-spent-requires c κs = tt
+is-exhausted-requires : tie.Need-is-exhausted-requires
+is-exhausted-requires c κs = tt
 
 same-length : tie.Need-same-length
 same-length c = refl
@@ -22,7 +22,7 @@ same-length-2 : tie.Need-same-length-2
 same-length-2 c = c .before .before .before .before .ws .given
 
 returns : tie.Need-returns
-returns c = let d = c .before .before .before .before .before .before .before .before .before .before .before .before .before .before .before in let a = d .args in (omega (arith, d .pre .1), λ N s. cut-spent N (a .leaves .now) (a .eps) (a .draws .now) (a .at) _ (c .before .before .before .before .before .partition-of .result) (c .before .before .before .before .before .partition-of .ensures N s) (c .before .is-spent .result) (c .before .is-spent .ensures) (c .if1 .taken))
+returns c = let d = c .before .before .before .before .before .before .before .before .before .before .before .before .before .before .before in let a = d .args in (omega (arith, d .pre .1), λ N s. cut-exhausted N (a .leaves .now) (a .eps) (a .draws .now) (a .at) _ (c .before .before .before .before .before .partition-of .result) (c .before .before .before .before .before .partition-of .ensures N s) (c .before .is-exhausted .result) (c .before .is-exhausted .ensures) (c .if1 .taken))
 
 same-length-3 : tie.Need-same-length-3
 same-length-3 c = c .before .before .before .leaves .given
@@ -31,7 +31,7 @@ same-length-4 : tie.Need-same-length-4
 same-length-4 c = c .before .before .before .before .before .before .before .before .before .before .before .before .ws .given
 
 returns-2 : tie.Need-returns-2
-returns-2 c = let d = c .before .before .before .before .before .before .before .before .before .before .before .before .before .before .before .before .before .before .before .before .before .before .before in let a = d .args in (omega (arith, d .pre .1), λ N s. cut-left N (a .leaves .now) (a .eps) (a .draws .now) (a .at) _ (c .before .before .before .before .before .before .before .before .before .before .before .before .before .partition-of .result) (c .before .before .before .before .before .before .before .before .before .before .before .before .before .partition-of .ensures N s) (c .before .before .before .before .before .before .before .before .before .is-spent .result) (c .before .before .before .before .before .before .before .before .before .is-spent .ensures) (c .before .before .before .before .before .before .before .before .if1 .left) _ (c .before .before .before .before .halve .result) (c .before .before .before .before .halve .ensures) (c .if2 .taken))
+returns-2 c = let d = c .before .before .before .before .before .before .before .before .before .before .before .before .before .before .before .before .before .before .before .before .before .before .before in let a = d .args in (omega (arith, d .pre .1), λ N s. cut-left N (a .leaves .now) (a .eps) (a .draws .now) (a .at) _ (c .before .before .before .before .before .before .before .before .before .before .before .before .before .partition-of .result) (c .before .before .before .before .before .before .before .before .before .before .before .before .before .partition-of .ensures N s) (c .before .before .before .before .before .before .before .before .before .is-exhausted .result) (c .before .before .before .before .before .before .before .before .before .is-exhausted .ensures) (c .before .before .before .before .before .before .before .before .if1 .left) _ (c .before .before .before .before .halve .result) (c .before .before .before .before .halve .ensures) (c .if2 .taken))
 
 same-length-5 : tie.Need-same-length-5
 same-length-5 c = c .before .before .before .leaves .given
@@ -40,7 +40,7 @@ same-length-6 : tie.Need-same-length-6
 same-length-6 c = c .before .before .before .before .before .before .before .before .before .before .before .before .ws .given
 
 returns-3 : tie.Need-returns-3
-returns-3 c = let d = c .before .before .before .before .before .before .before .before .before .before .before .before .before .before .before .before .before .before .before .before .before .before .before in let a = d .args in (let z : c .before .before .before .before .halve .result ≤ length (a .leaves .now) = few-left (take (length (a .leaves .now)) (c .before .before .before .before .before .before .before .before .before .before .before .before .before .partition-of .last .1 .1 .1 .1 .1 .1 .1 .1 .0)) (a .leaves .now) (a .leaves .now) _ refl (c .before .before .before .before .halve .ensures .0) in omega (arith, z, c .if2 .left), λ N s. cut-some N (a .leaves .now) (a .eps) (a .draws .now) (a .at) _ (c .before .before .before .before .before .before .before .before .before .before .before .before .before .partition-of .result) (c .before .before .before .before .before .before .before .before .before .before .before .before .before .partition-of .ensures N s) (c .before .before .before .before .before .before .before .before .before .is-spent .result) (c .before .before .before .before .before .before .before .before .before .is-spent .ensures) (c .before .before .before .before .before .before .before .before .if1 .left) _ (c .before .before .before .before .halve .result) (c .before .before .before .before .halve .ensures) (c .if2 .left))
+returns-3 c = let d = c .before .before .before .before .before .before .before .before .before .before .before .before .before .before .before .before .before .before .before .before .before .before .before in let a = d .args in (let z : c .before .before .before .before .halve .result ≤ length (a .leaves .now) = few-left (take (length (a .leaves .now)) (c .before .before .before .before .before .before .before .before .before .before .before .before .before .partition-of .last .1 .1 .1 .1 .1 .1 .1 .1 .0)) (a .leaves .now) (a .leaves .now) _ refl (c .before .before .before .before .halve .ensures .0) in omega (arith, z, c .if2 .left), λ N s. cut-some N (a .leaves .now) (a .eps) (a .draws .now) (a .at) _ (c .before .before .before .before .before .before .before .before .before .before .before .before .before .partition-of .result) (c .before .before .before .before .before .before .before .before .before .before .before .before .before .partition-of .ensures N s) (c .before .before .before .before .before .before .before .before .before .is-exhausted .result) (c .before .before .before .before .before .before .before .before .before .is-exhausted .ensures) (c .before .before .before .before .before .before .before .before .if1 .left) _ (c .before .before .before .before .halve .result) (c .before .before .before .before .halve .ensures) (c .if2 .left))
 
 halve-requires : tie.Need-halve-requires
 halve-requires c κs = let d = c .before .before .before .before .before .before .before .before .before .before .before .before .before .before .before .before .before .before in (omega (arith, d .pre .2), omega (arith, d .pre .2))
@@ -63,7 +63,7 @@ cut-leaves-spec =
     (tie.spec
     slice-aggregate-partition-of
     partition-of-requires
-    is-spent-requires
+    is-exhausted-requires
     same-length
     same-length-2
     returns
