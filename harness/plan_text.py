@@ -1,7 +1,7 @@
-"""The program `plan`, as document 01 says: from a network file's bytes to the text that it prints."""
+"""The program `plan`, as document 01 says: from a network file's bytes to the text that it prints; and the line of a question on slicing."""
 from greedy_plan import greedy
 from improvement import improve
-from network_file import Refused, parse, refuse_if
+from network_file import INVALID_TREE, Refused, is_valid, parse, refuse_if
 from price_list import Network, members, price
 from slicing import slice_tree
 
@@ -19,7 +19,7 @@ def planned(contents):
     if contents.target is None:
         return improved.children, flags, improved.rebuilt, improved.tried
     refuse_if(price(Network(contents), improved.children).beyond(), TOTAL_BEYOND)
-    sliced = slice_tree(contents, improved.children, contents.target)
+    sliced = slice_tree(contents, improved.children, contents.target, True)
     return sliced.children, sliced.flags, improved.rebuilt + sliced.rebuilt, improved.tried + sliced.tried
 
 
@@ -44,3 +44,22 @@ def plan_text(data):
     except Refused as refused:
         lines = [f"refused {refused.number}"]
     return "".join(line + "\n" for line in lines)
+
+
+def sliced(contents, children, improving, target):
+    """Slicing by itself, its refusals first; raises Refused."""
+    refuse_if(not is_valid(len(contents.leaves), children), INVALID_TREE)
+    network = Network(contents)
+    refuse_if(price(network, children).beyond(), TOTAL_BEYOND)
+    refuse_if(improving and network.dangling(), DANGLING_INDEX)
+    return slice_tree(contents, children, target, improving)
+
+
+def slice_line(question):
+    try:
+        answer = sliced(question.contents, question.children, question.improving, question.target)
+    except Refused as refused:
+        return f"refused {refused.number}\n"
+    flagged = [index for index, flag in enumerate(answer.flags) if flag]
+    words = ["sliced", answer.rebuilt, answer.tried, *answer.children, "flags", *flagged]
+    return " ".join(str(word) for word in words) + "\n"

@@ -1,4 +1,4 @@
-"""Slicing to a target with improvement, as document 01 says: index after index is flagged, and a pass of improvement follows each choice."""
+"""Slicing to a target, as document 01 says: index after index is flagged; with improvement on, a pass of it follows each choice."""
 from dataclasses import dataclass
 
 from improvement import improve
@@ -35,7 +35,8 @@ def rank(network, children, prices, target, index):
     return cost, -touched, index
 
 
-def slice_tree(contents, children, target):
+def slice_tree(contents, children, target, improving):
+    """A valid tree whose total is not beyond, sliced."""
     done = Sliced(list(children), [0] * len(contents.weights), 0, 0)
     while True:
         network = Network(contents, done.flags)
@@ -46,9 +47,15 @@ def slice_tree(contents, children, target):
         if not found:
             return done
         done.flags[min(rank(network, done.children, prices, target, index) for index in found)[2]] = 1
-        network = Network(contents, done.flags)
-        limit = max(price(network, done.children).widest, target)
-        improved = improve(network, done.children, 8, 1, limit)
-        done.children = improved.children
-        done.rebuilt += improved.rebuilt
-        done.tried += improved.tried
+        if improving:
+            improve_once(contents, done, target)
+
+
+def improve_once(contents, done, target):
+    """One pass with k = 8 that makes no table wider than the widest is, or than the target."""
+    network = Network(contents, done.flags)
+    limit = max(price(network, done.children).widest, target)
+    improved = improve(network, done.children, 8, 1, limit)
+    done.children = improved.children
+    done.rebuilt += improved.rebuilt
+    done.tried += improved.tried

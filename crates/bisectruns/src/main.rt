@@ -3,7 +3,6 @@
 ghost use Prim.Native.Nat.{_≤_};
 ghost use lib.ListN.{length};
 use bisection::Bisected;
-use netfile::Answer;
 use network::Network;
 
 // The plan of a network and the words that it took, or the number of the refusal.
@@ -19,28 +18,13 @@ fn plan(network: Network, asked: usize, draws: &[u64]) {
         &mut ws,
     );
     match bisected {
-        Bisected::Refused(refusal) => stored::number(b"refused ", refusal as u64),
+        Bisected::Refused(refusal) => stored::refused(refusal),
         Bisected::Done(taken) => {
             stored::number(b"taken ", taken as u64);
             stored::numbers(&tree, cells::less(network.leaf_count % 256, 1) * 2);
         }
     }
-}
-
-// Reads so many bytes from standard input as a network file, and plans its network.
-fn run(bytes: &mut [u8], count: usize, asked: usize, draws: &[u64]) {
-    let mut tree = [0u16; 254];
-    let mut flags = [0u8; 256];
-    let reading = stored::read(bytes, count, &mut tree, &mut flags);
-    let answer = reading.answer;
-    match answer {
-        Answer::Refused(refusal) => stored::number(b"file refused ", refusal as u64),
-        Answer::Done(_) => {
-            let network = reading.network;
-            plan(network, asked, draws);
-        }
-    }
-    io::write_all(1, b"\n");
+    stored::end_line();
 }
 
 // Eight bytes of standard input, high byte first.
@@ -59,26 +43,21 @@ fn put_words(words: &mut [u64], count: usize, step: u64) {
     }
 }
 
-// The words that the case says, and the network file after them.
-fn with_words(words: &mut [u64], bytes: &mut [u8], asked: usize) {
+// The words that the case says, and the network after them.
+fn with_words(words: &mut [u64], asked: usize) {
     let count = cells::min(stored::next_number(), words.len());
     put_words(words, count, next_word());
-    run(bytes, stored::next_number(), asked, &words[..count]);
+    plan(stored::next_network(), asked, &words[..count]);
 }
 
 fn next_case() {
     let mut words = [0u64; 65536];
-    let mut bytes = [0u8; 131072];
     let asked = stored::next_number();
-    with_words(&mut words, &mut bytes, asked);
-}
-
-fn all_cases(count: usize) {
-    for _ in 0..count {
-        next_case();
-    }
+    with_words(&mut words, asked);
 }
 
 fn main() {
-    all_cases(stored::next_number());
+    for _ in 0..stored::next_number() {
+        next_case();
+    }
 }

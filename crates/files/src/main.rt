@@ -14,47 +14,46 @@ fn tell(file: &[u8], reading: Reading, tree: &[u16], flags: &[u8]) {
     let sum = sums::of(network, tree, flags);
     let answer = reading.answer;
     match answer {
-        Answer::Refused(number) => say::refused(number, sum),
+        Answer::Refused(number) => {
+            stored::refused(number);
+            stored::number(b" sum ", sum);
+        }
         Answer::Done(found) => {
-            say::read(network, found, sum);
+            say::read(network, found);
+            stored::number(b" sum ", sum);
             back::write(file, network, found, tree, flags);
         }
     }
 }
 
-// One case: the lists are lent as long as the case says, and hold marks before.
+// Reads the file into lists that hold marks, and tells what was read.
 fn run(file: &[u8], tree: &mut [u16], flags: &mut [u8]) {
-    sums::mark16(tree);
-    sums::mark8(flags);
     let reading = netfile::read(file, tree, flags);
     tell(file, reading, tree, flags);
-    io::write_all(1, b"\n");
 }
 
 // Lends as many places of the lists as the case says.
 fn lend(file: &[u8], tree_places: usize, flag_places: usize) {
     let mut tree = [0u16; 300];
     let mut flags = [0u8; 300];
+    sums::mark16(&mut tree);
+    sums::mark8(&mut flags);
     let t = min(tree_places, 300);
     let f = min(flag_places, 300);
     run(file, &mut tree[..t], &mut flags[..f]);
 }
 
-// One case of the input.
 fn next_case() {
     let places = stored::next_number();
     let length = stored::next_number();
     let mut bytes = [0u8; 131072];
     let n = stored::take(&mut bytes, length);
     lend(&bytes[..n], places / 65536, places % 65536);
-}
-
-fn all_cases(count: usize) {
-    for _ in 0..count {
-        next_case();
-    }
+    stored::end_line();
 }
 
 fn main() {
-    all_cases(stored::next_number());
+    for _ in 0..stored::next_number() {
+        next_case();
+    }
 }

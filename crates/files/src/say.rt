@@ -4,11 +4,7 @@ use netfile::Found;
 use netfile::Tree;
 use network::Network;
 use stored::number;
-
-pub fn refused(code: u8, sum: u64) {
-    number(b"refused ", code as u64);
-    number(b" sum ", sum);
-}
+use stored::spaced;
 
 fn tree_places(tree: Tree) {
     match tree {
@@ -36,13 +32,12 @@ fn asked(ask: Ask) {
     }
 }
 
-pub fn read(network: Network, found: Found, sum: u64) {
+pub fn read(network: Network, found: Found) {
     number(b"read ", network.leaf_count as u64);
-    number(b" ", network.index_count as u64);
-    number(b" ", network.output_count as u64);
+    spaced(network.index_count as u64);
+    spaced(network.output_count as u64);
     let tree = found.tree;
     let ask = found.ask;
     tree_places(tree);
     asked(ask);
-    number(b" sum ", sum);
 }

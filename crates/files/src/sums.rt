@@ -1,15 +1,12 @@
 // Marks in lists, and sums over all that was read.
 use cells::at8;
-use cells::at16;
 use cells::min;
 use cells::put8;
 use cells::put16;
 use network::Network;
-
-// The sum with one number more.
-fn with(sum: u64, x: usize) -> u64 {
-    ((sum % 4294967296) * 65599 + (x as u64 % 4294967296) + 1) % 4294967296
-}
+use stored::sums::with;
+use stored::sums::with8;
+use stored::sums::with16;
 
 // Place i holds 50000 + i mod 1000.
 pub fn mark16(list: &mut [u16]) {
@@ -29,23 +26,6 @@ pub fn mark(i: usize) -> u8 {
     (100 + i % 100) as u8
 }
 
-// The sum with the first `count` places of a list.
-fn with8(sum: u64, bytes: &[u8], count: usize) -> u64 {
-    let mut s = sum;
-    for i in 0..count {
-        s = with(s, at8(bytes, i));
-    }
-    s
-}
-
-fn with16(sum: u64, list: &[u16], count: usize) -> u64 {
-    let mut s = sum;
-    for i in 0..count {
-        s = with(s, at16(list, i));
-    }
-    s
-}
-
 // The sum with the count and the indices of leaf i.
 fn with_leaf<'a>(sum: u64, leg_counts: &'a [u8], legs: &'a [u16], i: usize) -> u64 {
     let n = at8(leg_counts, i);
@@ -62,16 +42,12 @@ fn with_leaves<'a>(sum: u64, leg_counts: &'a [u8], legs: &'a [u16], count: usize
 }
 
 pub fn of(network: Network, tree: &[u16], flags: &[u8]) -> u64 {
-    let weights = network.weights;
-    let leg_counts = network.leg_counts;
-    let legs = network.legs;
-    let outputs = network.outputs;
-    let counts = with(
-        with(with(0, network.leaf_count), network.index_count),
-        network.output_count,
-    );
-    let weighed = with8(counts, &weights, network.index_count);
-    let leaves = with_leaves(weighed, &leg_counts, &legs, network.leaf_count);
-    let whole = with16(leaves, &outputs, network.output_count);
+    let leaves = network.leaf_count;
+    let indices = network.index_count;
+    let outputs = network.output_count;
+    let counts = with(with(with(0, leaves), indices), outputs);
+    let weighed = with8(counts, &network.weights, indices);
+    let listed = with_leaves(weighed, &network.leg_counts, &network.legs, leaves);
+    let whole = with16(listed, &network.outputs, outputs);
     with8(with16(whole, tree, tree.len()), flags, flags.len())
 }

@@ -1,3 +1,2 @@
--- Pricing for a C host: from what the reader answers, and what is handed out. Assumes nothing.
-pub mod Reading
+-- Pricing for a C host: what is handed out. Assumes nothing.
 pub mod Sound

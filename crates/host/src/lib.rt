@@ -2,12 +2,10 @@
 // of it improved, a tree of it sliced.
 ghost use mathlib.Core.Path.{_≡_};
 ghost use Prim.Native.Nat.{_≤_};
-ghost use lib.ListN.{length, take};
+ghost use lib.ListN.{length};
 ghost use Rattle.spec.specs.Memory.{over};
-ghost use Rattle.spec.specs.Host.{listingCall, hostCall, Answered, lentNetwork, limitNumber, improvingNumber};
+ghost use Rattle.spec.specs.Host.{hostCall, Answered, lentNetwork, limitNumber, improvingNumber};
 ghost use Rattle.spec.specs.Output.{planBytes};
-ghost use Rattle.network.specs.Record.{netOf};
-ghost use Rattle.netfile.specs.Answers.{placesOf, flagCount};
 ghost use Rattle.host.specs.Sound.{HandsOut};
 ghost use Rattle.memory.specs.Promise.{MemoryCost};
 ghost use Rattle.memoryplans.specs.Plan.{MemoryGreedy};
@@ -15,38 +13,6 @@ ghost use Rattle.memorybisection.specs.Promise.{MemoryBisects};
 ghost use Rattle.memoryreconf.specs.Promise.{MemoryReconfigures};
 ghost use Rattle.memoryslice.specs.Promise.{MemorySlices};
 ghost use Rattle.planning.specs.Output.{Prints};
-use netfile::Answer;
-use netfile::Found;
-use network::Network;
-
-// Lists a network with the tree and the flags that were found.
-fn price_found(network: Network, found: Found, tree: &[u16], flags: &[u8], out: &mut [u8]) -> u8
-    requires { ⌜ (network .«leaf_count» ≤ 128) × (placesOf (found .tree) ≤ length (now tree)) × (flagCount (found .ask) ≤ length (now flags)) ⌝ }
-    ensures { λ r. ⌜ Answered (listingCall (length (now (out .entry))) (netOf network) (take (flagCount (found .ask)) (now (flags .entry))) (take (placesOf (found .tree)) (now (tree .entry)))) r (now (out .entry)) (now (out .exit)) ⌝ }
-{
-    let found_tree = found.tree;
-    let found_ask = found.ask;
-    let places = netfile::tree_places(found_tree);
-    let count = netfile::flag_count(found_ask);
-    listing::list(network, &flags[..count], &tree[..places], out)
-}
-
-// Reads the file, and lists its network with its own tree and flags.
-pub fn price(file: &[u8], out: &mut [u8]) -> u8
-    ensures { λ r. ⌜ Answered (hostCall (length (now (out .entry))) (now (file .entry))) r (now (out .entry)) (now (out .exit)) ⌝ }
-{
-    let mut tree = [0u16; 254];
-    let mut flags = [0u8; 256];
-    let reading = netfile::read(file, &mut tree, &mut flags);
-    let answer = reading.answer;
-    match answer {
-        Answer::Refused(number) => number,
-        Answer::Done(found) => {
-            let network = reading.network;
-            price_found(network, found, &tree, &flags, out)
-        }
-    }
-}
 
 #[no_mangle]
 pub extern "C" fn loqshyber_price(file: &[u8], out: &mut [u8]) -> u32
@@ -55,7 +21,7 @@ pub extern "C" fn loqshyber_price(file: &[u8], out: &mut [u8]) -> u32
         × (r ≡ 0 → HandsOut (now (file .entry)) (now (out .entry)) (now (out .exit)))
         ⌝ }
 {
-    price(file, out) as u32
+    listing::price(file, out) as u32
 }
 
 #[no_mangle]

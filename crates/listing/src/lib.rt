@@ -1,10 +1,11 @@
-// The listing of a priced tree as bytes: a head, and ten bytes a step.
+// The listing of a priced tree as bytes: a head, and ten bytes a step; of a network in memory, and of a file.
 ghost use mathlib.Core.Path.{_≡_};
 ghost use Prim.Native.Nat.{_≤_, _*_};
 ghost use lib.ListN.{length, take};
 ghost use Rattle.spec.specs.Memory.{placed};
-ghost use Rattle.spec.specs.Host.{twoEach, headBytes, listingCall, Answered};
+ghost use Rattle.spec.specs.Host.{twoEach, headBytes, listingCall, hostCall, Answered};
 ghost use Rattle.network.specs.Record.{netOf};
+ghost use Rattle.netfile.specs.Answers.{placesOf, flagCount};
 ghost use Rattle.cost.specs.Back.{pricesFrom};
 ghost use Rattle.listing.specs.Listing.{FullRoom};
 
@@ -12,6 +13,8 @@ pub mod bytes; // bytes.rt: numbers as bytes, high byte first
 pub mod head; // head.rt: the listing's head
 
 use cost::Priced;
+use netfile::Answer;
+use netfile::Found;
 use network::Network;
 use network::refusal;
 use pricing::Prices;
@@ -76,4 +79,33 @@ pub fn list(network: Network, flags: &[u8], tree: &[u16], out: &mut [u8]) -> u8
         &mut steps,
         out,
     )
+}
+
+// Lists a network with the tree and the flags that were found.
+fn price_found(network: Network, found: Found, tree: &[u16], flags: &[u8], out: &mut [u8]) -> u8
+    requires { ⌜ (network .«leaf_count» ≤ 128) × (placesOf (found .tree) ≤ length (now tree)) × (flagCount (found .ask) ≤ length (now flags)) ⌝ }
+    ensures { λ r. ⌜ Answered (listingCall (length (now (out .entry))) (netOf network) (take (flagCount (found .ask)) (now (flags .entry))) (take (placesOf (found .tree)) (now (tree .entry)))) r (now (out .entry)) (now (out .exit)) ⌝ }
+{
+    let found_tree = found.tree;
+    let found_ask = found.ask;
+    let places = netfile::tree_places(found_tree);
+    let count = netfile::flag_count(found_ask);
+    list(network, &flags[..count], &tree[..places], out)
+}
+
+// Reads the file, and lists its network with its own tree and flags.
+pub fn price(file: &[u8], out: &mut [u8]) -> u8
+    ensures { λ r. ⌜ Answered (hostCall (length (now (out .entry))) (now (file .entry))) r (now (out .entry)) (now (out .exit)) ⌝ }
+{
+    let mut tree = [0u16; 254];
+    let mut flags = [0u8; 256];
+    let reading = netfile::read(file, &mut tree, &mut flags);
+    let answer = reading.answer;
+    match answer {
+        Answer::Refused(number) => number,
+        Answer::Done(found) => {
+            let network = reading.network;
+            price_found(network, found, &tree, &flags, out)
+        }
+    }
 }

@@ -1,4 +1,6 @@
-// Plans stored network files. The form of input and output is stated in harness/plan.py, which makes both.
+// Plans stored network files, then slices trees of stored networks. The form of input and output is stated in harness/plan.py, which makes both.
+mod slices;
+
 // Reads so many bytes from standard input as a network file, and writes what `plan` prints.
 fn run(bytes: &mut [u8], count: usize) {
     let mut out = [0u8; 131072];
@@ -24,4 +26,5 @@ fn all_cases(count: u64) {
 
 fn main() {
     all_cases(stored::next_number() as u64);
+    slices::answer_all(stored::next_number());
 }

@@ -1,13 +1,13 @@
-// Prices stored network files through the C host's function and writes a line for each, to be held to the Rust's answers.
+// Prices stored network files and writes a line for each, to be held to the Rust's answers.
 // The form of input and output is stated in harness/src/record.rs, which makes both.
-mod listing;
+mod words;
 
 // One case: the listing, or the number of the refusal.
 fn price(file: &[u8]) {
     let mut out = [0u8; 1286];
-    let refusal = host::loqshyber_price(file, &mut out);
+    let refusal = listing::price(file, &mut out);
     if refusal == 0 {
-        listing::write(&out);
+        words::write(&out);
     } else {
         stored::number(b"refused ", refusal as u64);
     }

@@ -17,23 +17,20 @@ next-word-requires c κs = search needs
 put-words-requires : tie.Need-put-words-requires
 put-words-requires c κs = search needs
 
-next-number-requires-2 : tie.Need-next-number-requires-2
-next-number-requires-2 c κs = search needs
+next-network-requires : tie.Need-next-network-requires
+next-network-requires c κs = search needs
 
-slice-reshare-prefix-run : tie.Need-slice-reshare-prefix-run
-slice-reshare-prefix-run c = search needs
+slice-reshare-prefix-plan : tie.Need-slice-reshare-prefix-plan
+slice-reshare-prefix-plan c = search needs
 
-slice-aggregate-run : tie.Need-slice-aggregate-run
-slice-aggregate-run c = simp length-take (omega arith)
+slice-aggregate-plan : tie.Need-slice-aggregate-plan
+slice-aggregate-plan c = simp length-take (omega arith)
 
-run-requires : tie.Need-run-requires
-run-requires c κs = search needs
+plan-requires : tie.Need-plan-requires
+plan-requires c κs = search needs
 
 same-length : tie.Need-same-length
 same-length c = search needs
-
-same-length-2 : tie.Need-same-length-2
-same-length-2 c = search needs
 
 returns : tie.Need-returns
 returns c = search needs
@@ -46,10 +43,9 @@ with-words-spec =
     min-requires
     next-word-requires
     put-words-requires
-    next-number-requires-2
-    slice-reshare-prefix-run
-    slice-aggregate-run
-    run-requires
+    next-network-requires
+    slice-reshare-prefix-plan
+    slice-aggregate-plan
+    plan-requires
     same-length
-    same-length-2
     returns)

@@ -5,6 +5,18 @@ use lib.ListN.{length-take}
 use Rattle.files.proofs.lend.Statement.{statement}
 use Rattle.files.proofs.lend.Tie as tie
 
+slice-aggregate-mark16 : tie.Need-slice-aggregate-mark16
+slice-aggregate-mark16 c = search needs
+
+mark16-requires : tie.Need-mark16-requires
+mark16-requires c κs = search needs
+
+slice-aggregate-mark8 : tie.Need-slice-aggregate-mark8
+slice-aggregate-mark8 c = search needs
+
+mark8-requires : tie.Need-mark8-requires
+mark8-requires c κs = search needs
+
 min-requires : tie.Need-min-requires
 min-requires c κs = search needs
 
@@ -33,6 +45,10 @@ pub lend-spec : {M : Type 1} → statement M
 lend-spec =
     tie.close
     (tie.spec
+    slice-aggregate-mark16
+    mark16-requires
+    slice-aggregate-mark8
+    mark8-requires
     min-requires
     min-requires-2
     array-borrow-prefix-tree

@@ -26,6 +26,9 @@ slice-aggregate-lend c = simp length-take (omega arith)
 lend-requires : tie.Need-lend-requires
 lend-requires c κs = search needs
 
+end-line-requires : tie.Need-end-line-requires
+end-line-requires c κs = search needs
+
 returns : tie.Need-returns
 returns c = search needs
 
@@ -40,4 +43,5 @@ next-case-spec =
     array-share-prefix-bytes
     slice-aggregate-lend
     lend-requires
+    end-line-requires
     returns)

@@ -5,25 +5,22 @@ use Rattle.stored.proofs.numbers.Statement.{statement}
 use Rattle.stored.proofs.numbers.Tie as tie
 
 abbrev Inv-loop : tie.InvT-loop
-Inv-loop list count i₀ t4 i = i ≤ count
+Inv-loop list count i₀ i = i ≤ count
 
 abbrev μ-loop : tie.MeasureT-loop
-μ-loop list count i₀ t4 i = count - i
+μ-loop list count i₀ i = count - i
 
 loop-holds : tie.Need-loop-holds Inv-loop μ-loop
 loop-holds c = search needs
 
-slice-aggregate-number : tie.Need-slice-aggregate-number Inv-loop μ-loop
-slice-aggregate-number c = search needs
-
 get16-requires : tie.Need-get16-requires Inv-loop μ-loop
 get16-requires c κs = search needs
 
-cast-number : tie.Need-cast-number Inv-loop μ-loop
-cast-number c = search needs
+cast-spaced : tie.Need-cast-spaced Inv-loop μ-loop
+cast-spaced c = search needs
 
-number-requires : tie.Need-number-requires Inv-loop μ-loop
-number-requires c κs = search needs
+spaced-requires : tie.Need-spaced-requires Inv-loop μ-loop
+spaced-requires c κs = search needs
 
 add-i : tie.Need-add-i Inv-loop μ-loop
 add-i c = search needs
@@ -44,10 +41,9 @@ numbers-spec =
     Inv-loop
     μ-loop
     loop-holds
-    slice-aggregate-number
     get16-requires
-    cast-number
-    number-requires
+    cast-spaced
+    spaced-requires
     add-i
     loop-less
     loop-again
