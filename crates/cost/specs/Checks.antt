@@ -21,7 +21,7 @@ use Rattle.spec.specs.Calls.{lent, plainWords, setWords, stepNumbers, wrongTree
 use Rattle.laws.specs.Booleans.{clash, or-none}
 use Rattle.laws.specs.Results.{not-done}
 use Rattle.cells.specs.Cells.{over-fits}
-use Rattle.network.specs.Checks.{Lent, Rows}
+use Rattle.network.specs.Checks.{Lent, Fitting, lent-fitting, Rows}
 use Rattle.network.specs.Codes.{Facts}
 use Rattle.nodesets.specs.Lists.{Ordered, ordered-steps}
 use Rattle.walk.specs.Wrong.{not-wrong}
@@ -185,24 +185,34 @@ module _ (N : Network) (flags kids sets₀ sizes₀ works₀ steps₀ : List ℕ
 
 -- ---- what pricing asks ----
 
-pub row-places : {m n o : ℕ} {weights counts rows outputs : List ℕ} → Lent weights counts rows outputs → Facts m n o weights counts rows outputs
+pub fitting-rows : {m n o : ℕ} {weights counts rows outputs : List ℕ} → Fitting m n o weights counts rows outputs → Facts m n o weights counts rows outputs
     → Rows n counts rows
-row-places l f = record { counted = omega (arith, l .countPlaces, f .fewLeaves); room = omega (arith, l .legPlaces, f .fewLeaves); few = f .fewLegs }
+fitting-rows l f = record { counted = l .countPlaces (f .fewLeaves); room = l .legPlaces (f .fewLeaves); few = f .fewLegs }
 
-pub priceable : {m n o : ℕ} {weights counts rows outputs kids order : List ℕ} → Lent weights counts rows outputs
+pub fitting-priceable : {m n o : ℕ} {weights counts rows outputs kids order : List ℕ} → Fitting m n o weights counts rows outputs
     → Facts m n o weights counts rows outputs → wrongTree n kids ≡ false → order ≡ stepOrder kids n
     → Priceable 4 m n o weights counts rows outputs kids order
-priceable {m} {n} {o} {weights} {counts} {rows} {outputs} {kids} {order} l f right e =
+fitting-priceable {m} {n} {o} {weights} {counts} {rows} {outputs} {kids} {order} l f right e =
     record {
       narrow = omega arith;
       fits = omega (arith, f .fewIndices);
       few = omega (arith, f .fewLeaves);
       few-outputs = omega (arith, f .fewOutputs);
-      weight-places = omega (arith, l .weightPlaces, f .fewIndices);
-      row-places = row-places l f;
+      weight-places = l .weightPlaces (f .fewIndices);
+      row-places = fitting-rows l f;
       accepted = f .accepted;
       ordered = record { is-valid = not-wrong n kids right; in-order = e };
     }
+
+-- the same of lists of a record's lengths
+pub row-places : {m n o : ℕ} {weights counts rows outputs : List ℕ} → Lent weights counts rows outputs → Facts m n o weights counts rows outputs
+    → Rows n counts rows
+row-places {m} {n} {o} l f = fitting-rows (lent-fitting m n o l) f
+
+pub priceable : {m n o : ℕ} {weights counts rows outputs kids order : List ℕ} → Lent weights counts rows outputs
+    → Facts m n o weights counts rows outputs → wrongTree n kids ≡ false → order ≡ stepOrder kids n
+    → Priceable 4 m n o weights counts rows outputs kids order
+priceable {m} {n} {o} l f right e = fitting-priceable (lent-fitting m n o l) f right e
 
 pub enough : {n words sets sizes works steps words′ : ℕ} {kids order : List ℕ} → n ≤ 128 → LongEnough n words sets sizes works steps → words′ ≡ words
     → Ordered n kids order → Room 4 n kids order words′ sets sizes works steps

@@ -5,7 +5,7 @@ ghost use lib.ListN.{length};
 ghost use Rattle.spec.specs.Layout.{networkOf};
 ghost use Rattle.spec.specs.Calls.{plainWords};
 ghost use Rattle.network.specs.Record.{netOf};
-ghost use Rattle.network.specs.Checks.{Lent};
+ghost use Rattle.network.specs.Checks.{Fitting};
 ghost use Rattle.network.specs.Codes.{Facts};
 ghost use Rattle.cost.specs.Answers.{tooFew, wrongFlags, restCall, Answered, TreeCost};
 ghost use Rattle.cost.specs.Checks.{LongEnough};
@@ -60,7 +60,7 @@ pub fn wrong_flags(m: usize, flags: &[u8]) -> bool
 }
 
 // The answer where the network is accepted and the lists are long enough. On a refusal only `ws` is written.
-fn priced_in<'a>(
+fn priced_in(
     ws: &mut [u64],
     sets: &mut [u64],
     sizes: &mut [u16],
@@ -69,14 +69,14 @@ fn priced_in<'a>(
     m: usize,
     n: usize,
     o: usize,
-    weights: &'a [u8],
-    counts: &'a [u8],
-    legs: &'a [u16],
-    outputs: &'a [u16],
+    weights: &[u8],
+    counts: &[u8],
+    legs: &[u16],
+    outputs: &[u16],
     flags: &[u8],
     tree: &[u16],
 ) -> Priced
-    requires { ⌜ Lent (now weights) (now counts) (now legs) (now outputs) × Facts m n o (now weights) (now counts) (now legs) (now outputs) × LongEnough n (length (now ws)) (length (now sets)) (length (now sizes)) (length (now works)) (length (now steps)) ⌝ }
+    requires { ⌜ Fitting m n o (now weights) (now counts) (now legs) (now outputs) × Facts m n o (now weights) (now counts) (now legs) (now outputs) × LongEnough n (length (now ws)) (length (now sets)) (length (now sizes)) (length (now works)) (length (now steps)) ⌝ }
     ensures { λ r. ⌜ Answered (networkOf m n o (now (weights .entry)) (now (counts .entry)) (now (legs .entry)) (now (outputs .entry))) (now (flags .entry)) (now (tree .entry)) (restCall (networkOf m n o (now (weights .entry)) (now (counts .entry)) (now (legs .entry)) (now (outputs .entry))) (now (flags .entry)) (now (tree .entry))) (now (sets .entry)) (now (sizes .entry)) (now (works .entry)) (now (steps .entry)) (now (sets .exit)) (now (sizes .exit)) (now (works .exit)) (now (steps .exit)) r ⌝ }
 {
     if !walk::is_tree(tree, n, ws) {
@@ -107,15 +107,15 @@ fn priced_in<'a>(
     ))
 }
 
-// The answer on lists that a record holds, the network's own check first.
-fn cost_of<'a>(
+// The answer on lists that are as long as their counts, the network's own check first.
+pub fn cost_of(
     m: usize,
     n: usize,
     o: usize,
-    weights: &'a [u8],
-    counts: &'a [u8],
-    legs: &'a [u16],
-    outputs: &'a [u16],
+    weights: &[u8],
+    counts: &[u8],
+    legs: &[u16],
+    outputs: &[u16],
     flags: &[u8],
     tree: &[u16],
     ws: &mut [u64],
@@ -124,10 +124,10 @@ fn cost_of<'a>(
     works: &mut [u16],
     steps: &mut [u16],
 ) -> Priced
-    requires { ⌜ Lent (now weights) (now counts) (now legs) (now outputs) ⌝ }
+    requires { ⌜ Fitting m n o (now weights) (now counts) (now legs) (now outputs) ⌝ }
     ensures { λ r. ⌜ TreeCost (networkOf m n o (now (weights .entry)) (now (counts .entry)) (now (legs .entry)) (now (outputs .entry))) (now (flags .entry)) (now (tree .entry)) (now (ws .entry)) (now (sets .entry)) (now (sizes .entry)) (now (works .entry)) (now (steps .entry)) (now (ws .exit)) (now (sets .exit)) (now (sizes .exit)) (now (works .exit)) (now (steps .exit)) r ⌝ }
 {
-    let k = checks::number(m, n, o, weights, counts, legs, outputs);
+    let k = checks::number_in(m, n, o, weights, counts, legs, outputs);
     if k != refusal::NONE {
         return Priced::Refused(k);
     }
@@ -178,14 +178,18 @@ pub fn tree_cost(
     let m = network.index_count;
     let n = network.leaf_count;
     let o = network.output_count;
+    let weights = network.weights;
+    let counts = network.leg_counts;
+    let legs = network.legs;
+    let outputs = network.outputs;
     cost_of(
         m,
         n,
         o,
-        &network.weights,
-        &network.leg_counts,
-        &network.legs,
-        &network.outputs,
+        &weights,
+        &counts,
+        &legs,
+        &outputs,
         flags,
         tree,
         ws,

@@ -17,7 +17,6 @@ fn enter_again(
     m: usize,
     n: usize,
     weights: &[u8],
-    list: &mut [u16],
     draws: &[u64],
     at: usize,
     keys: &mut [f64],
@@ -26,7 +25,7 @@ fn enter_again(
     locked: usize,
     u: usize,
 ) -> usize
-    requires { do ⌜ (u < n) × (256 ≤ (← ⟦list.len()⟧)) × (locked < 32768) × Placed (now words) (place nets vertices sides m n) × Stamped 4294967295 (now stamps) ⌝ }
+    requires { ⌜ (u < n) × (locked < 32768) × Placed (now words) (place nets vertices sides m n) × Stamped 4294967295 (now stamps) ⌝ }
     ensures { λ r. ⌜ Again (now (words .entry)) (place nets vertices sides m n) (now (weights .entry)) locked u (queueOf (now (keys .entry)) (now (stamps .entry)) (now (waiting .entry)) (wordsAt (now (draws .entry)) at)) (queueOf (now (keys .exit)) (now (stamps .exit)) (now (waiting .exit)) (wordsAt (now (draws .entry)) r)) ⌝ }
 {
     if slots::has(words, 2, locked, u) {
@@ -41,7 +40,6 @@ fn enter_again(
         m,
         n,
         weights,
-        list,
         draws,
         at,
         keys,
@@ -61,7 +59,6 @@ fn enter_pins(
     m: usize,
     n: usize,
     weights: &[u8],
-    list: &mut [u16],
     draws: &[u64],
     at: usize,
     keys: &mut [f64],
@@ -71,7 +68,7 @@ fn enter_pins(
     pins: &[u16],
     count: usize,
 ) -> usize
-    requires { do ⌜ (256 ≤ (← ⟦list.len()⟧)) × (locked < 32768) × (count ≤ 65536) × (count ≤ (← ⟦pins.len()⟧)) × Placed (now words) (place nets vertices sides m n) × Stamped 2147483648 (now stamps) × Under n count (now pins) ⌝ }
+    requires { do ⌜ (locked < 32768) × (count ≤ 65536) × (count ≤ (← ⟦pins.len()⟧)) × Placed (now words) (place nets vertices sides m n) × Stamped 2147483648 (now stamps) × Under n count (now pins) ⌝ }
     ensures { λ r. ⌜ AllAgain (now (words .entry)) (place nets vertices sides m n) (now (weights .entry)) locked (now (pins .entry)) count (queueOf (now (keys .entry)) (now (stamps .entry)) (now (waiting .entry)) (wordsAt (now (draws .entry)) at)) (queueOf (now (keys .exit)) (now (stamps .exit)) (now (waiting .exit)) (wordsAt (now (draws .entry)) r)) ⌝ }
 {
     let mut t = at;
@@ -85,7 +82,6 @@ fn enter_pins(
             m,
             n,
             weights,
-            list,
             draws,
             t,
             keys,
@@ -107,7 +103,6 @@ fn enter_net(
     m: usize,
     n: usize,
     weights: &[u8],
-    list: &mut [u16],
     draws: &[u64],
     at: usize,
     keys: &mut [f64],
@@ -117,7 +112,7 @@ fn enter_net(
     pins: &mut [u16],
     e: usize,
 ) -> usize
-    requires { do ⌜ (256 ≤ (← ⟦list.len()⟧)) × (locked < 32768) × (e < m) × (128 ≤ (← ⟦pins.len()⟧)) × Placed (now words) (place nets vertices sides m n) × Stamped 2147483648 (now stamps) ⌝ }
+    requires { do ⌜ (locked < 32768) × (e < m) × (128 ≤ (← ⟦pins.len()⟧)) × Placed (now words) (place nets vertices sides m n) × Stamped 2147483648 (now stamps) ⌝ }
     ensures { λ r. ⌜ NetAgain (now (words .entry)) (place nets vertices sides m n) (now (weights .entry)) locked e (queueOf (now (keys .entry)) (now (stamps .entry)) (now (waiting .entry)) (wordsAt (now (draws .entry)) at)) (queueOf (now (keys .exit)) (now (stamps .exit)) (now (waiting .exit)) (wordsAt (now (draws .entry)) r)) ⌝ }
 {
     let count = slots::members(words, 2, nets + e, pins, 0);
@@ -129,7 +124,6 @@ fn enter_net(
         m,
         n,
         weights,
-        list,
         draws,
         at,
         keys,
@@ -150,7 +144,6 @@ fn enter_nets(
     m: usize,
     n: usize,
     weights: &[u8],
-    list: &mut [u16],
     draws: &[u64],
     at: usize,
     keys: &mut [f64],
@@ -161,7 +154,7 @@ fn enter_nets(
     own: &[u16],
     count: usize,
 ) -> usize
-    requires { do ⌜ (256 ≤ (← ⟦list.len()⟧)) × (locked < 32768) × (count ≤ 256) × (128 ≤ (← ⟦pins.len()⟧)) × (count ≤ (← ⟦own.len()⟧)) × Placed (now words) (place nets vertices sides m n) × Stamped 1073741824 (now stamps) × Under m count (now own) ⌝ }
+    requires { do ⌜ (locked < 32768) × (count ≤ 256) × (128 ≤ (← ⟦pins.len()⟧)) × (count ≤ (← ⟦own.len()⟧)) × Placed (now words) (place nets vertices sides m n) × Stamped 1073741824 (now stamps) × Under m count (now own) ⌝ }
     ensures { λ r. ⌜ NetsAgain (now (words .entry)) (place nets vertices sides m n) (now (weights .entry)) locked (now (own .entry)) count (queueOf (now (keys .entry)) (now (stamps .entry)) (now (waiting .entry)) (wordsAt (now (draws .entry)) at)) (queueOf (now (keys .exit)) (now (stamps .exit)) (now (waiting .exit)) (wordsAt (now (draws .entry)) r)) ⌝ }
 {
     let mut t = at;
@@ -175,7 +168,6 @@ fn enter_nets(
             m,
             n,
             weights,
-            list,
             draws,
             t,
             keys,
@@ -209,7 +201,6 @@ pub fn enter_neighbours(
     requires { ⌜ (locked < 32768) × (v < n) × Placed (now words) (place nets vertices sides m n) × Stamped 1073741824 (now stamps) ⌝ }
     ensures { λ r. ⌜ NeighboursAgain (now (words .entry)) (place nets vertices sides m n) (now (weights .entry)) locked v (queueOf (now (keys .entry)) (now (stamps .entry)) (now (waiting .entry)) (wordsAt (now (draws .entry)) at)) (queueOf (now (keys .exit)) (now (stamps .exit)) (now (waiting .exit)) (wordsAt (now (draws .entry)) r)) ⌝ }
 {
-    let mut list = [0u16; 256];
     let mut pins = [0u16; 128];
     let mut own = [0u16; 256];
     let count = slots::members(words, 4, vertices + v, &mut own, 0);
@@ -221,7 +212,6 @@ pub fn enter_neighbours(
         m,
         n,
         weights,
-        &mut list,
         draws,
         at,
         keys,

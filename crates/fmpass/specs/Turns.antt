@@ -1,5 +1,5 @@
 -- A turn of a pass: the first entry comes off, and its vertex moves if the other side can take it. Turn after turn. Assumes nothing.
-use mathlib.Core.Bool.{Bool, true, false, cond}
+use mathlib.Core.Bool.{Bool, true, false, not, _&&_, _||_, cond}
 use mathlib.Core.Option.{Option, none, some}
 use mathlib.Core.Path.{_≡_, refl, sym, ap, _∙_, subst}
 use mathlib.Core.List.{List, [], _∷_}
@@ -18,10 +18,11 @@ use Rattle.spec.specs.Hypergraph.{Hypergraph, foldOver, until}
 use Rattle.spec.specs.Fm.{Entry, above, Queue, waits, entryOf, offered, largest, Pass, turnOf, passTurn, runPass}
 use Rattle.laws.specs.Booleans.{by-cases, clash}
 use Rattle.partition.specs.Layout.{graphIn}
+use Rattle.queue.specs.Open.{openIn}
 use Rattle.queue.specs.Queues.{queueOf, noWords, entryAt, entry-none}
 use Rattle.queue.specs.Enters.{Place, place}
 use Rattle.moves.specs.Kept.{Kept, kept-all, kept-then, graph-kept}
-use Rattle.moves.specs.Split.{sidesAs}
+use Rattle.moves.specs.Split.{sidesAs, site-placed}
 use Rattle.moves.specs.Sums.{Fits}
 use Rattle.fmpass.specs.State.{Lists, lists, Run, run, movesIn, passIn, Stands, Brings}
 use Rattle.fmpass.specs.Makes.{madeMove}
@@ -49,6 +50,11 @@ at-vertex n v q f = ap (λ t. cond t none (some (entryOf q v))) (ne-eqb v n f)
 
 -- ---- a turn ----
 
+open-bits : (x y z : Bool) → x ≡ not y → z ≡ false → ((x || y) && not z) ≡ true
+open-bits true y z e f = ap not f
+open-bits false true z e f = ap not f
+open-bits false false z e f = clash e refl
+
 module _ (nets vertices sides m : ℕ) (vw : List Float) (M : Lists) (R : Run) (h : Stands (place nets vertices sides m (length vw)) M R) where
   abbrev o : Place
   o = place nets vertices sides m (length vw)
@@ -56,6 +62,13 @@ module _ (nets vertices sides m : ℕ) (vw : List Float) (M : Lists) (R : Run) (
   pub same-stands : (sum best : Float) (peak at : ℕ) (over : Bool) → Stands o M (run (R .count) sum best peak at over)
   same-stands sum best peak at over =
       record { site = h .site; split = h .split; locks = h .locks; fresh = h .fresh; once = h .once; low = h .low; under = h .under; long = h .long }
+
+  -- a vertex that is on no side, or has moved, does not wait
+  pub closed-rests : (u : ℕ) → u < length vw → openIn (M .graph) sides u ≡ false → eqb (getD (M .waiting) u 0) 1 ≡ false
+  closed-rests u b e =
+      by-cases (eqb (getD (M .waiting) u 0) 1)
+      (λ w. clash (open-bits _ _ _ (site-placed (M .graph) o (M .part) (h .site) (h .split) .laid .apart u b) (sym (h .locks u b) ∙ h .fresh u w)) e)
+      (λ w. w)
 
   module _ (v : ℕ) (e : entryAt (length vw) (queueOf (M .keys) (M .stamps) (M .waiting) noWords) v ≡ largest (length vw) (queueOf (M .keys) (M .stamps) (M .waiting) noWords)) where
     module _ (weights draws : List ℕ) (maxw : Float) where

@@ -99,7 +99,7 @@ fn turn(
     ensures { λ r. ⌜ Brings (now (weights .entry)) (now (vw .entry)) (now (draws .entry)) (place nets vertices sides m (length (now (vw .entry)))) (λ H p. passTurn H maxw p) (lists (now (graph .entry)) (now (part .entry)) (now (loads .entry)) (now (keys .entry)) (now (stamps .entry)) (now (waiting .entry)) (now (moves .entry))) (lists (now (graph .exit)) (now (part .exit)) (now (loads .exit)) (now (keys .exit)) (now (stamps .exit)) (now (waiting .exit)) (now (moves .exit))) (run (pass .count) (pass .sum) (pass .best) (pass .peak) (pass .at) (pass .over)) (run (r .count) (r .sum) (r .best) (r .peak) (r .at) (r .over)) ⌝ }
 {
     let n = vw.len();
-    let v = queue::largest(keys, stamps, waiting, n);
+    let v = queue::largest(graph, sides, keys, stamps, waiting, n);
     if v == n {
         return Pass {
             count: pass.count,

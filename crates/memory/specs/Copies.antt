@@ -57,3 +57,25 @@ module _ (weights counts legs outputs w c l o : List ℕ) (cw : Clear 256 w) (cn
       let y : firsts (length outputs) (copied o outputs (length outputs)) ≡ firsts (length outputs) outputs = copied-firsts o outputs (length outputs) co e in
       let z = map-range-ext [] (rowAt (copied c counts (length counts)) (copied l legs (length legs))) (rowAt counts legs) (length counts) row in
       λ j. record { leaves = z j; outputs = y j; weights = x j }
+
+-- a copy of a short list of legs stands for the same network
+module _ (weights counts legs outputs l : List ℕ) (cl : Clear 4096 l) (short : length legs ≤ 4096) where
+  padded : (k : ℕ) → getD (copied l legs (length legs)) k 0 ≡ getD legs k 0
+  padded k =
+      elim (decLt k (length legs)) [
+        | yes q ↦ copied-at l legs (length legs) k 0 q (omega (arith, cl .places)) q
+        | no q ↦ copied-past l legs (length legs) k 0 (omega arith) ∙ cl .zeros k ∙ sym (List·getD-eq-default legs 0 (omega arith))
+      ]
+
+  padded-row : (i : ℕ) → rowAt counts (copied l legs (length legs)) i ≡ rowAt counts legs i
+  padded-row i =
+      firsts-same (getD counts i 0) (drop (i * maxLegs) (copied l legs (length legs))) (drop (i * maxLegs) legs)
+      (λ k j. getD-drop (i * maxLegs) (copied l legs (length legs)) k 0 ∙ padded (i * maxLegs + k) ∙ sym (getD-drop (i * maxLegs) legs k 0))
+
+  pub padded-network :
+      networkOf (length weights) (length counts) (length outputs) weights counts (copied l legs (length legs)) outputs
+      ≡ networkOf (length weights) (length counts) (length outputs) weights counts legs outputs
+  unfolding networkOf
+  padded-network =
+      let z = map-range-ext [] (rowAt counts (copied l legs (length legs))) (rowAt counts legs) (length counts) (λ i h. padded-row i) in
+      λ j. record { leaves = z j; outputs = firsts (length outputs) outputs; weights = firsts (length weights) weights }

@@ -63,10 +63,6 @@ module _ (N : Network) (flags kids ws₀ sets₀ sizes₀ works₀ steps₀ answ
     sound = λ p h. not-done k p (sym e ∙ h);
   }
 
-  pub cost-large : refusalOf N ≡ some tooLarge
-      → MemoryCost N flags kids ws₀ sets₀ sizes₀ works₀ steps₀ answer₀ ws₀ sets₀ sizes₀ works₀ steps₀ answer₀ 3
-  cost-large e = stays tooLarge (as-refused (length answer₀) N (length ws₀) _ flags kids tooLarge e) refl refl
-
   short-cases : (o : Option Refusal) {r : ℕ} → refusalOf N ≡ o → length answer₀ < 4 → r ≡ orShort o
       → MemoryCost N flags kids ws₀ sets₀ sizes₀ works₀ steps₀ answer₀ ws₀ sets₀ sizes₀ works₀ steps₀ answer₀ r
   short-cases none e h q = stays shortBuffer (as-short (length answer₀) N (length ws₀) _ flags kids e h) refl q
@@ -96,22 +92,27 @@ module _ (N : Network) (flags kids ws₀ sets₀ sizes₀ works₀ steps₀ answ
       sound = λ p e. t .answered .sound p (sym same ∙ e);
     }
 
-    pub cost-refused : {M : Network} {ws sets sizes works steps : List ℕ} {x : Priced} {k : ℕ} → M ≡ N → x ≡ Refused k
-        → TreeCost M flags kids ws₀ sets₀ sizes₀ works₀ steps₀ ws sets sizes works steps x
+    pub cost-refused : {ws sets sizes works steps : List ℕ} {x : Priced} {k : ℕ} → x ≡ Refused k
+        → TreeCost N flags kids ws₀ sets₀ sizes₀ works₀ steps₀ ws sets sizes works steps x
         → MemoryCost N flags kids ws₀ sets₀ sizes₀ works₀ steps₀ answer₀ ws sets sizes works steps answer₀ k
-    cost-refused {M} {ws} {sets} {sizes} {works} {steps} {x} m e t =
-        let u = subst (λ L. TreeCost L flags kids ws₀ sets₀ sizes₀ works₀ steps₀ ws sets sizes works steps x) m t in
-        let (r, y, q) = of-refused pricing (sym e ∙ u .answered .answer) in
-        follows u (q ∙ sym (ap (λ c. codeOf (refusalIn c)) (same ∙ y))) (sym (ap (λ c. answerAfter c answer₀) (same ∙ y)))
+    cost-refused e t =
+        let (r, y, q) = of-refused pricing (sym e ∙ t .answered .answer) in
+        follows t (q ∙ sym (ap (λ c. codeOf (refusalIn c)) (same ∙ y))) (sym (ap (λ c. answerAfter c answer₀) (same ∙ y)))
 
-    pub cost-done : {M : Network} {ws sets sizes works steps answer : List ℕ} {x : Priced} {p : HandedPrices} → M ≡ N → x ≡ Done p
-        → TreeCost M flags kids ws₀ sets₀ sizes₀ works₀ steps₀ ws sets sizes works steps x
+    pub cost-done : {ws sets sizes works steps answer : List ℕ} {x : Priced} {p : HandedPrices} → x ≡ Done p
+        → TreeCost N flags kids ws₀ sets₀ sizes₀ works₀ steps₀ ws sets sizes works steps x
         → answer ≡ over answer₀ (priceNumbers (pricesFrom p))
         → MemoryCost N flags kids ws₀ sets₀ sizes₀ works₀ steps₀ answer₀ ws sets sizes works steps answer 0
-    cost-done {M} {ws} {sets} {sizes} {works} {steps} {answer} {x} {p} m e t a =
-        let u = subst (λ L. TreeCost L flags kids ws₀ sets₀ sizes₀ works₀ steps₀ ws sets sizes works steps x) m t in
-        let y : pricing ≡ done (pricesFrom p) = of-done pricing (sym e ∙ u .answered .answer) in
-        follows u (sym (ap (λ c. codeOf (refusalIn c)) (same ∙ y))) (a ∙ sym (ap (λ c. answerAfter c answer₀) (same ∙ y)))
+    cost-done {p = p} e t a =
+        let y : pricing ≡ done (pricesFrom p) = of-done pricing (sym e ∙ t .answered .answer) in
+        follows t (sym (ap (λ c. codeOf (refusalIn c)) (same ∙ y))) (a ∙ sym (ap (λ c. answerAfter c answer₀) (same ∙ y)))
+
+-- of two networks that are one
+pub cost-same : {M N : Network} {flags kids ws₀ sets₀ sizes₀ works₀ steps₀ answer₀ ws sets sizes works steps answer : List ℕ} {r : ℕ} → M ≡ N
+    → MemoryCost M flags kids ws₀ sets₀ sizes₀ works₀ steps₀ answer₀ ws sets sizes works steps answer r
+    → MemoryCost N flags kids ws₀ sets₀ sizes₀ works₀ steps₀ answer₀ ws sets sizes works steps answer r
+cost-same {flags = flags} {kids} {ws₀} {sets₀} {sizes₀} {works₀} {steps₀} {answer₀} {ws} {sets} {sizes} {works} {steps} {answer} {r} e t =
+    subst (λ L. MemoryCost L flags kids ws₀ sets₀ sizes₀ works₀ steps₀ answer₀ ws sets sizes works steps answer r) e t
 
 -- a count above its limit
 pub lent-large : {b : Bool} (weights counts legs outputs : List ℕ) → b ≡ largeOf (length weights) (length counts) (length outputs) counts → b ≡ true

@@ -33,6 +33,22 @@ pub record Lent (weights counts cells outputs : List ℕ) : Type 0 where
   pub legPlaces : maxLeaves * maxLegs ≤ length cells
   pub outputPlaces : maxOutputs ≤ length outputs
 
+-- the lists have the places that the counts ask for, as far as these are within the limits
+pub record Fitting (m n o : ℕ) (weights counts cells outputs : List ℕ) : Type 0 where
+  pub weightPlaces : m ≤ maxIndices → m ≤ length weights
+  pub countPlaces : n ≤ maxLeaves → n ≤ length counts
+  pub legPlaces : n ≤ maxLeaves → n * maxLegs ≤ length cells
+  pub outputPlaces : o ≤ maxOutputs → o ≤ length outputs
+
+pub lent-fitting : {weights counts cells outputs : List ℕ} (m n o : ℕ) → Lent weights counts cells outputs → Fitting m n o weights counts cells outputs
+lent-fitting m n o l =
+    record {
+      weightPlaces = λ h. omega (arith, l .weightPlaces);
+      countPlaces = λ h. omega (arith, l .countPlaces);
+      legPlaces = λ h. omega (arith, l .legPlaces);
+      outputPlaces = λ h. omega (arith, l .outputPlaces);
+    }
+
 -- n leaves have
 pub record Rows (n : ℕ) (counts cells : List ℕ) : Type 0 where
   pub counted : n ≤ length counts

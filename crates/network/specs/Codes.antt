@@ -18,7 +18,7 @@ use Rattle.laws.specs.ListLaws.{any-ext, memb-at, any-map}
 use Rattle.laws.specs.Accepted.{none-at, accepted-means}
 use Rattle.laws.specs.LayoutLaws.{map-range-length, firsts-length, firsts-at}
 use Rattle.network.specs.Layouts.{firsts-take, layout-leaf-count, layout-index-count, layout-output-count, layout-weight, layout-leg-count, layout-leg, layout-output}
-use Rattle.network.specs.Checks.{leavesOf, Rows, Lent}
+use Rattle.network.specs.Checks.{leavesOf, Rows, Fitting}
 
 -- ---- a count above its limit ----
 
@@ -180,14 +180,14 @@ pub record Facts (m n o : ℕ) (weights counts cells outputs : List ℕ) : Type 
   pub outputsInRange : (k : ℕ) → k < o → getD outputs k 0 < m
 
 -- what the check finds on the way, and what it answers then
-module _ (m n o : ℕ) (weights counts cells outputs : List ℕ) (l : Lent weights counts cells outputs) where
+module _ (m n o : ℕ) (weights counts cells outputs : List ℕ) (l : Fitting m n o weights counts cells outputs) where
   pub rows : {b : Bool} → b ≡ largeOf m n o counts → b ≡ false → Rows n counts cells × (o ≤ length outputs)
   rows e f =
       let (p, q, r, s) = small m n o counts (sym e ∙ f) in
-      (record { counted = omega (arith, l .countPlaces); room = omega (arith, l .legPlaces); few = s }, omega (arith, l .outputPlaces))
+      (record { counted = l .countPlaces p; room = l .legPlaces p; few = s }, l .outputPlaces r)
 
   pub weighed : {b : Bool} → b ≡ largeOf m n o counts → b ≡ false → m ≤ length weights
-  weighed e f = let (p, q, r, s) = small m n o counts (sym e ∙ f) in omega (arith, l .weightPlaces)
+  weighed e f = let (p, q, r, s) = small m n o counts (sym e ∙ f) in l .weightPlaces q
 
   -- the answers: the conditions that were tested, each with what its test said
   answer : {a b c d : Bool} → a ≡ largeOf m n o counts → b ≡ anyb (λ w. ltb maxWeight w) (firsts m weights) → c ≡ outOfRangeOf m n o counts cells outputs → d ≡ repeatOf n o counts cells outputs

@@ -5,7 +5,7 @@ ghost use lib.ListN.{length};
 ghost use Rattle.spec.specs.Refusal.{codeOf};
 ghost use Rattle.spec.specs.Network.{refusalOf, maxLeaves, maxOutputs};
 ghost use Rattle.spec.specs.Layout.{networkOf};
-ghost use Rattle.network.specs.Checks.{Rows, Lent};
+ghost use Rattle.network.specs.Checks.{Rows, Lent, Fitting};
 ghost use Rattle.network.specs.Codes.{largeOf, outOfRangeOf, repeatOf};
 use crate::Network;
 use crate::refusal;
@@ -13,7 +13,7 @@ use crate::scan;
 
 // Is a count above its limit. No list is read past its limit.
 pub(crate) fn too_large(m: usize, n: usize, o: usize, counts: &[u8]) -> bool
-    requires { ⌜ maxLeaves ≤ length (now counts) ⌝ }
+    requires { ⌜ (n ≤ maxLeaves → n ≤ length (now counts)) ⌝ }
     ensures { λ r. ⌜ r ≡ largeOf m n o (now (counts .entry)) ⌝ }
 {
     if n > Network::MAX_LEAVES {
@@ -29,14 +29,7 @@ pub(crate) fn too_large(m: usize, n: usize, o: usize, counts: &[u8]) -> bool
 }
 
 // Does a leaf, or do the outputs, name an index that is not below m.
-fn out_of_range<'a>(
-    m: usize,
-    n: usize,
-    o: usize,
-    counts: &'a [u8],
-    legs: &'a [u16],
-    outputs: &'a [u16],
-) -> bool
+fn out_of_range(m: usize, n: usize, o: usize, counts: &[u8], legs: &[u16], outputs: &[u16]) -> bool
     requires { ⌜ Rows n (now counts) (now legs) × (o ≤ length (now outputs)) ⌝ }
     ensures { λ r. ⌜ r ≡ outOfRangeOf m n o (now (counts .entry)) (now (legs .entry)) (now (outputs .entry)) ⌝ }
 {
@@ -47,7 +40,7 @@ fn out_of_range<'a>(
 }
 
 // Does a leaf, or do the outputs, name an index twice.
-fn repeated<'a>(n: usize, o: usize, counts: &'a [u8], legs: &'a [u16], outputs: &'a [u16]) -> bool
+fn repeated(n: usize, o: usize, counts: &[u8], legs: &[u16], outputs: &[u16]) -> bool
     requires { ⌜ Rows n (now counts) (now legs) × (o ≤ length (now outputs)) ⌝ }
     ensures { λ r. ⌜ r ≡ repeatOf n o (now (counts .entry)) (now (legs .entry)) (now (outputs .entry)) ⌝ }
 {
@@ -57,17 +50,17 @@ fn repeated<'a>(n: usize, o: usize, counts: &'a [u8], legs: &'a [u16], outputs: 
     scan::repeated(&outputs[..o])
 }
 
-// The number of the refusal, or 0.
-pub fn number<'a>(
+// The number of the refusal, or 0, on lists that are as long as their counts.
+pub fn number_in(
     m: usize,
     n: usize,
     o: usize,
-    weights: &'a [u8],
-    counts: &'a [u8],
-    legs: &'a [u16],
-    outputs: &'a [u16],
+    weights: &[u8],
+    counts: &[u8],
+    legs: &[u16],
+    outputs: &[u16],
 ) -> u8
-    requires { ⌜ Lent (now weights) (now counts) (now legs) (now outputs) ⌝ }
+    requires { ⌜ Fitting m n o (now weights) (now counts) (now legs) (now outputs) ⌝ }
     ensures { λ r. ⌜ r ≡ codeOf (refusalOf (networkOf m n o (now (weights .entry)) (now (counts .entry)) (now (legs .entry)) (now (outputs .entry)))) ⌝ }
 {
     if too_large(m, n, o, counts) {
@@ -83,4 +76,20 @@ pub fn number<'a>(
         return refusal::REPEATED;
     }
     refusal::NONE
+}
+
+// The same on lists of a record's lengths.
+pub fn number<'a>(
+    m: usize,
+    n: usize,
+    o: usize,
+    weights: &'a [u8],
+    counts: &'a [u8],
+    legs: &'a [u16],
+    outputs: &'a [u16],
+) -> u8
+    requires { ⌜ Lent (now weights) (now counts) (now legs) (now outputs) ⌝ }
+    ensures { λ r. ⌜ r ≡ codeOf (refusalOf (networkOf m n o (now (weights .entry)) (now (counts .entry)) (now (legs .entry)) (now (outputs .entry)))) ⌝ }
+{
+    number_in(m, n, o, weights, counts, legs, outputs)
 }

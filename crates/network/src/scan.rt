@@ -53,7 +53,7 @@ pub(crate) fn repeated(row: &[u16]) -> bool
 }
 
 // The indices of leaf i.
-pub fn leaf<'a>(counts: &'a [u8], legs: &'a [u16], i: usize) -> &'a [u16]
+pub fn leaf<'a>(counts: &[u8], legs: &'a [u16], i: usize) -> &'a [u16]
     requires { ⌜ Row (now counts) (now legs) i ⌝ }
     ensures { λ r. ⌜ now r ≡ rowAt (now (counts .entry)) (now (legs .entry)) i ⌝ }
 {
@@ -63,7 +63,7 @@ pub fn leaf<'a>(counts: &'a [u8], legs: &'a [u16], i: usize) -> &'a [u16]
 }
 
 // Does one of n leaves name an index that is not below m.
-pub(crate) fn leaves_out_of_range<'a>(n: usize, counts: &'a [u8], legs: &'a [u16], m: usize) -> bool
+pub(crate) fn leaves_out_of_range(n: usize, counts: &[u8], legs: &[u16], m: usize) -> bool
     requires { ⌜ Rows n (now counts) (now legs) ⌝ }
     ensures { λ r. ⌜ r ≡ anyb (anyOutOfRange m) (leavesOf n (now (counts .entry)) (now (legs .entry))) ⌝ }
 {
@@ -76,7 +76,7 @@ pub(crate) fn leaves_out_of_range<'a>(n: usize, counts: &'a [u8], legs: &'a [u16
 }
 
 // Does one of n leaves name an index twice.
-pub(crate) fn leaves_repeated<'a>(n: usize, counts: &'a [u8], legs: &'a [u16]) -> bool
+pub(crate) fn leaves_repeated(n: usize, counts: &[u8], legs: &[u16]) -> bool
     requires { ⌜ Rows n (now counts) (now legs) ⌝ }
     ensures { λ r. ⌜ r ≡ anyb repeats (leavesOf n (now (counts .entry)) (now (legs .entry))) ⌝ }
 {

@@ -2,9 +2,12 @@
 ghost use mathlib.Core.Path.{_≡_};
 ghost use Prim.Native.Nat.{_<_, _≤_};
 ghost use lib.Count.{ones};
-ghost use lib.ListN.{length, take};
+ghost use lib.ListN.{length};
 ghost use Rattle.spec.specs.Floats.{wholeFloat};
+ghost use Rattle.spec.specs.Hypergraph.{foldOver};
 ghost use Rattle.spec.specs.Fm.{gainNet};
+ghost use Rattle.bits.specs.Lowest.{places};
+ghost use Rattle.slots.specs.Rising.{risingOf};
 ghost use Rattle.partition.specs.Common.{commonOf};
 ghost use Rattle.partition.specs.Few.{capped, Few};
 ghost use Rattle.partition.specs.Layout.{Laid, gainStep, gainSum};
@@ -87,27 +90,45 @@ fn gain_step(
     gain_net(x, y, cells::get8(weights, e), g)
 }
 
-// The gain with the first `count` nets of a list.
-fn gain_sum(
+// The gain `g` with the nets `base` + i for each set digit i of `x`.
+fn gain_word(
     words: &[u64],
     nets: usize,
     here: usize,
     there: usize,
     weights: &[u8],
-    list: &[u16],
-    count: usize,
+    base: usize,
+    x: u64,
+    g: f64,
 ) -> f64
-    requires { do ⌜ (nets < 65536) × (here < 65536) × (there < 65536) × (count ≤ (← ⟦list.len()⟧)) ⌝ }
-    ensures { λ r. ⌜ r ≡ gainSum (now (words .entry)) nets here there (now (weights .entry)) (take count (now (list .entry))) ⌝ }
+    requires { ⌜ (nets < 65536) × (here < 65536) × (there < 65536) × (base ≤ 192) ⌝ }
+    ensures { λ r. ⌜ r ≡ foldOver (gainStep (now (words .entry)) nets here there (now (weights .entry))) (places base 64 x) g ⌝ }
 {
+    let mut rest = x;
+    let mut sum = g;
+    while rest != 0 {
+        let e = base + bits::low(rest);
+        sum = gain_step(words, nets, here, there, weights, e, sum);
+        rest = rest & (rest - 1);
+    }
+    sum
+}
+
+// The gain with the nets of slot `s`, of four words.
+fn gain_sum(words: &[u64], nets: usize, here: usize, there: usize, weights: &[u8], s: usize) -> f64
+    requires { ⌜ (nets < 65536) × (here < 65536) × (there < 65536) × (s < 65536) ⌝ }
+    ensures { λ r. ⌜ r ≡ gainSum (now (words .entry)) nets here there (now (weights .entry)) (risingOf (now (words .entry)) 4 s) ⌝ }
+{
+    let p = s * 4;
     let mut g = 0.0;
-    for k in 0..count {
-        g = gain_step(words, nets, here, there, weights, cells::at16(list, k), g);
+    for k in 0..4 {
+        let x = cells::get64(words, p + k);
+        g = gain_word(words, nets, here, there, weights, k * 64, x, g);
     }
     g
 }
 
-// The gain of the move of vertex `v`, in a hypergraph of `m` nets and `n` vertices. The list is for the nets of `v`.
+// The gain of the move of vertex `v`, in a hypergraph of `m` nets and `n` vertices.
 pub fn gain(
     words: &[u64],
     nets: usize,
@@ -117,16 +138,14 @@ pub fn gain(
     n: usize,
     weights: &[u8],
     v: usize,
-    list: &mut [u16],
 ) -> f64
-    requires { do ⌜ (nets < 32768) × (vertices < 32768) × (sides < 32768) × (v < n) × (256 ≤ (← ⟦list.len()⟧)) × Laid (now words) nets vertices sides m n ⌝ }
+    requires { ⌜ (nets < 32768) × (vertices < 32768) × (sides < 32768) × (v < n) × Laid (now words) nets vertices sides m n ⌝ }
     ensures { λ r. ⌜ IsGain (now (words .entry)) nets sides m n (now (weights .entry)) v r ⌝ }
 {
-    let count = slots::members(words, 4, vertices + v, list, 0);
     if slots::has(words, 2, sides + 1, v) {
-        return gain_sum(words, nets, sides + 1, sides, weights, list, count);
+        return gain_sum(words, nets, sides + 1, sides, weights, vertices + v);
     }
-    gain_sum(words, nets, sides, sides + 1, weights, list, count)
+    gain_sum(words, nets, sides, sides + 1, weights, vertices + v)
 }
 
 // The weight of the nets that are cut, with net `e`.

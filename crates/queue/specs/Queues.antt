@@ -63,5 +63,9 @@ pub above-at : (q : Queue) (v b s t : ℕ) (x y : Float) (r : Bool) → x ≡ ge
     → t ≡ getD (q .stamps) b 0 → r ≡ above (entry x s v) (entry y t b) → r ≡ above (entryOf q v) (entryOf q b)
 above-at q v b s t x y r p k l m e = e ∙ (λ i. above (entry (p i) (k i) v) (entry (l i) (m i) b))
 
+-- a vertex that does not wait changes nothing
+pub offered-none : (q : Queue) (v : ℕ) → waits q v ≡ false → (o : Option Entry) → offered q v o ≡ o
+offered-none q v e o = ap (λ t. cond t (some (orAbove o (entryOf q v))) o) e
+
 pub entry-none : (n : ℕ) (q : Queue) → entryAt n q n ≡ none
 entry-none n q = ap (λ t. cond t none (some (entryOf q n))) (eq-eqb n n refl)

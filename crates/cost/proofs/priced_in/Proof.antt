@@ -1,6 +1,6 @@
 -- Assumes nothing.
 use borrow.Author.Needs.{needs}
-use Rattle.cost.specs.Checks.{order-front, front-length, priceable, enough}
+use Rattle.cost.specs.Checks.{order-front, front-length, fitting-priceable, enough}
 use Rattle.walk.specs.Order.{order-length}
 use Rattle.spec.specs.Tree.{stepOrder}
 use Rattle.spec.specs.Memory.{filled}
@@ -49,7 +49,7 @@ slice-aggregate-price c = let d = c .before .before .before .before .before .bef
 
 price-requires : tie.Need-price-requires
 unfolding filled
-price-requires c κs = let d = c .before .before .before .before .before .before .before .before .before .before .before .before .before .before .before .before .before .before .before .before .before .before .before .before .before .before .before .before .before .before in let a = d .args in let o = c .before .before .before .before .before .before .before .before .before .post-order in let w = tree-right (c .before .before .before .before .before .before .before .before .before .before .before .before .before .before .before .before .before .is-tree .result) (wrongTree (a .n) (a .tree .now)) (c .before .before .before .before .before .before .before .before .before .before .before .before .before .before .before .before .before .is-tree .ensures) (c .before .before .before .before .before .before .before .before .before .before .before .before .before .before .if1 .left) in let p = priceable (d .pre .0) (d .pre .1) w (order-front (filled 128 0) (o .last .1 .1 .1 .0) (stepOrder (a .tree .now) (a .n)) (o .result) (o .ensures .1) (order-length (a .tree .now) (a .n) w ∙ sym (o .ensures .0)) (omega (arith, o .ensures .0, d .pre .1 .fewLeaves))) in (p, enough (d .pre .1 .fewLeaves) (d .pre .2) (o .kept .1 .1 .0 ∙ c .before .before .before .before .before .before .before .before .before .before .before .before .before .before .before .before .before .is-tree .kept .1 .1 .0) (p .ordered))
+price-requires c κs = let d = c .before .before .before .before .before .before .before .before .before .before .before .before .before .before .before .before .before .before .before .before .before .before .before .before .before .before .before .before .before .before in let a = d .args in let o = c .before .before .before .before .before .before .before .before .before .post-order in let w = tree-right (c .before .before .before .before .before .before .before .before .before .before .before .before .before .before .before .before .before .is-tree .result) (wrongTree (a .n) (a .tree .now)) (c .before .before .before .before .before .before .before .before .before .before .before .before .before .before .before .before .before .is-tree .ensures) (c .before .before .before .before .before .before .before .before .before .before .before .before .before .before .if1 .left) in let p = fitting-priceable (d .pre .0) (d .pre .1) w (order-front (filled 128 0) (o .last .1 .1 .1 .0) (stepOrder (a .tree .now) (a .n)) (o .result) (o .ensures .1) (order-length (a .tree .now) (a .n) w ∙ sym (o .ensures .0)) (omega (arith, o .ensures .0, d .pre .1 .fewLeaves))) in (p, enough (d .pre .1 .fewLeaves) (d .pre .2) (o .kept .1 .1 .0 ∙ c .before .before .before .before .before .before .before .before .before .before .before .before .before .before .before .before .before .is-tree .kept .1 .1 .0) (p .ordered))
 
 same-length-3 : tie.Need-same-length-3
 same-length-3 c = c .before .before .before .before .before .before .before .before .before .before .price .kept .0 ∙ c .before .before .before .before .before .before .before .before .before .before .before .before .before .before .before .before .before .before .before .before .post-order .kept .1 .1 .0 ∙ c .before .before .before .before .before .before .before .before .before .before .before .before .before .before .before .before .before .before .before .before .before .before .before .before .before .before .before .before .is-tree .kept .1 .1 .0

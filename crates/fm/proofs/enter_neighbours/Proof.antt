@@ -22,17 +22,12 @@ slice-aggregate-enter-nets : tie.Need-slice-aggregate-enter-nets
 slice-aggregate-enter-nets c = refl
 
 slice-aggregate-enter-nets-2 : tie.Need-slice-aggregate-enter-nets-2
-slice-aggregate-enter-nets-2 c = refl
-
-slice-aggregate-enter-nets-3 : tie.Need-slice-aggregate-enter-nets-3
-slice-aggregate-enter-nets-3 c = sym (c .before .before .before .before .before .before .own2 .given)
+slice-aggregate-enter-nets-2 c = sym (c .before .before .before .before .before .own2 .given)
 
 enter-nets-requires : tie.Need-enter-nets-requires
-enter-nets-requires c κs =
-    let d = c .before .before .before .before .before .before .before .before .before .before .before .before .before .before .before in
+enter-nets-requires c κs = let d = c .before .before .before .before .before .before .before .before .before .before .before .before .before .before in
     let a = d .args in
-    let m = c .before .before .before .before .before .before .before .members in (
-      omega arith,
+    let m = c .before .before .before .before .before .before .members in (
       d .pre .0,
       listed-few (a .words .now) _ _ 4 (a .vertices + a .v) (m .result) (m .ensures .0) (m .ensures .1) (omega arith),
       omega arith,
@@ -52,12 +47,11 @@ same-length-3 : tie.Need-same-length-3
 same-length-3 c = c .before .before .waiting .given
 
 returns : tie.Need-returns
-returns c =
-    let d = c .before .before .before .before .before .before .before .before .before .before .before .before .before .before .before .before .before .before .before .before .before .before .before .before in
+returns c = let d = c .before .before .before .before .before .before .before .before .before .before .before .before .before .before .before .before .before .before .before .before .before .before in
     let a = d .args in
-    let m = c .before .before .before .before .before .before .before .before .before .before .before .before .before .before .before .before .members in
+    let m = c .before .before .before .before .before .before .before .before .before .before .before .before .before .before .members in
     neighbours-again (a .words .now) (place (a .nets) (a .vertices) (a .sides) (a .m) (a .n)) (a .weights .now) (a .locked) (a .v) (m .result) _ _ _ (d .pre .2 .laid) (d .pre .1)
-    (listed-all (a .words .now) _ _ 4 (a .vertices + a .v) (m .result) (m .ensures .0) (m .ensures .1) (omega arith)) (m .ensures .0) (c .before .before .before .before .before .before .before .before .enter-nets .ensures)
+    (listed-all (a .words .now) _ _ 4 (a .vertices + a .v) (m .result) (m .ensures .0) (m .ensures .1) (omega arith)) (m .ensures .0) (c .before .before .before .before .before .before .before .enter-nets .ensures)
 
 pub enter-neighbours-spec : {M : Type 1} → statement M
 enter-neighbours-spec =
@@ -68,7 +62,6 @@ enter-neighbours-spec =
     members-requires
     slice-aggregate-enter-nets
     slice-aggregate-enter-nets-2
-    slice-aggregate-enter-nets-3
     enter-nets-requires
     same-length
     same-length-2

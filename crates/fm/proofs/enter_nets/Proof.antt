@@ -1,44 +1,40 @@
 -- `fm::enter_nets` meets its contract. The invariant: the pins of the first i nets were entered again. Assumes nothing.
 use borrow.Author.Needs.{needs}
-use native.Mathlib.Omega.{arith}
-use Prim.Native.Nat.{_-_, _≤_}
-use mathlib.Core.Path.{_≡_, refl}
-use lib.ListN.{length}
-use Rattle.draws.specs.Cursor.{wordsAt}
-use Rattle.queue.specs.Queues.{queueOf}
-use Rattle.queue.specs.Enters.{place}
 use Rattle.fm.specs.NetsAgain.{NetsAgain, no-net-again, next-net, all-nets}
+use Rattle.queue.specs.Enters.{place}
+use Rattle.queue.specs.Queues.{queueOf}
+use Rattle.draws.specs.Cursor.{wordsAt}
+use native.Mathlib.Omega.{arith}
+use Prim.Native.Nat.{ℕ, _+_, _-_, _*_, _<_, _≤_}
+use mathlib.Core.Path.{_≡_, refl, sym, ap, _∙_, subst}
+use lib.ListN.{length, getD, set, length-set}
 use Rattle.fm.proofs.enter_nets.Statement.{statement}
 use Rattle.fm.proofs.enter_nets.Tie as tie
 
 abbrev Inv-loop : tie.InvT-loop
-Inv-loop words nets vertices sides m n weights list₀ draws at keys₀ stamps₀ waiting₀ locked pins₀ own count t₀ i₀ list keys stamps waiting pins t i =
-    (i ≤ count) × (length list ≡ length list₀) × (length keys ≡ length keys₀) × (length stamps ≡ length stamps₀) × (length waiting ≡ length waiting₀)
-    × (length pins ≡ length pins₀)
+Inv-loop words nets vertices sides m n weights draws at keys₀ stamps₀ waiting₀ locked pins₀ own count t₀ i₀ keys stamps waiting pins t i =
+    (i ≤ count) × (length keys ≡ length keys₀) × (length stamps ≡ length stamps₀) × (length waiting ≡ length waiting₀) × (length pins ≡ length pins₀)
     × NetsAgain words (place nets vertices sides m n) weights locked own i (queueOf keys₀ stamps₀ waiting₀ (wordsAt draws at)) (queueOf keys stamps waiting (wordsAt draws t))
 
 abbrev μ-loop : tie.MeasureT-loop
-μ-loop words nets vertices sides m n weights list₀ draws at keys₀ stamps₀ waiting₀ locked pins₀ own count t₀ i₀ list keys stamps waiting pins t i = count - i
+μ-loop words nets vertices sides m n weights draws at keys₀ stamps₀ waiting₀ locked pins₀ own count t₀ i₀ keys stamps waiting pins t i = count - i
 
 loop-holds : tie.Need-loop-holds Inv-loop μ-loop
-loop-holds c =
-    let a = c .before .before .before .before .before .before .before .before .before .args in
-    (omega arith, refl, refl, refl, refl, refl, no-net-again (a .words .now) (place (a .nets) (a .vertices) (a .sides) (a .m) (a .n)) (a .weights .now) (a .locked) (a .own .now) _)
+loop-holds c = let a = c .before .before .before .before .before .before .before .before .args in
+    (omega arith, refl, refl, refl, refl, no-net-again (a .words .now) (place (a .nets) (a .vertices) (a .sides) (a .m) (a .n)) (a .weights .now) (a .locked) (a .own .now) _)
 
 at16-requires : tie.Need-at16-requires Inv-loop μ-loop
 at16-requires c κs = search needs
 
 enter-net-requires : tie.Need-enter-net-requires Inv-loop μ-loop
-enter-net-requires c κs =
-    let d = c .before .before .before .before .before .before .before .before .before .before .before .before .before .before .before .before .before in
-    let l = c .before .before .before .before .before .before .before .loop in
-    let t = c .before .before .before .before .before .before .loop-test .taken in (
-      omega (arith, l .inv .1, d .pre .0),
-      d .pre .1,
-      omega (arith, c .before .before .before .before .before .at16 .ensures .0, d .pre .7 (l .i) t),
-      omega (arith, l .inv .5, d .pre .3),
-      d .pre .5,
-      λ u. omega (arith, l .inv .6 .stamps 1073741824 (d .pre .6) u, d .pre .2, t),
+enter-net-requires c κs = let d = c .before .before .before .before .before .before .before .before .before .before .before .before .before .before .before in
+    let l = c .before .before .before .before .before .before .loop in
+    let t = c .before .before .before .before .before .loop-test .taken in (
+      d .pre .0,
+      omega (arith, c .before .before .before .before .at16 .ensures .0, d .pre .6 (l .i) t),
+      omega (arith, l .inv .4, d .pre .2),
+      d .pre .4,
+      λ u. omega (arith, l .inv .5 .stamps 1073741824 (d .pre .5) u, d .pre .1, t),
     )
 
 add-i : tie.Need-add-i Inv-loop μ-loop
@@ -48,19 +44,17 @@ loop-less : tie.Need-loop-less Inv-loop μ-loop
 loop-less c = search needs
 
 loop-again : tie.Need-loop-again Inv-loop μ-loop
-loop-again c =
-    let d = c .before .before .before .before .before .before .before .before .before .before .before .before .before .before .before .before .before .before .before .before .before .before .before .before .before .before .before .before in
+loop-again c = let d = c .before .before .before .before .before .before .before .before .before .before .before .before .before .before .before .before .before .before .before .before .before .before .before .before in
     let a = d .args in
-    let l = c .before .before .before .before .before .before .before .before .before .before .before .before .before .before .before .before .before .before .loop in
-    let t = c .before .before .before .before .before .before .before .before .before .before .before .before .before .before .before .before .before .loop-test .taken in (
+    let l = c .before .before .before .before .before .before .before .before .before .before .before .before .before .before .before .loop in
+    let t = c .before .before .before .before .before .before .before .before .before .before .before .before .before .before .loop-test .taken in (
       omega (arith, t),
       search needs,
       search needs,
       search needs,
       search needs,
-      search needs,
-      next-net (a .words .now) (place (a .nets) (a .vertices) (a .sides) (a .m) (a .n)) (a .weights .now) (a .locked) (a .own .now) (l .i) (c .before .before .before .before .before .before .before .before .before .before .before .before .before .before .before .before .at16 .result) _ _ _ (omega (arith, t, d .pre .4))
-          (c .before .before .before .before .before .before .before .before .before .before .before .before .before .before .before .before .at16 .ensures .0) (l .inv .6) (c .before .before .before .before .before .before .before .before .before .before .enter-net .ensures),
+      next-net (a .words .now) (place (a .nets) (a .vertices) (a .sides) (a .m) (a .n)) (a .weights .now) (a .locked) (a .own .now) (l .i) (c .before .before .before .before .before .before .before .before .before .before .before .before .before .at16 .result) _ _ _ (omega (arith, t, d .pre .3))
+          (c .before .before .before .before .before .before .before .before .before .before .before .before .before .at16 .ensures .0) (l .inv .5) (c .before .before .before .before .before .before .before .before .enter-net .ensures),
     )
 
 same-length : tie.Need-same-length Inv-loop μ-loop
@@ -75,14 +69,10 @@ same-length-3 c = c .before .loop .inv .3
 same-length-4 : tie.Need-same-length-4 Inv-loop μ-loop
 same-length-4 c = c .before .loop .inv .4
 
-same-length-5 : tie.Need-same-length-5 Inv-loop μ-loop
-same-length-5 c = c .before .loop .inv .5
-
 returns : tie.Need-returns Inv-loop μ-loop
-returns c =
-    let a = c .before .before .before .before .before .before .before .before .before .before .before .args in
+returns c = let a = c .before .before .before .before .before .before .before .before .before .before .args in
     let l = c .before .loop in
-    all-nets (a .words .now) (place (a .nets) (a .vertices) (a .sides) (a .m) (a .n)) (a .weights .now) (a .locked) (a .own .now) (l .i) (a .count) _ _ (omega arith) (l .inv .6)
+    all-nets (a .words .now) (place (a .nets) (a .vertices) (a .sides) (a .m) (a .n)) (a .weights .now) (a .locked) (a .own .now) (l .i) (a .count) _ _ (omega arith) (l .inv .5)
 
 pub enter-nets-spec : {M : Type 1} → statement M
 enter-nets-spec =
@@ -100,5 +90,4 @@ enter-nets-spec =
     same-length-2
     same-length-3
     same-length-4
-    same-length-5
     returns)

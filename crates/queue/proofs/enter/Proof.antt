@@ -1,6 +1,10 @@
--- `queue::enter` meets its contract. Assumes nothing.
+-- Assumes nothing.
 use borrow.Author.Needs.{needs}
 use Rattle.queue.specs.Enters.{place, entered-is}
+use native.Mathlib.Omega.{arith}
+use Prim.Native.Nat.{ℕ, _+_, _-_, _*_, _<_, _≤_}
+use mathlib.Core.Path.{_≡_, refl, sym, ap, _∙_, subst}
+use lib.ListN.{length, getD, set, length-set}
 use Rattle.queue.proofs.enter.Statement.{statement}
 use Rattle.queue.proofs.enter.Tie as tie
 
@@ -34,15 +38,11 @@ same-length-2 c = search needs
 same-length-3 : tie.Need-same-length-3
 same-length-3 c = search needs
 
-same-length-4 : tie.Need-same-length-4
-same-length-4 c = search needs
-
 returns : tie.Need-returns
-returns c =
-    let a = c .before .before .before .before .before .before .before .before .before .before .before .before .before .before .before .before .before .before .before .before .before .before .before .before .before .before .args in
+returns c = let a = c .before .before .before .before .before .before .before .before .before .before .before .before .before .before .before .before .before .before .before .before .before .before .args in
     entered-is (a .words .now) (place (a .nets) (a .vertices) (a .sides) (a .m) (a .n)) (a .weights .now) (a .draws .now) (a .at) (a .stamp) (a .v) (c .after .result)
-    (a .keys .now) (a .stamps .now) (a .waiting .now) _ _ _ (c .before .before .before .before .before .before .before .before .before .before .before .before .before .before .before .before .before .gain .result) (c .before .before .before .before .before .before .before .before .before .before .before .before .before .before .unit .result) (c .before .before .before .before .before .before .before .before .before .before .before .before .before .key-of .result)
-    (c .before .before .before .before .before .before .before .before .before .before .before .before .before .before .before .before .before .gain .ensures) (c .before .before .before .before .before .before .before .before .before .before .before .before .before .before .unit .ensures) (c .before .before .before .before .before .before .before .before .before .before .before .before .before .key-of .ensures) (c .before .before .before .before .before .before .before .before .before .before .before .putf .ensures) (c .before .before .before .before .before .before .before .put64 .ensures) (c .before .before .before .put8 .ensures) (c .after .ensures)
+    (a .keys .now) (a .stamps .now) (a .waiting .now) _ _ _ (c .before .before .before .before .before .before .before .before .before .before .before .before .before .before .before .gain .result) (c .before .before .before .before .before .before .before .before .before .before .before .before .before .before .unit .result) (c .before .before .before .before .before .before .before .before .before .before .before .before .before .key-of .result)
+    (c .before .before .before .before .before .before .before .before .before .before .before .before .before .before .before .gain .ensures) (c .before .before .before .before .before .before .before .before .before .before .before .before .before .before .unit .ensures) (c .before .before .before .before .before .before .before .before .before .before .before .before .before .key-of .ensures) (c .before .before .before .before .before .before .before .before .before .before .before .putf .ensures) (c .before .before .before .before .before .before .before .put64 .ensures) (c .before .before .before .put8 .ensures) (c .after .ensures)
 
 pub enter-spec : {M : Type 1} → statement M
 enter-spec =
@@ -58,5 +58,4 @@ enter-spec =
     same-length
     same-length-2
     same-length-3
-    same-length-4
     returns)

@@ -1,34 +1,28 @@
--- `queue::enter_all` meets its contract. The invariant: the vertices below v were entered. Assumes nothing.
+-- Assumes nothing.
 use borrow.Author.Needs.{needs}
-use native.Mathlib.Omega.{arith}
-use Prim.Native.Nat.{_-_, _≤_}
-use mathlib.Core.Path.{_≡_, refl, sym}
-use lib.ListN.{length}
-use Rattle.draws.specs.Cursor.{wordsAt}
-use Rattle.queue.specs.Queues.{queueOf}
 use Rattle.queue.specs.Enters.{place, AllEntered, one-more, all-of}
+use Rattle.queue.specs.Queues.{queueOf}
+use Rattle.draws.specs.Cursor.{wordsAt}
+use native.Mathlib.Omega.{arith}
+use Prim.Native.Nat.{ℕ, _+_, _-_, _*_, _<_, _≤_}
+use mathlib.Core.Path.{_≡_, refl, sym, ap, _∙_, subst}
+use lib.ListN.{length, getD, set, length-set}
 use Rattle.queue.proofs.enter_all.Statement.{statement}
 use Rattle.queue.proofs.enter_all.Tie as tie
 
 abbrev Inv-loop : tie.InvT-loop
-Inv-loop words nets vertices sides m n weights draws at keys₀ stamps₀ waiting₀ list₀ t₀ v₀ keys stamps waiting list t v =
-    (v ≤ n) × (length list ≡ 256) × (length keys ≡ length keys₀) × (length stamps ≡ length stamps₀) × (length waiting ≡ length waiting₀)
+Inv-loop words nets vertices sides m n weights draws at keys₀ stamps₀ waiting₀ t₀ v₀ keys stamps waiting t v =
+    (v ≤ n) × (length keys ≡ length keys₀) × (length stamps ≡ length stamps₀) × (length waiting ≡ length waiting₀)
     × AllEntered words (place nets vertices sides m n) weights v (queueOf keys₀ stamps₀ waiting₀ (wordsAt draws at)) (queueOf keys stamps waiting (wordsAt draws t))
 
 abbrev μ-loop : tie.MeasureT-loop
-μ-loop words nets vertices sides m n weights draws at keys₀ stamps₀ waiting₀ list₀ t₀ v₀ keys stamps waiting list t v = n - v
+μ-loop words nets vertices sides m n weights draws at keys₀ stamps₀ waiting₀ t₀ v₀ keys stamps waiting t v = n - v
 
 loop-holds : tie.Need-loop-holds Inv-loop μ-loop
-loop-holds c = (omega arith, refl, refl, refl, refl, λ vw. refl)
-
-slice-aggregate-enter : tie.Need-slice-aggregate-enter Inv-loop μ-loop
-slice-aggregate-enter c = sym (c .before .before .loop .inv .1)
+loop-holds c = (omega arith, refl, refl, refl, λ vw. refl)
 
 enter-requires : tie.Need-enter-requires Inv-loop μ-loop
-enter-requires c κs =
-    let d = c .before .before .before .before .before .before .before .before .before .before .before .before in
-    let l = c .before .before .before .before .before .loop in
-    (omega arith, omega (arith, l .inv .1), d .pre)
+enter-requires c κs = search needs
 
 add-v : tie.Need-add-v Inv-loop μ-loop
 add-v c = search needs
@@ -37,32 +31,28 @@ loop-less : tie.Need-loop-less Inv-loop μ-loop
 loop-less c = search needs
 
 loop-again : tie.Need-loop-again Inv-loop μ-loop
-loop-again c =
-    let a = c .before .before .before .before .before .before .before .before .before .before .before .before .before .before .before .before .before .before .before .before .args in
-    let l = c .before .before .before .before .before .before .before .before .before .before .before .before .before .loop in
-    let e = c .before .before .before .before .before .before .before .enter in (
+loop-again c = let a = c .before .before .before .before .before .before .before .before .before .before .before .before .before .before .before .before .before .before .args in
+    let l = c .before .before .before .before .before .before .before .before .before .before .before .loop in (
       omega arith,
       search needs,
       search needs,
       search needs,
-      search needs,
-      one-more (a .words .now) (place (a .nets) (a .vertices) (a .sides) (a .m) (a .n)) (a .weights .now) (l .v) _ _ _ (l .inv .5) (e .ensures),
+      one-more (a .words .now) (place (a .nets) (a .vertices) (a .sides) (a .m) (a .n)) (a .weights .now) (l .v) _ _ _ (l .inv .4) (c .before .before .before .before .before .before .enter .ensures),
     )
 
 same-length : tie.Need-same-length Inv-loop μ-loop
-same-length c = c .before .loop .inv .2
+same-length c = c .before .loop .inv .1
 
 same-length-2 : tie.Need-same-length-2 Inv-loop μ-loop
-same-length-2 c = c .before .loop .inv .3
+same-length-2 c = c .before .loop .inv .2
 
 same-length-3 : tie.Need-same-length-3 Inv-loop μ-loop
-same-length-3 c = c .before .loop .inv .4
+same-length-3 c = c .before .loop .inv .3
 
 returns : tie.Need-returns Inv-loop μ-loop
-returns c =
-    let a = c .before .before .before .before .before .before .before .before .args in
+returns c = let a = c .before .before .before .before .before .before .before .before .args in
     let l = c .before .loop in
-    all-of (a .words .now) (place (a .nets) (a .vertices) (a .sides) (a .m) (a .n)) (a .weights .now) (l .v) (a .n) _ _ (omega arith) (l .inv .5)
+    all-of (a .words .now) (place (a .nets) (a .vertices) (a .sides) (a .m) (a .n)) (a .weights .now) (l .v) (a .n) _ _ (omega arith) (l .inv .4)
 
 pub enter-all-spec : {M : Type 1} → statement M
 enter-all-spec =
@@ -71,7 +61,6 @@ enter-all-spec =
     Inv-loop
     μ-loop
     loop-holds
-    slice-aggregate-enter
     enter-requires
     add-v
     loop-less

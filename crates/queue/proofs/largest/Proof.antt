@@ -1,54 +1,49 @@
--- `queue::largest` meets its contract. The invariant: b has the first entry of the vertices below v. Assumes nothing.
+-- Assumes nothing.
 use borrow.Author.Needs.{needs}
-use native.Mathlib.Omega.{arith}
-use Prim.Native.Nat.{_-_, _≤_}
-use mathlib.Core.Option.{none}
-use mathlib.Core.Path.{_≡_, ap, _∙_}
-use Rattle.spec.specs.Lists.{range}
+use Rattle.queue.specs.Queues.{queueOf, noWords, entryAt, entry-none, offered-none}
+use Rattle.queue.specs.Open.{openIn, none-past, fold-open}
+use Rattle.bits.specs.Lowest.{places}
 use Rattle.spec.specs.Hypergraph.{foldOver}
 use Rattle.spec.specs.Fm.{offered}
-use Rattle.partition.specs.Folds.{range-next}
-use Rattle.queue.specs.Queues.{queueOf, noWords, entryAt, entry-none}
+use mathlib.Core.Option.{none}
+use native.Mathlib.Omega.{arith}
+use Prim.Native.Nat.{ℕ, _+_, _-_, _*_, _<_, _≤_}
+use mathlib.Core.Path.{_≡_, refl, sym, ap, _∙_, subst}
+use lib.ListN.{length, getD, set, length-set}
 use Rattle.queue.proofs.largest.Statement.{statement}
 use Rattle.queue.proofs.largest.Tie as tie
 
-abbrev Inv-loop : tie.InvT-loop
-Inv-loop keys stamps waiting n b₀ v₀ b v =
-    (v ≤ n) × (b ≤ n) × (entryAt n (queueOf keys stamps waiting noWords) b ≡ foldOver (offered (queueOf keys stamps waiting noWords)) (range v) none)
+open-word-requires : tie.Need-open-word-requires
+open-word-requires c κs = search needs
 
-abbrev μ-loop : tie.MeasureT-loop
-μ-loop keys stamps waiting n b₀ v₀ b v = n - v
+open-word-requires-2 : tie.Need-open-word-requires-2
+open-word-requires-2 c κs = search needs
 
-loop-holds : tie.Need-loop-holds Inv-loop μ-loop
-loop-holds c =
-    let a = c .before .before .before .args in
-    (omega arith, omega arith, entry-none (a .n) (queueOf (a .keys .now) (a .stamps .now) (a .waiting .now) noWords))
+offer-word-requires : tie.Need-offer-word-requires
+offer-word-requires c κs = search needs
 
-offer-requires : tie.Need-offer-requires Inv-loop μ-loop
-offer-requires c κs = search needs
+offer-word-requires-2 : tie.Need-offer-word-requires-2
+offer-word-requires-2 c κs = search needs
 
-add-v : tie.Need-add-v Inv-loop μ-loop
-add-v c = search needs
-
-loop-less : tie.Need-loop-less Inv-loop μ-loop
-loop-less c = search needs
-
-loop-again : tie.Need-loop-again Inv-loop μ-loop
-loop-again c =
-    let a = c .before .before .before .before .before .before .args in
-    let l = c .before .before .loop in
+returns : tie.Need-returns
+returns c = let d = c .before .before .before .before .before .before .before .before in
+    let a = d .args in
     let q = queueOf (a .keys .now) (a .stamps .now) (a .waiting .now) noWords in
-    (omega arith, c .offer .ensures .0, range-next (offered q) none (entryAt (a .n) q (l .b)) (entryAt (a .n) q (c .offer .result)) (l .v) (l .inv .2) (c .offer .ensures .1))
-
-returns : tie.Need-returns Inv-loop μ-loop
-returns c =
-    let a = c .before .before .before .before .before .args in
-    let l = c .before .loop in
-    let q = queueOf (a .keys .now) (a .stamps .now) (a .waiting .now) noWords in
-    let e : l .v ≡ a .n = omega arith in
-    (l .inv .1, l .inv .2 ∙ ap (λ k. foldOver (offered q) (range k) none) e)
+    let x = c .before .before .before .open-word in
+    let y = c .before .before .open-word2 in (
+      c .offer-word2 .ensures .0,
+      c .offer-word2 .ensures .1
+          ∙ ap (foldOver (offered q) (places 64 64 (y .result))) (c .before .offer-word .ensures .1 ∙ ap (foldOver (offered q) (places 0 64 (x .result))) (entry-none (a .n) q))
+          ∙ fold-open (offered q) (openIn (a .graph .now) (a .sides)) 64 (a .n) (x .result) (y .result) none (x .ensures) (y .ensures) (d .pre .1)
+          (λ v h e o. offered-none q v (d .pre .3 v h e) o) (λ v h o. offered-none q v (none-past (a .waiting .now) (a .n) v (d .pre .2) h) o),
+    )
 
 pub largest-spec : {M : Type 1} → statement M
 largest-spec =
     tie.close
-    (tie.spec Inv-loop μ-loop loop-holds offer-requires add-v loop-less loop-again returns)
+    (tie.spec
+    open-word-requires
+    open-word-requires-2
+    offer-word-requires
+    offer-word-requires-2
+    returns)

@@ -17,7 +17,8 @@ returns-3 : tie.Need-returns-3
 returns-3 c = large-outputs _ _ _ _ (c .if3 .taken)
 
 slice-aggregate-above : tie.Need-slice-aggregate-above
-slice-aggregate-above c = simp length-take (omega arith)
+slice-aggregate-above c =
+    simp length-take (omega (arith, c .before .before .before .before .before .pre (omega (arith, c .before .before .before .if1 .left))))
 
 cast-above : tie.Need-cast-above
 cast-above c = search needs
@@ -26,7 +27,8 @@ above-requires : tie.Need-above-requires
 above-requires c κs = search needs
 
 returns-4 : tie.Need-returns-4
-returns-4 c = c .above .ensures ∙ large-legs _ _ _ _ (c .before .before .before .before .if1 .left) (c .before .before .before .if2 .left) (c .before .before .if3 .left) (omega arith)
+returns-4 c = c .above .ensures ∙ large-legs _ _ _ _ (c .before .before .before .before .if1 .left) (c .before .before .before .if2 .left) (c .before .before .if3 .left)
+    (c .before .before .before .before .before .before .pre (omega (arith, c .before .before .before .before .if1 .left)))
 
 pub too-large-spec : {M : Type 1} → statement M
 too-large-spec =
