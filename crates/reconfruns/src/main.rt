@@ -27,10 +27,10 @@ fn improve(
     let mut ws = [0u64; 36864];
     let improved = reconfigure::reconfigure(network, k, passes, limit, flags, tree, &mut ws);
     match improved {
-        Improved::Refused(refusal) => stored::number(b"refused ", refusal as u64),
+        Improved::Refused(refusal) => stored::refused(refusal),
         Improved::Done(counts) => {
             stored::number(b"improved ", counts.rebuilt);
-            stored::number(b" ", counts.tried);
+            stored::spaced(counts.tried);
             stored::numbers(tree, tree.len());
         }
     }
@@ -73,7 +73,7 @@ fn run(bytes: &mut [u8], count: usize, k: usize, passes: usize, limit: Limit) {
             improve_found(network, found, &flags, &mut tree, k, passes, limit);
         }
     }
-    io::write_all(1, b"\n");
+    stored::end_line();
 }
 
 fn next_case() {
@@ -90,12 +90,8 @@ fn next_case() {
     );
 }
 
-fn all_cases(count: usize) {
-    for _ in 0..count {
+fn main() {
+    for _ in 0..stored::next_number() {
         next_case();
     }
-}
-
-fn main() {
-    all_cases(stored::next_number());
 }

@@ -1,14 +1,17 @@
 -- Assumes nothing.
 use borrow.Author.Needs.{needs}
 use Prim.Native.Nat.{_-_, _≤_}
-use Rattle.reconfruns.proofs.all_cases.Statement.{statement}
-use Rattle.reconfruns.proofs.all_cases.Tie as tie
+use Rattle.reconfruns.proofs.main.Statement.{statement}
+use Rattle.reconfruns.proofs.main.Tie as tie
 
 abbrev Inv-loop : tie.InvT-loop
-Inv-loop count counter₀ counter = counter ≤ count
+Inv-loop counter₀ counter-end counter = counter ≤ counter-end
 
 abbrev μ-loop : tie.MeasureT-loop
-μ-loop count counter₀ counter = count - counter
+μ-loop counter₀ counter-end counter = counter-end - counter
+
+next-number-requires : tie.Need-next-number-requires Inv-loop μ-loop
+next-number-requires c κs = search needs
 
 loop-holds : tie.Need-loop-holds Inv-loop μ-loop
 loop-holds c = search needs
@@ -28,12 +31,13 @@ loop-again c = search needs
 returns : tie.Need-returns Inv-loop μ-loop
 returns c = search needs
 
-pub all-cases-spec : {M : Type 1} → statement M
-all-cases-spec =
+pub main-spec : {M : Type 1} → statement M
+main-spec =
     tie.close
     (tie.spec
     Inv-loop
     μ-loop
+    next-number-requires
     loop-holds
     next-case-requires
     add-counter
