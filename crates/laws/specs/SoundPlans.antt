@@ -45,8 +45,8 @@ abbrev pub PassesCheck : Network → List ℕ → Type 0
 PassesCheck N kids = (words : ℕ) → plainWords ≤ words → validCall N words (take (treePlaces N) kids) ≡ done tt
 
 -- pricing's listing of a tree runs to the direct sum, over tables of any commutative semiring
-abbrev pub ListingSound : Network → (ℕ → Bool) → List Pair → Type 1
-ListingSound N flag a = (R : Semiring) (cells : ℕ → List ℕ → R .Car) → RunsToDirectSum R N cells flag a (listing N flag a)
+abbrev pub RunsSound : Network → (ℕ → Bool) → List Pair → Type 1
+RunsSound N flag a = (R : Semiring) (cells : ℕ → List ℕ → R .Car) → RunsToDirectSum R N cells flag a (listing N flag a)
 
 -- the flags at the front of a list, one an index
 abbrev pub frontFlags : Network → List ℕ → ℕ → Bool
@@ -70,15 +70,15 @@ pub record SoundPlans : Type 1 where
       → sliceCall N improving target words (length flags) kids ≡ done p
       → Sliceable N (frontFlags N (slicedFlags N (sliceCall N improving target words (length flags) kids) flags))
       × (2 ≤ leafCount N
-      → ListingSound N (frontFlags N (slicedFlags N (sliceCall N improving target words (length flags) kids) flags))
+      → RunsSound N (frontFlags N (slicedFlags N (sliceCall N improving target words (length flags) kids) flags))
       (pairsOf (take (treePlaces N) (slicedTree (sliceCall N improving target words (length flags) kids) kids))))
   -- every tree that the check passes, with any named non-outputs sliced
   pub checkedRuns : (N : Network) → 2 ≤ leafCount N → (words : ℕ) (kids : List ℕ) → validCall N words kids ≡ done tt
-      → (flag : ℕ → Bool) → Sliceable N flag → ListingSound N flag (pairsOf kids)
+      → (flag : ℕ → Bool) → Sliceable N flag → RunsSound N flag (pairsOf kids)
   -- and what pricing hands out is that listing
   pub pricedRuns : (N : Network) → 2 ≤ leafCount N → (words : ℕ) (room : PriceRoom) (flags kids : List ℕ) (p : Prices)
       → priceCall N words room flags kids ≡ done p → Sliceable N (flagAt flags)
-      → ListingSound N (flagAt flags) (pairsOf kids)
+      → RunsSound N (flagAt flags) (pairsOf kids)
       × ((steps : List ℕ) → pricedSteps N flags kids (priceCall N words room flags kids) steps ≡ over steps (flatSteps (listing N (flagAt flags) (pairsOf kids))))
 
 -- ---- proof ----
@@ -172,7 +172,7 @@ slicing-checked N improving target words flags kids p e =
 
 -- the run, of a network and a tree that are checked
 module _ (N : Network) (two : 2 ≤ leafCount N) (kids : List ℕ) (flag : ℕ → Bool) (fine : Sliceable N flag) where
-  runs-checked : Fails (networkChecks false N) → Fails (treeCheck N kids ∷ []) → ListingSound N flag (pairsOf kids)
+  runs-checked : Fails (networkChecks false N) → Fails (treeCheck N kids ∷ []) → RunsSound N flag (pairsOf kids)
   runs-checked ns h R cells =
       listing-runs R N cells flag (pairsOf kids)
       (record {
@@ -183,7 +183,7 @@ module _ (N : Network) (two : 2 ≤ leafCount N) (kids : List ℕ) (flag : ℕ �
       })
 
 checked-runs : (N : Network) → 2 ≤ leafCount N → (words : ℕ) (kids : List ℕ) → validCall N words kids ≡ done tt
-    → (flag : ℕ → Bool) → Sliceable N flag → ListingSound N flag (pairsOf kids)
+    → (flag : ℕ → Bool) → Sliceable N flag → RunsSound N flag (pairsOf kids)
 unfolding validCall
 checked-runs N two words kids e flag fine =
     let (ns, own, _) = answered false N (lengthCheck (lent words plainWords ∷ []) ∷ treeCheck N kids ∷ []) (done tt) tt e in
@@ -205,7 +205,7 @@ slicing-runs : (N : Network) (improving : Bool) (target words : ℕ) (flags kids
     → sliceCall N improving target words (length flags) kids ≡ done p
     → Sliceable N (frontFlags N (slicedFlags N (sliceCall N improving target words (length flags) kids) flags))
     × (2 ≤ leafCount N
-    → ListingSound N (frontFlags N (slicedFlags N (sliceCall N improving target words (length flags) kids) flags))
+    → RunsSound N (frontFlags N (slicedFlags N (sliceCall N improving target words (length flags) kids) flags))
     (pairsOf (take (treePlaces N) (slicedTree (sliceCall N improving target words (length flags) kids) kids))))
 slicing-runs N improving target words flags kids p e =
     let fine : Sliceable N (frontFlags N (slicedFlags N (sliceCall N improving target words (length flags) kids) flags)) =
@@ -218,7 +218,7 @@ slicing-runs N improving target words flags kids p e =
 
 priced-runs : (N : Network) → 2 ≤ leafCount N → (words : ℕ) (room : PriceRoom) (flags kids : List ℕ) (p : Prices)
     → priceCall N words room flags kids ≡ done p → Sliceable N (flagAt flags)
-    → ListingSound N (flagAt flags) (pairsOf kids)
+    → RunsSound N (flagAt flags) (pairsOf kids)
     × ((steps : List ℕ) → pricedSteps N flags kids (priceCall N words room flags kids) steps ≡ over steps (flatSteps (listing N (flagAt flags) (pairsOf kids))))
 unfolding priceCall
 priced-runs N two words room flags kids p e fine =
