@@ -2,7 +2,7 @@
 // of it improved, a tree of it sliced.
 ghost use mathlib.Core.Path.{_≡_};
 ghost use Prim.Native.Nat.{_≤_};
-ghost use lib.ListN.{length};
+ghost use lib.ListN.{length, take};
 ghost use Rattle.spec.specs.Memory.{over};
 ghost use Rattle.spec.specs.Host.{hostCall, Answered, lentNetwork, limitNumber, improvingNumber};
 ghost use Rattle.spec.specs.Output.{planBytes};
