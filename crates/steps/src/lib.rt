@@ -148,3 +148,36 @@ pub fn step_records(
     put_listed(steps, listed);
     answer_of(listed)
 }
+
+// What `step_records` answers, and the records after it.
+pub struct PricedSteps {
+    pub priced: Priced,
+    pub steps: [Step; 127],
+}
+
+// The answer and the records together.
+fn both(priced: Priced, steps: [Step; 127]) -> PricedSteps
+    ensures { λ r. ⌜ r ≡ record { priced = priced; steps = steps } ⌝ }
+{
+    PricedSteps {
+        priced: priced,
+        steps: steps,
+    }
+}
+
+// `step_records` for a caller that holds the records by value: they are lent to it, and handed back.
+pub fn recorded(
+    network: Network,
+    flags: &[u8],
+    tree: &[u16],
+    ws: &mut [u64],
+    sets: &mut [u64],
+    sizes: &mut [u16],
+    works: &mut [u16],
+    mut records: [Step; 127],
+) -> PricedSteps
+    ensures { λ r. ⌜ StepRecords (netOf network) (now (flags .entry)) (now (tree .entry)) (now (ws .entry)) (now (sets .entry)) (now (sizes .entry)) (now (works .entry)) records (now (ws .exit)) (now (sets .exit)) (now (sizes .exit)) (now (works .exit)) (r .steps) (r .priced) ⌝ }
+{
+    let priced = step_records(network, flags, tree, ws, sets, sizes, works, &mut records);
+    both(priced, records)
+}

@@ -73,7 +73,9 @@ use Rattle.steps.proofs.step_records.Key.{name as #steps·step-records}
 use Rattle.steps.proofs.step_records as own′
 use Rattle.steps.proofs.step_records.Statement as stated
 use Rattle.steps.proofs.step_records.Code as code
-use Rattle.steps.proofs.step_records.Proof.Types.{word, shared8, shared16, lent64, lent16, records, ref64, ref16, refStep, with-types}
+use Rattle.steps.proofs.Tokens as tokens
+use Rattle.steps.proofs.Types.{word, shared8, shared16, lent64, lent16, ref64, ref16, refStep}
+use Rattle.steps.proofs.step_records.Proof.Types.{records, with-types}
 
 abbrev stayed : Stays (own′.ended .signature .params) (own′.ended .kept)
 stayed = (
@@ -120,10 +122,10 @@ module _ {M : Type 1} (𝓤 : URA M) (H : Heap 𝓤) (A : Atoms 𝓤) (W : Given
   Post = walkOf 𝓤 H A own′.ended stayed (own′.clauses 𝓤 H A mem run) .post (((κ₀, (κ₁, (κ₂, (κ₃, (κ₄, (κ₅, (κ₆, tt))))))), (q₀, (q₁, (q₂, (q₃, (q₄, (q₅, (q₆, tt))))))), tt, a, vals), tt)
 
   abbrev Tok7 : Item 𝓤
-  Tok7 = ‵ (flft κ₀ q₀) ⊛ ‵ (flft κ₁ q₁) ⊛ ‵ (flft κ₂ q₂) ⊛ ‵ (flft κ₃ q₃) ⊛ ‵ (flft κ₄ q₄) ⊛ ‵ (flft κ₅ q₅) ⊛ ‵ (flft κ₆ q₆) ⊛ ‵ ftrue
+  Tok7 = tokens.Tok7 𝓤 H A W κ₀ κ₁ κ₂ κ₃ κ₄ κ₅ q₀ q₁ q₂ q₃ q₄ q₅ κ₆ q₆
 
   abbrev Tok6 : Item 𝓤
-  Tok6 = ‵ (flft κ₀ q₀) ⊛ ‵ (flft κ₁ q₁) ⊛ ‵ (flft κ₂ q₂) ⊛ ‵ (flft κ₃ q₃) ⊛ ‵ (flft κ₄ q₄) ⊛ ‵ (flft κ₅ q₅) ⊛ ‵ ftrue
+  Tok6 = tokens.Tok6 𝓤 H A W κ₀ κ₁ κ₂ κ₃ κ₄ κ₅ q₀ q₁ q₂ q₃ q₄ q₅
 
   -- what the flags, the tree and the records own
   abbrev Flags : Item 𝓤
@@ -151,28 +153,13 @@ module _ {M : Type 1} (𝓤 : URA M) (H : Heap 𝓤) (A : Atoms 𝓤) (W : Given
   abbrev to-price : Price 𝓤 H A mem run .Ghost
   to-price = (((κ₀, (κ₁, (κ₂, (κ₃, (κ₄, (κ₅, tt)))))), (q₀, (q₁, (q₂, (q₃, (q₄, (q₅, tt)))))), tt, args, passed), tt)
 
-  -- the tokens, without the last and with it
-  tok-out : ent 𝓤 (⋆ 𝓤 H A (Tok7 ∷ [])) (⋆ 𝓤 H A (Tok6 ∷ ‵ (flft κ₆ q₆) ∷ []))
-  tok-out =
-      qed W (Tok7 ∷ []) ∵ split ! $ move ! (1 ∷ []) $ split ! $ move ! (1 ∷ []) $ split ! $ move ! (1 ∷ []) $ split ! $ move ! (1 ∷ []) $ split ! $ move ! (1 ∷ []) $ split ! $ move ! (1 ∷ []) $ split ! $
-      -- [6; true; 5; 4; 3; 2; 1; 0]
-      move ! (2 ∷ 1 ∷ []) $ join ! $ move ! (2 ∷ 0 ∷ []) $ join ! $ move ! (2 ∷ 0 ∷ []) $ join ! $ move ! (2 ∷ 0 ∷ []) $ join ! $ move ! (2 ∷ 0 ∷ []) $ join ! $ move ! (2 ∷ 0 ∷ []) $ join ! $
-      frame ! $ done !
-
-  tok-in : ent 𝓤 (⋆ 𝓤 H A (Tok6 ∷ (‵ (flft κ₆ q₆) ⊛ ‵ ftrue) ∷ [])) (⋆ 𝓤 H A (Tok7 ∷ []))
-  tok-in =
-      qed W (Tok6 ∷ (‵ (flft κ₆ q₆) ⊛ ‵ ftrue) ∷ []) ∵ split ! $ move ! (1 ∷ []) $ split ! $ move ! (1 ∷ []) $ split ! $ move ! (1 ∷ []) $ split ! $ move ! (1 ∷ []) $ split ! $ move ! (1 ∷ []) $ split ! $
-      -- [5; true; 4; 3; 2; 1; 0; 6 and true]
-      move ! (0 ∷ 7 ∷ []) $ join ! $ move ! (2 ∷ 0 ∷ []) $ join ! $ move ! (2 ∷ 0 ∷ []) $ join ! $ move ! (2 ∷ 0 ∷ []) $ join ! $ move ! (2 ∷ 0 ∷ []) $ join ! $ move ! (2 ∷ 0 ∷ []) $ join ! $
-      move ! (1 ∷ []) $ drop ! $ done !
-
   asked : ent 𝓤 (onEntry 𝓤 H A price.signature (κ₀, (κ₁, (κ₂, (κ₃, (κ₄, (κ₅, tt)))))) (q₀, (q₁, (q₂, (q₃, (q₄, (q₅, tt)))))) args passed) (Price 𝓤 H A mem run .pre to-price)
   asked = qed W (Tok6 ∷ ‵ (owns (N.the-row ∷ ShrSlice (named 0) κ₀ u8 ∷ ShrSlice (named 1) κ₁ u16 ∷ MutSlice (named 2) κ₂ u64 ∷ MutSlice (named 3) κ₃ u64 ∷ MutSlice (named 4) κ₄ u16 ∷ MutSlice (named 5) κ₅ u16 ∷ usize ∷ []) args passed) ∷ []) ∵ join ! $ frame ! $ done !
 
   -- what the parameters own gives what `price_listed` asks; copies of the two `&` and the records are kept
   apart : ent 𝓤 (⋆ 𝓤 H A (Tok7 ∷ ‵ (owns Rows a vals) ∷ [])) (⋆ 𝓤 H A (raw (Price 𝓤 H A mem run .pre to-price) ∷ Rest ∷ []))
   apart =
-      qed W (Tok7 ∷ ‵ (owns Rows a vals) ∷ []) ∵ use1 W (Tok6 ⊛ ‵ (flft κ₆ q₆)) tok-out $ split ! $ move ! (2 ∷ []) $
+      qed W (Tok7 ∷ ‵ (owns Rows a vals) ∷ []) ∵ use1 W (Tok6 ⊛ ‵ (flft κ₆ q₆)) (tokens.tok-out 𝓤 H A W κ₀ κ₁ κ₂ κ₃ κ₄ κ₅ q₀ q₁ q₂ q₃ q₄ q₅ κ₆ q₆) $ split ! $ move ! (2 ∷ []) $
       fsplit ! $ move ! (1 ∷ []) $ fsplit ! $ move ! (1 ∷ []) $ fsplit ! $ move ! (1 ∷ []) $ fsplit ! $ move ! (1 ∷ []) $ fsplit ! $ move ! (1 ∷ []) $ fsplit ! $ move ! (1 ∷ []) $ fsplit ! $ move ! (1 ∷ []) $ fsplit ! $
       -- [the records; true; works; sizes; sets; ws; tree; flags; network; the six tokens; the last]
       move ! (6 ∷ []) $ use1 W (Tree ⊛ Tree) (shr-slice-copy 𝓤 H A W (named 1) κ₁ u16 .twice f₁ (sv f₁ ∷ [])) $ split ! $
@@ -216,7 +203,7 @@ module _ {M : Type 1} (𝓤 : URA M) (H : Heap 𝓤) (A : Atoms 𝓤) (W : Given
       ∷ ‵ (finally T.the-row (w₆ .name) ss) ∷ Flags ∷ Tree ∷ ‵ (P.the-row .own x (v ∷ [])) ∷ []) ∵
       suffices ! _ (ends-at 𝓤 H A own′.ended stayed (own′.clauses 𝓤 H A mem run) W (((κ₀, (κ₁, (κ₂, (κ₃, (κ₄, (κ₅, (κ₆, tt))))))), (q₀, (q₁, (q₂, (q₃, (q₄, (q₅, (q₆, tt))))))), tt, a, vals), tt) v x
       (tt, (tt, (tt, (zs .1 .1 .1 .0, (zs .1 .1 .1 .1 .0, (zs .1 .1 .1 .1 .1 .0, (zs .1 .1 .1 .1 .1 .1 .0, (ss, tt)))))))) (tt, (tt, (tt, (e₂, (e₃, (e₄, (e₅, (e₆, tt))))))))) $ says ! promise $
-      use2 W Tok7 tok-in $ frame ! $ nothing ! $
+      use2 W Tok7 (tokens.tok-in 𝓤 H A W κ₀ κ₁ κ₂ κ₃ κ₄ κ₅ q₀ q₁ q₂ q₃ q₄ q₅ κ₆ q₆) $ frame ! $ nothing ! $
       -- [true; ws; sets; sizes; works; the records; flags; tree; the result]
       move ! (5 ∷ 0 ∷ []) $ fjoin ! $ move ! (4 ∷ 0 ∷ []) $ fjoin ! $ move ! (3 ∷ 0 ∷ []) $ fjoin ! $ move ! (2 ∷ 0 ∷ []) $ fjoin ! $ move ! (1 ∷ 0 ∷ []) $ fjoin ! $ move ! (2 ∷ 0 ∷ []) $ fjoin ! $ move ! (1 ∷ 0 ∷ []) $ fjoin ! $
       owned ! N.the-row (Is N.the-row) ((LL.makes N.the-type N′.the-plain) 𝓤 H A) net _ is-net $ fjoin ! $ done !

@@ -1,42 +1,18 @@
--- The types of the locals of `step_records`. Assumes nothing.
+-- The types of `step_records`. Assumes nothing.
 use mathlib.Core.Path.{_≡_, refl}
 use mathlib.Core.List.{[], _∷_}
-use Prim.Native.Nat.{ℕ}
-use mir.Syntax.{Ty, Fn, local, valueLocal, named, erased, mut, imm, w8, w16, w64, tyInt, tyRef, tyUnit}
+use mir.Syntax.{Ty, Fn, local, valueLocal, named, mut, tyRef, tyUnit}
 use denote.Memory.{pointee}
 use denote.Slice.{sliceTy}
 use Rattle.network.proofs.Network.Laws as N′
 use Rattle.cost.proofs.Priced.Laws as P′
 use Rattle.steps.proofs.Step as T
 use Rattle.steps.proofs.Listed.Laws as L′
+use Rattle.steps.proofs.Types.{word, shared8, shared16, lent64, lent16, ref64, ref16, refStep}
 use Rattle.steps.proofs.step_records.Code as code
-
-abbrev pub word : Ty
-word = tyInt w64
-
-abbrev pub shared8 : Ty
-shared8 = sliceTy (tyRef (named 0) imm (tyInt w8))
-
-abbrev pub shared16 : Ty
-shared16 = sliceTy (tyRef (named 1) imm (tyInt w16))
-
-abbrev pub lent64 : ℕ → Ty
-lent64 k = sliceTy (tyRef (named k) mut (tyInt w64))
-
-abbrev pub lent16 : ℕ → Ty
-lent16 k = sliceTy (tyRef (named k) mut (tyInt w16))
 
 abbrev pub records : Ty
 records = sliceTy (tyRef (named 6) mut (pointee (T.the-row .written)))
-
-abbrev pub ref64 : Ty
-ref64 = tyRef erased mut (tyInt w64)
-
-abbrev pub ref16 : Ty
-ref16 = tyRef erased mut (tyInt w16)
-
-abbrev pub refStep : Ty
-refStep = tyRef erased mut (pointee (T.the-row .written))
 
 -- the function, with any types for its answer, its network and its listing; and as it is
 abbrev pub with-types : Ty → Ty → Ty → Fn
