@@ -2,11 +2,13 @@
 //!
 //! Its input: a 4-byte count; for each case a 4-byte length and so many bytes of a network file; high bytes first. Its output, a line a case:
 //!
-//!   refused K
-//!   priced S total T widest W bits B sum C
+//!   refused K records file refused K
+//!   refused K records refused K D
+//!   priced S total T widest W bits B sum C records D
 //!
 //! S steps; T the total, or `beyond`; W the widest size in bits, or `-`; B slice bits. C is a sum over node, left, right, work bits and size
-//! bits of each step: it starts with 0, and each number x takes it to (C * 65599 + x + 1) modulo 2^32.
+//! bits of each step: it starts with 0, and each number x takes it to (C * 65599 + x + 1) modulo 2^32. D is that sum over 127 records, the
+//! steps in front and every other as it was before the call: 65535, 65534, 65533, 65532, 65531.
 
 use crate::case::Case;
 use crate::listing::{sum_of_powers, Total};
@@ -28,9 +30,24 @@ fn whole(log: f64) -> u16 {
     near as u16
 }
 
-fn sum(steps: &[Step]) -> u32 {
-    let numbers = steps.iter().flat_map(|s| [s.node, s.left, s.right, whole(s.log2_flops), whole(s.log2_size)]);
-    numbers.fold(0u32, |sum, x| sum.wrapping_mul(65599).wrapping_add(x as u32 + 1))
+type StepNumbers = [u16; 5];
+
+/// A record before the call.
+const UNSET: StepNumbers = [65535, 65534, 65533, 65532, 65531];
+/// Records that are lent.
+const RECORDS: usize = 127;
+
+fn numbers_of(step: &Step) -> StepNumbers {
+    [step.node, step.left, step.right, whole(step.log2_flops), whole(step.log2_size)]
+}
+
+fn sum(steps: impl Iterator<Item = StepNumbers>) -> u32 {
+    steps.flatten().fold(0u32, |sum, x| sum.wrapping_mul(65599).wrapping_add(x as u32 + 1))
+}
+
+/// The sum over all records, with these steps in front.
+fn records(steps: &[Step]) -> u32 {
+    sum(steps.iter().map(numbers_of).chain(std::iter::repeat(UNSET)).take(RECORDS))
 }
 
 fn priced(cost: &Cost) -> String {
@@ -48,11 +65,20 @@ fn priced(cost: &Cost) -> String {
     };
     let widest = if cost.log2_max == f64::NEG_INFINITY { "-".into() } else { whole(cost.log2_max).to_string() };
     let bits = whole(cost.log2_slices);
-    format!("priced {} total {total} widest {widest} bits {bits} sum {}", cost.steps.len(), sum(&cost.steps))
+    let listed = sum(cost.steps.iter().map(numbers_of));
+    format!("priced {} total {total} widest {widest} bits {bits} sum {listed} records {}", cost.steps.len(), records(&cost.steps))
 }
 
-fn line(answer: &Answer) -> String {
-    answer.cost.as_ref().map_or("refused 8".into(), priced)
+/// A tree with a fault is refused with its file; a file without a tree is read, and pricing refuses.
+fn refused(case: &Case) -> String {
+    match case.tree {
+        Some(_) => "refused 8 records file refused 8".into(),
+        None => format!("refused 8 records refused 8 {}", records(&[])),
+    }
+}
+
+fn line(case: &Case, answer: &Answer) -> String {
+    answer.cost.as_ref().map_or_else(|| refused(case), priced)
 }
 
 /// The cases: at the edges of totals, and at random.
@@ -86,7 +112,7 @@ pub fn run(folder: &Path) -> io::Result<()> {
         let file = case.file();
         input.extend((file.len() as u32).to_be_bytes());
         input.extend(file);
-        output += &line(&answer);
+        output += &line(case, &answer);
         output.push('\n');
     }
     fs::create_dir_all(folder)?;

@@ -1,8 +1,9 @@
 // Prices stored network files and writes a line for each, to be held to the Rust's answers.
 // The form of input and output is stated in harness/src/record.rs, which makes both.
-mod words;
+mod records; // records.rt: the steps as records
+mod words; // words.rt: the listing
 
-// One case: the listing, or the number of the refusal.
+// One case: the listing and the records, or the number of the refusal.
 fn price(file: &[u8]) {
     let mut out = [0u8; 1286];
     let refusal = listing::price(file, &mut out);
@@ -11,6 +12,7 @@ fn price(file: &[u8]) {
     } else {
         stored::number(b"refused ", refusal as u64);
     }
+    records::write(file);
     io::write_all(1, b"\n");
 }
 
