@@ -1,10 +1,11 @@
 -- A file whose last byte decides: each count is at its limit, the tree is there, and its flags' payload is the longest. Assumes nothing.
-use mathlib.Core.Path.{_≡_, refl, sym, ap, _∙_}
+use mathlib.Core.Path.{_≡_, refl, sym, ap, _∙_, subst}
 use mathlib.Core.Bool.{true}
 use mathlib.Core.List.{List, [], _∷_, _++_, append-assoc, append-nil}
 use mathlib.Core.Option.{none, some}
 use Prim.Native.Nat.{ℕ, zero, suc, _+_, _-_, _≤_, _<_}
 use native.Mathlib.Omega.{arith}
+use lib.Dec.{lit<, lit≤}
 use lib.ListN.{length, take, replicate, length-replicate}
 use lib.Seq.{length-take-le, take-append-add}
 use borrow.Author.Tests.{lt-ltb}
@@ -13,7 +14,7 @@ use Rattle.spec.specs.Refusal.{truncated, invalidFlags, numberOf, refused, done
 use Rattle.spec.specs.Network.{Network, indexCount, accepted}
 use Rattle.spec.specs.Tree.{valid, treeAt, pairsOf}
 use Rattle.spec.specs.Calls.{treeCheck}
-use Rattle.spec.specs.File.{plain, Contents, field, leafFields, fileOf, askDue, treeDue, Reading, weightsChecks, outputsChecks, takeWeights, takeOutputs, takeTree, nothingRead}
+use Rattle.spec.specs.File.{plain, Contents, field, leafFields, fileOf, askDue, treeDue, Reading, weightsChecks, outputsChecks, takeWeights, takeOutputs, takeTree, nothingRead, readOf}
 use Rattle.spec.specs.FileClaims.{Bytes, LawfulTree, Lawful, readFrom, NoFewerDecide}
 use Rattle.laws.specs.MemberLaws.{all-append}
 use Rattle.laws.specs.Results.{refused-same, checked-none}
@@ -118,27 +119,33 @@ small : indexCount largest ≤ 256
 unfolding largest
 small = omega arith
 
+past-front : (rest : List ℕ) → readFrom nothingRead (fileOf contents ++ rest) ≡ readFrom (at largest (some chain) askDue plain) rest
+unfolding contents
+past-front rest = front-read largest chain rest is-accepted is-valid
+
 whole : readFrom nothingRead file ≡ refused invalidFlags
-unfolding file contents
-whole =
-    front-read largest chain (5 ∷ 255 ∷ 255 ∷ zeros 65535) is-accepted is-valid
-    ∙ too-many largest chain (zeros 65535) small (zeros-length 65535)
+unfolding file
+whole = past-front (5 ∷ 255 ∷ 255 ∷ zeros 65535) ∙ too-many largest chain (zeros 65535) small (zeros-length 65535)
+
+-- so many elements of two lists, the first of them whole
+taken : (front rest : List ℕ) (n m : ℕ) → m ≡ length front + n → take m (front ++ rest) ≡ front ++ take n rest
+taken front rest n m e = ap (λ (x : ℕ). take x (front ++ rest)) e ∙ take-append-add front rest n
 
 without-last : readFrom nothingRead (take 70568 file) ≡ refused truncated
-unfolding file contents
+unfolding file
 without-last =
-    let e : 70568 ≡ length (fileOf contents) + 65537 = omega (arith, front-length) in
-    let n : length (take 65534 (zeros 65535)) ≡ 65534 = length-take-le 65534 (zeros 65535) (omega (arith, zeros-length 65535)) in
-    ap (λ (x : ℕ). readFrom nothingRead (take x (fileOf contents ++ (5 ∷ 255 ∷ 255 ∷ zeros 65535)))) e
-    ∙ ap (readFrom nothingRead) (take-append-add (fileOf contents) (5 ∷ 255 ∷ 255 ∷ zeros 65535) 65537)
-    ∙ front-read largest chain (5 ∷ 255 ∷ 255 ∷ take 65534 (zeros 65535)) is-accepted is-valid
-    ∙ too-short largest chain (take 65534 (zeros 65535)) small (omega (arith, n))
+    let n : length (take 65534 (zeros 65535)) ≡ 65534 = length-take-le 65534 (zeros 65535) (subst (λ (k : ℕ). 65534 ≤ k) (sym (zeros-length 65535)) (lit≤ tt)) in
+    ap (readFrom nothingRead) (taken (fileOf contents) (5 ∷ 255 ∷ 255 ∷ zeros 65535) 65537 70568 (sym (ap (λ (k : ℕ). k + 65537) front-length)))
+    ∙ past-front (5 ∷ 255 ∷ 255 ∷ take 65534 (zeros 65535))
+    ∙ too-short largest chain (take 65534 (zeros 65535)) small (subst (λ (k : ℕ). k < 65535) (sym n) (lit< tt))
+
+-- two readings that are refused by different numbers are not the same
+differ : (some-of file : List ℕ) → readFrom nothingRead some-of ≡ refused truncated → readFrom nothingRead file ≡ refused invalidFlags
+    → readOf 254 256 some-of ≡ readOf 254 256 file → ⊥
+differ some-of file short full e =
+    let q : truncated ≡ invalidFlags =
+    refused-same {A = Contents} truncated invalidFlags (sym (lists-last 254 256 some-of truncated short) ∙ e ∙ lists-last 254 256 file invalidFlags full) in
+    omega (arith, ap numberOf q)
 
 pub no-fewer-decide : NoFewerDecide
-no-fewer-decide = (
-  file,
-  file-bytes,
-  λ e. let q : truncated ≡ invalidFlags =
-      refused-same {A = Contents} truncated invalidFlags (sym (lists-last 254 256 (take 70568 file) truncated without-last) ∙ e ∙ lists-last 254 256 file invalidFlags whole) in
-      omega (arith, ap numberOf q),
-)
+no-fewer-decide = (file, file-bytes, differ (take 70568 file) file without-last whole)
