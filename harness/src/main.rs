@@ -20,6 +20,7 @@ mod memory;
 mod networks;
 mod numbers;
 mod plan_bench;
+mod planner_record;
 mod port;
 mod reconfigure;
 mod record;
@@ -41,16 +42,10 @@ const REPLAY: &str = concat!(env!("CARGO_MANIFEST_DIR"), "/../crates/replay");
 /// The crate whose input and output `tree-record` writes.
 const TREE_RUNS: &str = concat!(env!("CARGO_MANIFEST_DIR"), "/../crates/treeruns");
 
-/// The crate whose input and output `greedy-record` writes.
-const GREEDY_RUNS: &str = concat!(env!("CARGO_MANIFEST_DIR"), "/../crates/greedyruns");
+/// The crate whose input and output `planner-record` writes.
+const PLANNER_RUNS: &str = concat!(env!("CARGO_MANIFEST_DIR"), "/../crates/planneruns");
 
-/// The crate whose input and output `reconfigure-record` writes.
-const RECONF_RUNS: &str = concat!(env!("CARGO_MANIFEST_DIR"), "/../crates/reconfruns");
-
-/// The crate whose input and output `bisection-record` writes.
-const BISECT_RUNS: &str = concat!(env!("CARGO_MANIFEST_DIR"), "/../crates/bisectruns");
-
-const USAGE: &str = "usage: harness all [SECONDS [SEED]] | compare|greedy|bisection|reconfigure|slice [NETWORKS [SEED]] | bisect [NETWORKS [SEED [LEAVES]]] | families | damage [FILES [SEED]] | bench | price-bench | greedy-bench | bisection-bench | reconfigure-bench | slice-bench | plan-bench | record | tree-record | greedy-record | bisection-record | reconfigure-record";
+const USAGE: &str = "usage: harness all [SECONDS [SEED]] | compare|greedy|bisection|reconfigure|slice [NETWORKS [SEED]] | bisect [NETWORKS [SEED [LEAVES]]] | families | damage [FILES [SEED]] | bench | price-bench | greedy-bench | bisection-bench | reconfigure-bench | slice-bench | plan-bench | record | tree-record | planner-record";
 
 fn compare(count: usize, seed: u64) -> ExitCode {
     if !port::ready() {
@@ -86,14 +81,12 @@ fn main() -> ExitCode {
             greedy::bench::run();
             ExitCode::SUCCESS
         }
-        (Some("greedy-record"), ..) => recorded("greedyruns", greedy::record::run(Path::new(GREEDY_RUNS))),
         (Some("tree-record"), ..) => recorded("treeruns", tree_record::run(Path::new(TREE_RUNS))),
         (Some("reconfigure"), Some(count), Some(seed)) => reconfigure::run(count as usize, seed),
         (Some("reconfigure-bench"), ..) => {
             reconfigure::bench::run();
             ExitCode::SUCCESS
         }
-        (Some("reconfigure-record"), ..) => recorded("reconfruns", reconfigure::record::run(Path::new(RECONF_RUNS))),
         (Some("slice"), Some(count), Some(seed)) => slice::run(count as usize, seed),
         (Some("slice-bench"), ..) => {
             slice::bench::run();
@@ -117,7 +110,7 @@ fn main() -> ExitCode {
             bisection::bench::run();
             ExitCode::SUCCESS
         }
-        (Some("bisection-record"), ..) => recorded("bisectruns", bisection::record::run(Path::new(BISECT_RUNS))),
+        (Some("planner-record"), ..) => recorded("planneruns", planner_record::run(Path::new(PLANNER_RUNS))),
         (Some("families"), ..) => families::run_both(),
         (Some("damage"), Some(count), Some(seed)) => damage::run(count as usize, seed),
         (Some("price-bench"), ..) => {

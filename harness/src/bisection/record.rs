@@ -1,4 +1,4 @@
-//! A sample of the Rust's bisections, stored for the program `bisectruns`, which needs no Rust.
+//! A sample of the Rust's bisections, stored for the program `planneruns`, which needs no Rust.
 //!
 //! Its input: a 4-byte count; for each case two bytes of an imbalance, two of a cutoff, four of a number of words, eight of a step, a 4-byte length and
 //! so many bytes of a network file without a tree; high bytes first. Word k of the lent list, from 0 on, is (k + 1) × step modulo 2^64. Its output,
@@ -11,8 +11,6 @@ use super::{settle, Answer};
 use crate::case::Case;
 use crate::numbers::Numbers;
 use crate::rust;
-use std::path::Path;
-use std::{fs, io};
 
 const SEED: u64 = 2029;
 /// Questions of each size, and on practice pedigrees.
@@ -61,15 +59,12 @@ fn agrees(question: &Question, answer: &Answer) -> Option<bool> {
     Some(run.children == *children && run.missed == 0)
 }
 
-/// Writes `stdin` and `stdout` of the program. Every third question is stored with one word less too.
-pub fn run(folder: &Path) -> io::Result<()> {
+/// The program's input and output on these cases; none without path.rs. Every third question is stored with one word less too.
+pub fn sample() -> Option<(Vec<u8>, String)> {
     let (mut count, mut passed) = (0u32, 0);
     let (mut input, mut output) = (Vec::new(), String::new());
     for (k, question) in questions().iter().enumerate() {
-        let Some(settled) = settle(question) else {
-            println!("{}", rust::MISSING);
-            return Ok(());
-        };
+        let settled = settle(question)?;
         let needed = settled.needed();
         if needed > MOST || agrees(question, &settled.answer()) != Some(true) {
             passed += 1;
@@ -77,13 +72,10 @@ pub fn run(folder: &Path) -> io::Result<()> {
         }
         let shorter = (k % 3 == 0 && needed > 0).then(|| needed - 1);
         for words in [Some(needed), shorter].into_iter().flatten() {
-            store(question, words, &mut input, &mut output).ok_or_else(|| io::Error::other(rust::MISSING))?;
+            store(question, words, &mut input, &mut output)?;
             count += 1;
         }
     }
-    fs::create_dir_all(folder)?;
-    fs::write(folder.join("stdin"), [&count.to_be_bytes()[..], &input].concat())?;
-    fs::write(folder.join("stdout"), &output)?;
-    println!("{count} cases, {} bytes of input, {passed} questions passed over", input.len() + 4);
-    Ok(())
+    println!("bisection: {count} cases, {passed} questions passed over");
+    Some(([&count.to_be_bytes()[..], &input].concat(), output))
 }

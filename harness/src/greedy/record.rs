@@ -1,4 +1,4 @@
-//! A sample of the Rust's greedy trees, stored for the program `greedyruns`, which needs no Rust.
+//! A sample of the Rust's greedy trees, stored for the program `planneruns`, which needs no Rust.
 //!
 //! Its input: a 4-byte count; for each case a 4-byte length and so many bytes of a network file without a tree; high bytes first. Its output, a
 //! line a case: `plan` and the left and the right child of each node, or `refused K`.
@@ -11,9 +11,7 @@ use super::{cases, rust_tree};
 use crate::case::{Case, Network, Tree};
 use crate::networks::{practice_pedigree, SHAPES};
 use crate::numbers::Numbers;
-use crate::{large, rust};
-use std::path::Path;
-use std::{fs, io};
+use crate::large;
 
 const SEED: u64 = 2027;
 /// Networks of each shape, and practice pedigrees.
@@ -33,15 +31,12 @@ fn line(tree: &Tree) -> String {
     tree.as_flattened().iter().fold("plan".into(), |text, child| format!("{text} {child}"))
 }
 
-/// Writes `stdin` and `stdout` of the program.
-pub fn run(folder: &Path) -> io::Result<()> {
+/// The program's input and output on these cases; none without path.rs.
+pub fn sample() -> Option<(Vec<u8>, String)> {
     let (mut count, mut passed) = (0u32, 0);
     let (mut files, mut output) = (Vec::new(), String::new());
     for network in networks() {
-        let Some((rust, _)) = rust_tree(&network) else {
-            println!("{}", rust::MISSING);
-            return Ok(());
-        };
+        let (rust, _) = rust_tree(&network)?;
         let answer = match model::greedy(&network, Rest::WholeBits) {
             Err(_) => "refused 12".into(),
             Ok(tree) if tree == rust => line(&tree),
@@ -56,9 +51,6 @@ pub fn run(folder: &Path) -> io::Result<()> {
         output += &(answer + "\n");
         count += 1;
     }
-    fs::create_dir_all(folder)?;
-    fs::write(folder.join("stdin"), [&count.to_be_bytes()[..], &files].concat())?;
-    fs::write(folder.join("stdout"), &output)?;
-    println!("{count} cases, {} bytes of input, {passed} networks passed over", files.len() + 4);
-    Ok(())
+    println!("greedy: {count} cases, {passed} networks passed over");
+    Some(([&count.to_be_bytes()[..], &files].concat(), output))
 }

@@ -1,4 +1,4 @@
-//! A sample of the Rust's improvements, stored for the program `reconfruns`, which needs no Rust.
+//! A sample of the Rust's improvements, stored for the program `planneruns`, which needs no Rust.
 //!
 //! Its input: a 4-byte count; for each case a byte k, a byte of passes, two bytes of a limit (65,535: none), a 4-byte length and so many bytes of a
 //! network file with a tree and flags; high bytes first. Its output, a line a case: `improved`, the rebuild count, the split count, and the left and
@@ -10,9 +10,6 @@
 use super::{cases, Question};
 use crate::networks::SHAPES;
 use crate::numbers::Numbers;
-use crate::rust;
-use std::path::Path;
-use std::{fs, io};
 
 const SEED: u64 = 2028;
 /// Questions of each shape, and on practice pedigrees.
@@ -43,16 +40,12 @@ fn line(question: &Question, rust: (crate::case::Tree, u64)) -> Result<String, S
     }
 }
 
-/// Writes `stdin` and `stdout` of the program.
-pub fn run(folder: &Path) -> io::Result<()> {
+/// The program's input and output on these cases; none without path.rs.
+pub fn sample() -> Option<(Vec<u8>, String)> {
     let (mut input, mut output) = (Vec::new(), String::new());
     let questions = questions();
     for question in &questions {
-        let Some(rust) = question.rust() else {
-            println!("{}", rust::MISSING);
-            return Ok(());
-        };
-        output += &(line(question, rust).map_err(io::Error::other)? + "\n");
+        output += &(line(question, question.rust()?).expect("path.rs and the second reading agree") + "\n");
         let limit = question.ask.limit.map_or(NO_LIMIT, |limit| limit as u16);
         let file = question.case().file();
         input.extend([question.ask.k as u8, question.ask.passes as u8]);
@@ -60,9 +53,6 @@ pub fn run(folder: &Path) -> io::Result<()> {
         input.extend((file.len() as u32).to_be_bytes());
         input.extend(file);
     }
-    fs::create_dir_all(folder)?;
-    fs::write(folder.join("stdin"), [&(questions.len() as u32).to_be_bytes()[..], &input].concat())?;
-    fs::write(folder.join("stdout"), &output)?;
-    println!("{} cases, {} bytes of input", questions.len(), input.len() + 4);
-    Ok(())
+    println!("improvement: {} cases", questions.len());
+    Some(([&(questions.len() as u32).to_be_bytes()[..], &input].concat(), output))
 }

@@ -1,2 +1,0 @@
--- Bisection of a network in memory. Assumes nothing.
-pub mod Promise

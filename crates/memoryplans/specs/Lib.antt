@@ -1,2 +1,0 @@
--- Plans of a network in memory. Assumes nothing.
-pub mod Plan

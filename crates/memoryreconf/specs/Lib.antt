@@ -1,2 +1,0 @@
--- Improvement of a network in memory. Assumes nothing.
-pub mod Promise

@@ -1,2 +1,0 @@
--- Slicing of a network in memory. Assumes nothing.
-pub mod Promise
