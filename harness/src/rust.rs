@@ -1,9 +1,9 @@
 //! The Rust's answers: path.rs run on a case.
 #![cfg_attr(not(path_rs), allow(dead_code))]
 
-use crate::timing::Call;
 use crate::bisection::{Run, Settled};
 use crate::case::{Case, Network, Tree};
+use crate::timing::Call;
 
 /// Whether path.rs is compiled in.
 pub const AT_HAND: bool = cfg!(path_rs);

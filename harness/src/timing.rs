@@ -86,7 +86,13 @@ impl Table {
     pub fn growth(&mut self) {
         let show = |power: Option<f64>| power.map_or("-".into(), |power| format!("n^{power:.2}"));
         let (port, rust) = (self.power(|row| row.1), self.power(|row| row.2));
-        Table::line(&format!("from {GROWS_FROM} to {LEAVES} tables, time grows with"), show(port), show(rust), String::new(), std::iter::empty());
+        Table::line(
+            &format!("from {GROWS_FROM} to {LEAVES} tables, time grows with"),
+            show(port),
+            show(rust),
+            String::new(),
+            std::iter::empty(),
+        );
         self.rows.clear();
     }
 }

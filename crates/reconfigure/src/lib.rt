@@ -13,6 +13,9 @@ ghost use Rattle.network.specs.Codes.{Facts};
 ghost use Rattle.pricing.specs.Sums.{workSum};
 ghost use Rattle.subset.specs.Search.{limitOf};
 ghost use Rattle.reconfigure.specs.Answers.{limitFrom, restCall, lastCall, Answered, Reconfigures};
+
+pub mod dangling; // dangling.rt: indices that just one leaf names
+
 use network::Network;
 use network::checks;
 use network::refusal;

@@ -73,7 +73,7 @@ fn tree_number<'a>(
     if !improving {
         return refusal::NONE;
     }
-    if dangling::dangling(m, n, o, counts, legs, outputs) {
+    if reconfigure::dangling::dangling(m, n, o, counts, legs, outputs) {
         return refusal::DANGLING_INDEX;
     }
     refusal::NONE

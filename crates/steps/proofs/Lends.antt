@@ -41,7 +41,7 @@ module _ {M : Type 1} (𝓤 : URA M) (H : Heap 𝓤) (A : Atoms 𝓤) (W : Given
 
   pub array-back : (κ : Lft) (γ : GName) (xs zs : List (R .Denot)) → length xs ≡ n
       → ent 𝓤 (sep 𝓤 (A .dead κ) (sep 𝓤 (A .lent κ (Held R (length xs) b 0 γ)) (sem 𝓤 H A (finally R γ zs))))
-        (H .⇛ (ex 𝓤 (λ (v : Val). sep 𝓤 (H .at fullShare arrayTy b 0 v) (sem 𝓤 H A (Array R n .own zs (v ∷ []))))))
+      (H .⇛ (ex 𝓤 (λ (v : Val). sep 𝓤 (H .at fullShare arrayTy b 0 v) (sem 𝓤 H A (Array R n .own zs (v ∷ []))))))
   unfolding partOf
   array-back κ γ xs zs e =
       qed W (‵ (fdead κ) ∷ ‵ (flent κ (Held R (length xs) b 0 γ)) ∷ ‵ (finally R γ zs) ∷ []) ∵ updating ! $

@@ -24,7 +24,10 @@ fn row(table: &mut Table, leaf_count: usize) {
     let given = Given::new(&network);
     let (mut tree, mut words) = (vec![0; 2 * leaf_count], vec![0; WORDS]);
     let mut rust = rust::greedy_call(&Case { network, tree: None, flags: None });
-    let port = || port::AT_HAND.then(|| time(|| assert_eq!(call::greedy(black_box(&given), black_box(&mut tree), black_box(&mut words)), 0)));
+    let port = || {
+        port::AT_HAND
+            .then(|| time(|| assert_eq!(call::greedy(black_box(&given), black_box(&mut tree), black_box(&mut words)), 0)))
+    };
     let times = Table::turns(CALLS, port, || rust.as_mut().map(time));
     table.row(leaf_count, "", times, |_| Vec::new());
 }

@@ -9,9 +9,9 @@
 use super::model::{self, Rest};
 use super::{cases, rust_tree};
 use crate::case::{Case, Network, Tree};
+use crate::large;
 use crate::networks::{practice_pedigree, SHAPES};
 use crate::numbers::Numbers;
-use crate::large;
 
 const SEED: u64 = 2027;
 /// Networks of each shape, and practice pedigrees.

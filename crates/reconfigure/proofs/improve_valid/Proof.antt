@@ -4,7 +4,7 @@ use Rattle.subset.specs.Search.{limitOf}
 use Rattle.spec.specs.Layout.{networkOf}
 use Rattle.spec.specs.Refusal.{totalBeyond, danglingIndex}
 use Rattle.network.specs.Layouts.{layout-leaf-count}
-use Rattle.dangling.specs.Tally.{dangling-of}
+use Rattle.reconfigure.specs.Tally.{dangling-of}
 use Rattle.reconfigure.specs.Improves.{answered-done, right-here, beyond-is, standing-start, dangling-asks, ready}
 use Rattle.reconfigure.specs.Checks.{last-beyond, last-dangling, last-done, answered-refused}
 use native.Mathlib.Omega.{arith}

@@ -6,7 +6,7 @@ use Rattle.spec.specs.Calls.{wrongTree}
 use Rattle.cells.specs.Cells.{filled-all}
 use Rattle.network.specs.Layouts.{layout-leaf-count}
 use Rattle.cost.specs.Checks.{tree-wrong, tree-right}
-use Rattle.dangling.specs.Tally.{dangling-of}
+use Rattle.reconfigure.specs.Tally.{dangling-of}
 use Rattle.reconfigure.specs.Improves.{dangling-asks}
 use Rattle.slicetree.specs.Clear.{clear-beyond}
 use Rattle.slicetree.specs.Answers.{late-beyond, late-as-is, late-improved, number-wrong, number-late}

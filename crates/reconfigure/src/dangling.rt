@@ -7,7 +7,7 @@ ghost use lib.ListN.{length};
 ghost use Rattle.spec.specs.Lists.{anyb, count};
 ghost use Rattle.spec.specs.Layout.{rowAt};
 ghost use Rattle.network.specs.Checks.{Rows, leavesOf};
-ghost use Rattle.dangling.specs.Tally.{oneMore, tallied, tallyRows, struck, danglingOf};
+ghost use Rattle.reconfigure.specs.Tally.{oneMore, tallied, tallyRows, struck, danglingOf};
 use network::scan;
 
 // One more, up to 2.

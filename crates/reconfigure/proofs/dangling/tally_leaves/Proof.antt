@@ -2,13 +2,13 @@
 use borrow.Author.Needs.{needs}
 use lib.ListN.{drop}
 use Rattle.network.specs.Checks.{leavesOf, row-of}
-use Rattle.dangling.specs.Tally.{tallyRows, rows-next, rows-end}
+use Rattle.reconfigure.specs.Tally.{tallyRows, rows-next, rows-end}
 use native.Mathlib.Omega.{arith}
 use Prim.Native.Nat.{_-_, _≤_}
 use mathlib.Core.Path.{_≡_, refl}
 use lib.ListN.{length}
-use Rattle.dangling.proofs.tally_leaves.Statement.{statement}
-use Rattle.dangling.proofs.tally_leaves.Tie as tie
+use Rattle.reconfigure.proofs.dangling.tally_leaves.Statement.{statement}
+use Rattle.reconfigure.proofs.dangling.tally_leaves.Tie as tie
 
 abbrev Inv-loop : tie.InvT-loop
 Inv-loop tally₀ n counts legs i₀ tally i = (i ≤ n) × (length tally ≡ length tally₀) × (tallyRows tally (drop i (leavesOf n counts legs)) ≡ tallyRows tally₀ (leavesOf n counts legs))

@@ -7,8 +7,8 @@ use native.Mathlib.Omega.{arith}
 use Prim.Native.Nat.{_-_}
 use mathlib.Core.Path.{_≡_, refl}
 use lib.ListN.{length}
-use Rattle.dangling.proofs.any_one.Statement.{statement}
-use Rattle.dangling.proofs.any_one.Tie as tie
+use Rattle.reconfigure.proofs.dangling.any_one.Statement.{statement}
+use Rattle.reconfigure.proofs.dangling.any_one.Tie as tie
 
 abbrev Inv-loop : tie.InvT-loop
 Inv-loop tally j₀ j-end j = (j-end ≡ length tally) × NoneBefore (λ x. eqb x 1) tally j

@@ -1,12 +1,12 @@
 -- Assumes nothing.
 use borrow.Author.Needs.{needs}
 use Rattle.spec.specs.Memory.{filled}
-use Rattle.dangling.specs.Tally.{counts-answer}
+use Rattle.reconfigure.specs.Tally.{counts-answer}
 use lib.Seq.{length-take-le}
 use native.Mathlib.Omega.{arith}
 use mathlib.Core.Path.{refl, sym}
-use Rattle.dangling.proofs.dangling.Statement.{statement}
-use Rattle.dangling.proofs.dangling.Tie as tie
+use Rattle.reconfigure.proofs.dangling.dangling.Statement.{statement}
+use Rattle.reconfigure.proofs.dangling.dangling.Tie as tie
 
 slice-aggregate-tally-leaves : tie.Need-slice-aggregate-tally-leaves
 slice-aggregate-tally-leaves c = search needs

@@ -1,13 +1,13 @@
 -- Assumes nothing.
 use borrow.Author.Needs.{needs}
 use lib.ListN.{drop}
-use Rattle.dangling.specs.Tally.{struck, strike-next, strike-end}
+use Rattle.reconfigure.specs.Tally.{struck, strike-next, strike-end}
 use native.Mathlib.Omega.{arith}
 use Prim.Native.Nat.{_-_, _≤_}
 use mathlib.Core.Path.{_≡_, refl}
 use lib.ListN.{length}
-use Rattle.dangling.proofs.strike.Statement.{statement}
-use Rattle.dangling.proofs.strike.Tie as tie
+use Rattle.reconfigure.proofs.dangling.strike.Statement.{statement}
+use Rattle.reconfigure.proofs.dangling.strike.Tie as tie
 
 abbrev Inv-loop : tie.InvT-loop
 Inv-loop tally₀ row k₀ k-end tally k = (k-end ≡ length row) × (k ≤ k-end) × (length tally ≡ length tally₀) × (struck tally (drop k row) ≡ struck tally₀ row)

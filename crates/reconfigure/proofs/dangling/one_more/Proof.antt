@@ -1,7 +1,7 @@
 -- Assumes nothing.
 use borrow.Author.Tests.{eq-eqb, ne-eqb}
-use Rattle.dangling.proofs.one_more.Statement.{statement}
-use Rattle.dangling.proofs.one_more.Tie as tie
+use Rattle.reconfigure.proofs.dangling.one_more.Statement.{statement}
+use Rattle.reconfigure.proofs.dangling.one_more.Tie as tie
 
 returns : tie.Need-returns
 returns c = rw (eq-eqb (c .before .args .x) 0 (c .if1 .taken))

@@ -1,2 +1,0 @@
--- Indices that just one leaf names. Assumes nothing.
-pub mod Tally
