@@ -19,7 +19,8 @@ use Rattle.spec.specs.Bisection.{Halved, imbalance, bisectRec, bisectedFrom, bi
 use Rattle.spec.specs.Calls.{bisectionWords}
 use Rattle.laws.specs.ListLaws.{from-memb, range-length}
 use Rattle.laws.specs.GreedyForest.{leaves-single}
-use Rattle.cells.specs.Cells.{over-fits, over-nil}
+use Rattle.laws.specs.FileLists.{over-front}
+use Rattle.cells.specs.Cells.{over-nil}
 use Rattle.network.specs.Layouts.{layout-leaf-count}
 use Rattle.network.specs.Checks.{Lent}
 use Rattle.network.specs.Codes.{Facts}
@@ -45,7 +46,7 @@ pub copied-out : (tree kids₀ kids : List ℕ) (a : List Pair) (places : ℕ) �
 unfolding copied
 copied-out tree kids₀ kids a places e h b =
     ap (over tree)
-    (ap₂ (λ (k : ℕ) (l : List ℕ). take k l) h (e ∙ over-fits kids₀ (flatOf a) (omega (arith, h)))
+    (ap₂ (λ (k : ℕ) (l : List ℕ). take k l) h (e ∙ over-front kids₀ (flatOf a) (omega (arith, h)))
     ∙ take-append-seam (flatOf a) (drop (length (flatOf a)) kids₀))
 
 -- the words taken, by the cursor

@@ -7,7 +7,7 @@ use native.Mathlib.Numerals.{add-one}
 use native.Mathlib.Omega.{arith}
 use native.Mathlib.Decide.{decLe}
 use lib.ListN.{length, getD, set, take, drop, replicate, length-append, length-take, length-drop, length-replicate, getD-replicate, drop-of-length-le, take-append-drop, List·getD-eq-default}
-use lib.Seq.{take-nil, take-all, take-length, take-suc, drop-drop, ext-getD, length-take-le, getD-take, sets, sets-eq, take-at, drop-cons}
+use lib.Seq.{take-nil, take-all, take-length, take-suc, ext-getD, length-take-le, getD-take, sets, sets-eq, take-at, drop-cons}
 use Rattle.spec.specs.Memory.{filled, over, copied, placed, cleared}
 
 -- ---- samples: within the list, and past its end
@@ -93,13 +93,6 @@ module _ {A : Type 0} where
   over-past (x ∷ d) [] k z h = refl
   over-past (x ∷ d) (y ∷ s) zero z h = absurd (omega arith)
   over-past (x ∷ d) (y ∷ s) (suc k) z h = over-past d s k z (omega arith)
-
-  pub over-fits : (d s : List A) → length s ≤ length d → over d s ≡ s ++ drop (length s) d
-  unfolding over
-  over-fits [] [] h = refl
-  over-fits [] (y ∷ s) h = absurd (omega arith)
-  over-fits (x ∷ d) [] h = refl
-  over-fits (x ∷ d) (y ∷ s) h = ap (λ (l : List A). y ∷ l) (over-fits d s (omega arith))
 
   pub over-all : (d s : List A) → length s ≡ length d → over d s ≡ s
   unfolding over
@@ -221,9 +214,6 @@ module _ {A : Type 0} where
   placed-next (x ∷ d) s t (suc at) = rw suc-add (ap (λ (l : List A). x ∷ l) (placed-next d s t at))
 
   -- where s fits: what stands before it, s, and what stands after it
-  pub placed-fits : (d s : List A) (at : ℕ) → at + length s ≤ length d → placed d at s ≡ take at d ++ (s ++ drop (at + length s) d)
-  unfolding placed
-  placed-fits d s at h = ap (λ (l : List A). take at d ++ l) (over-fits (drop at d) s (simp length-drop (omega arith)) ∙ ap (λ (l : List A). s ++ l) (drop-drop (length s) at d))
 
   pub placed-none : (d : List A) (at : ℕ) → placed d at [] ≡ d
   unfolding placed

@@ -25,6 +25,11 @@ widestFrom (Bits x) = some x
 abbrev pub pricesFrom : HandedPrices → Prices
 pricesFrom p = record { total = totalFrom (p .total); widest = widestFrom (p .widest); sliceBits = p .«slice_bits» }
 
+-- an exact total, and 0 for one that is beyond
+abbrev pub exactOf : Total → ℕ
+exactOf (exact x) = x
+exactOf beyond = 0
+
 pub total-back : (t : Total) → totalFrom (totalOf t) ≡ t
 total-back (exact x) = refl
 total-back beyond = refl

@@ -20,7 +20,7 @@ use Rattle.spec.specs.Calls as calls
 use Rattle.spec.specs.Calls.{lent, plainWords, setWords, stepNumbers, wrongTree, treeCheck, flagsCheck, flagAt, nodePlaces, stepPlaces, lengthCheck, priceCall, workspaceAfter}
 use Rattle.laws.specs.Booleans.{clash, or-none}
 use Rattle.laws.specs.Results.{not-done}
-use Rattle.cells.specs.Cells.{over-fits}
+use Rattle.laws.specs.FileLists.{over-front}
 use Rattle.network.specs.Checks.{Lent, Fitting, lent-fitting, Rows}
 use Rattle.network.specs.Codes.{Facts}
 use Rattle.nodesets.specs.Lists.{Ordered, ordered-steps}
@@ -229,7 +229,7 @@ enough few l e o =
 -- the front of a list that the step order was written to
 pub order-front : (old new s : List ℕ) (k : ℕ) → new ≡ over old s → length s ≡ k → k ≤ length old → take k new ≡ s
 order-front old new s k e q h =
-    ap (take k) (e ∙ over-fits old s (omega arith)) ∙ take-at s (drop (length s) old) k q
+    ap (take k) (e ∙ over-front old s (omega arith)) ∙ take-at s (drop (length s) old) k q
 
 pub front-length : (old new s : List ℕ) (k : ℕ) → new ≡ over old s → length s ≡ k → k ≤ length old → k ≡ length (take k new)
 front-length old new s k e q h = sym (ap length (order-front old new s k e q h) ∙ q)

@@ -3,16 +3,17 @@ ghost use mathlib.Core.Path.{_≡_};
 ghost use Prim.Native.Nat.{_≤_};
 ghost use lib.ListN.{length};
 ghost use Rattle.spec.specs.Layout.{networkOf};
-ghost use Rattle.spec.specs.Calls.{plainWords};
 ghost use Rattle.network.specs.Record.{netOf};
 ghost use Rattle.network.specs.Checks.{Fitting};
 ghost use Rattle.network.specs.Codes.{Facts};
 ghost use Rattle.cost.specs.Answers.{tooFew, wrongFlags, restCall, Answered, TreeCost};
+ghost use Rattle.cost.specs.Back.{totalFrom, exactOf};
 ghost use Rattle.cost.specs.Checks.{LongEnough};
 use network::Network;
 use network::checks;
 use network::refusal;
 use pricing::Prices;
+use pricing::Total;
 
 // The answer of pricing.
 pub enum Priced {
@@ -20,11 +21,14 @@ pub enum Priced {
     Done(Prices),
 }
 
-// The stated workspace, in words.
-fn stated() -> usize
-    ensures { λ r. ⌜ r ≡ plainWords ⌝ }
+// The exact total, and 0 where it is beyond.
+pub fn exact(total: Total) -> u64
+    ensures { λ r. ⌜ r ≡ exactOf (totalFrom total) ⌝ }
 {
-    4096
+    match total {
+        Total::Exact(x) => x,
+        Total::Beyond => 0,
+    }
 }
 
 // Is a lent list shorter than stated, for `n` leaves.
@@ -34,7 +38,7 @@ fn too_few(n: usize, words: usize, sets: usize, sizes: usize, works: usize, step
 {
     let inner = cells::less(n, 1);
     let nodes = n + inner;
-    if words < stated() {
+    if words < walk::stated() {
         return true;
     }
     if sets < nodes * 4 {
@@ -141,7 +145,7 @@ pub fn cost_of(
     ) {
         return Priced::Refused(refusal::SHORT_BUFFER);
     }
-    let words = stated();
+    let words = walk::stated();
     let r = priced_in(
         &mut ws[..words],
         sets,

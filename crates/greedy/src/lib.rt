@@ -63,13 +63,6 @@ fn greedy_tree<'a>(
     r
 }
 
-// The stated workspace, in words.
-fn stated() -> usize
-    ensures { λ r. ⌜ r ≡ plainWords ⌝ }
-{
-    4096
-}
-
 // Greedy's call on an accepted network.
 fn greedy_in<'a>(
     m: usize,
@@ -85,7 +78,7 @@ fn greedy_in<'a>(
     requires { ⌜ Lent (now weights) (now counts) (now legs) (now outputs) × Facts m n o (now weights) (now counts) (now legs) (now outputs) ⌝ }
     ensures { λ r. ⌜ Answers (networkOf m n o (now (weights .entry)) (now (counts .entry)) (now (legs .entry)) (now (outputs .entry))) (now (tree .entry)) (now (tree .exit)) (now (ws .entry)) (now (ws .exit)) r ⌝ }
 {
-    let words = stated();
+    let words = walk::stated();
     if ws.len() < words {
         return Planned::Refused(refusal::SHORT_BUFFER);
     }

@@ -13,7 +13,8 @@ use Rattle.spec.specs.Hypergraph.{sideOf}
 use Rattle.spec.specs.Bisection.{membersAt, leftHalf, rightHalf}
 use Rattle.laws.specs.Booleans.{by-cases}
 use Rattle.laws.specs.BisectionHalves.{halves-length}
-use Rattle.cells.specs.Cells.{over-nil, over-fits, over-snoc, over-all}
+use Rattle.laws.specs.FileLists.{over-front}
+use Rattle.cells.specs.Cells.{over-nil, over-snoc, over-all}
 
 -- is a vertex on side 0, or, where that is asked for, on another
 abbrev pub onSide : Bool → List ℕ → ℕ → Bool
@@ -100,7 +101,7 @@ pub copied-front : (others leaves : List ℕ) (n : ℕ) → n ≡ length leaves 
 unfolding copied
 copied-front others leaves n e h =
     let z : over others (take n leaves) ≡ leaves ++ drop (length leaves) others =
-    ap (over others) (take-all n leaves (omega (arith, e))) ∙ over-fits others leaves (omega (arith, e)) in
+    ap (over others) (take-all n leaves (omega (arith, e))) ∙ over-front others leaves (omega (arith, e)) in
     ap (take n) z ∙ take-at leaves (drop (length leaves) others) n (sym e)
 
 pub few-left : (part leaves src : List ℕ) (m : ℕ) → src ≡ leaves → m ≡ length (membersAt (onSide true part) 0 src) → m ≤ length leaves
@@ -115,7 +116,7 @@ both-halves part leaves src o z m k es (em₀, eo₀) ek ez =
     let L : List ℕ = leftHalf part leaves in
     let R : List ℕ = rightHalf part leaves in
     let em : m ≡ length L = em₀ ∙ ap (λ (l : List ℕ). length (leftHalf part l)) es in
-    let eo : o ≡ L ++ drop (length L) leaves = eo₀ ∙ ap (λ (l : List ℕ). over leaves (leftHalf part l)) es ∙ over-fits leaves L (omega (arith, halves-length part leaves)) in
+    let eo : o ≡ L ++ drop (length L) leaves = eo₀ ∙ ap (λ (l : List ℕ). over leaves (leftHalf part l)) es ∙ over-front leaves L (omega (arith, halves-length part leaves)) in
     let a : take m o ≡ L = ap (take m) eo ∙ take-at L (drop (length L) leaves) m (sym em) in
     let b : drop m o ≡ drop (length L) leaves = ap (drop m) eo ∙ drop-at L (drop (length L) leaves) m (sym em) in
     let lb : length (drop m o) ≡ length R = ap length b ∙ omega (arith, length-drop (length L) leaves, halves-length part leaves) in

@@ -23,7 +23,8 @@ use Rattle.laws.specs.Sameness.{agree-eq, eq-agree}
 use Rattle.laws.specs.SamePrices.{high-leaf}
 use Rattle.slots.specs.Slots.{held, Words, held-digit, word-is, word-held}
 use Rattle.bits.specs.Digits.{digit}
-use Rattle.cells.specs.Cells.{over-length, over-fits}
+use Rattle.laws.specs.FileLists.{over-front}
+use Rattle.cells.specs.Cells.{over-length}
 use Rattle.walk.specs.Order.{order-length}
 use Rattle.walk.specs.Wrong.{not-wrong}
 use Rattle.leafsets.specs.Passes.{singles, ups, singles-length}
@@ -223,5 +224,5 @@ pub order-front : (d : List ℕ) (kids : List ℕ) (n k : ℕ) (l : List ℕ) �
 order-front d kids n k l e q h z =
     let s = stepOrder kids n in
     let len : length s ≡ n - 1 = order-length kids n e in
-    ap (take k) (q ∙ over-fits d s (omega (arith, ap length q, over-length d s)))
+    ap (take k) (q ∙ over-front d s (omega (arith, ap length q, over-length d s)))
     ∙ take-at s (drop (length s) d) k (len ∙ sym z)

@@ -61,22 +61,13 @@ pub fn record_of(weights: &[u8], counts: &[u8], legs: &[u16], outputs: &[u16]) -
     }
 }
 
-// The answer's numbers: 0 for an exact total, 1 for one that is beyond; the total, or 0.
+// 0 for an exact total, 1 for one that is beyond.
 fn total_kind(total: Total) -> u64
     ensures { λ r. ⌜ r ≡ getD (totalNumbers (totalFrom total)) 0 0 ⌝ }
 {
     match total {
         Total::Exact(_) => 0,
         Total::Beyond => 1,
-    }
-}
-
-fn total_number(total: Total) -> u64
-    ensures { λ r. ⌜ r ≡ getD (totalNumbers (totalFrom total)) 1 0 ⌝ }
-{
-    match total {
-        Total::Exact(x) => x,
-        Total::Beyond => 0,
     }
 }
 
@@ -97,7 +88,7 @@ fn put_answer(answer: &mut [u64], prices: Prices)
     let total = prices.total;
     let widest = prices.widest;
     cells::put64(answer, 0, total_kind(total));
-    cells::put64(answer, 1, total_number(total));
+    cells::put64(answer, 1, cost::exact(total));
     cells::put64(answer, 2, widest_number(widest));
     cells::put64(answer, 3, prices.slice_bits as u64);
 }

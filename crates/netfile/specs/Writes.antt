@@ -13,7 +13,8 @@ use Rattle.spec.specs.Memory.{filled, placed}
 use Rattle.spec.specs.Network.{Network, indexCount}
 use Rattle.spec.specs.Calls.{Lent}
 use Rattle.spec.specs.File.{Ask, plain, flagged, target, treeLent, flagsLent, treeWritten, flagsWritten}
-use Rattle.cells.specs.Cells.{filled-length, placed-length, placed-next, placed-fits}
+use Rattle.laws.specs.FileLists.{placed-at}
+use Rattle.cells.specs.Cells.{filled-length, placed-length, placed-next}
 use Rattle.fields.specs.Steps.{part}
 use Rattle.fields.specs.Scans.{treeIn, askIn, Lists, netIn}
 use Rattle.fields.specs.Fields.{leaf-count, index-count}
@@ -110,7 +111,7 @@ flags-cleared d f r y n m p e h k q =
     let w : 0 + length f ≡ n = omega arith in
     ap (λ l. take n r ++ (l ++ drop (m - n) (drop n r))) (q ∙ ap (λ i. filled i 0) a)
     ∙ ap (λ l. take n r ++ (g ++ l)) (drop-drop (m - n) n r ∙ ap (λ i. drop (n + i) r) (sym b))
-    ∙ sym (placed-fits r g n (omega arith))
+    ∙ sym (placed-at r n g (omega arith))
     ∙ ap₂ (λ l i. placed l i g) p (sym w)
     ∙ placed-next d f g 0
     ∙ ap (λ i. placed d 0 (f ++ filled (m - i) 0)) (sym e)

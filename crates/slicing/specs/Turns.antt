@@ -11,9 +11,10 @@ use borrow.Author.Tests.{eq-eqb, ne-eqb, lt-ltb}
 use Rattle.spec.specs.Lists.{memb, range}
 use Rattle.spec.specs.Network.{Network, indexCount}
 use Rattle.spec.specs.Tree.{pairsOf}
-use Rattle.spec.specs.Price.{Total, exact, beyond, upTo, listing, work}
+use Rattle.spec.specs.Price.{Total, upTo, listing, work}
 use Rattle.spec.specs.Calls.{flagAt}
 use Rattle.spec.specs.Slicing.{Plan, FollowUp, withinTarget, also, widestOf, candidate, candidates, best, chosen, choose, sliceLoop, asIs}
+use Rattle.cost.specs.Back.{exactOf}
 use Rattle.laws.specs.Booleans.{clash, and-right}
 use Rattle.laws.specs.ListLaws.{memb-keep, from-memb}
 use Rattle.laws.specs.SlicingOrder.{best-is-best}
@@ -22,11 +23,6 @@ use Rattle.ranks.specs.declared.Best.{Best}
 use Rattle.ranks.specs.declared.Best.the-variants.{Nothing, Index}
 use Rattle.ranks.specs.Folds.{bestIn}
 use Rattle.ranks.specs.Promise.{planWith}
-
--- an exact total, and 0 for one that is beyond
-abbrev pub exactOf : Total → ℕ
-exactOf (exact x) = x
-exactOf beyond = 0
 
 abbrev pub isIndex : Best → Bool
 isIndex Nothing = false

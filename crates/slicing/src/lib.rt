@@ -4,9 +4,9 @@ ghost use Prim.Native.Nat.{ℕ, _≤_, max};
 ghost use lib.ListN.{length};
 ghost use Rattle.spec.specs.Layout.{networkOf};
 ghost use Rattle.spec.specs.Slicing.{orZero, withinTarget};
-ghost use Rattle.cost.specs.Back.{totalFrom, widestFrom};
+ghost use Rattle.cost.specs.Back.{totalFrom, widestFrom, exactOf};
 ghost use Rattle.pricing.specs.Promise.{Priceable, Room};
-ghost use Rattle.slicing.specs.Turns.{exactOf, withFlag, isIndex, Within, Turned, Sliced};
+ghost use Rattle.slicing.specs.Turns.{withFlag, isIndex, Within, Turned, Sliced};
 use pricing::Total;
 use pricing::Widest;
 use ranks::Best;
@@ -33,16 +33,6 @@ pub fn limit(widest: Widest, target: u16) -> u16
             }
             w
         }
-    }
-}
-
-// The exact total, and 0 where it is beyond.
-fn exact(total: Total) -> u64
-    ensures { λ r. ⌜ r ≡ exactOf (totalFrom total) ⌝ }
-{
-    match total {
-        Total::Exact(x) => x,
-        Total::Beyond => 0,
     }
 }
 
@@ -108,7 +98,7 @@ pub fn turn(
     if within(widest, target) {
         return false;
     }
-    let total = exact(handed);
+    let total = cost::exact(handed);
     let best = ranks::choose(
         &sets,
         &sizes,

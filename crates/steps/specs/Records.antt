@@ -11,7 +11,8 @@ use Rattle.spec.specs.Memory.{over}
 use Rattle.spec.specs.Price as price
 use Rattle.spec.specs.Price.{flatSteps}
 use Rattle.laws.specs.LayoutLaws.{map-range-at, map-range-length, map-range-is}
-use Rattle.cells.specs.Cells.{over-length, over-at, over-past, over-fits}
+use Rattle.laws.specs.FileLists.{over-front}
+use Rattle.cells.specs.Cells.{over-length, over-at, over-past}
 use Rattle.pricing.specs.Handed.{flat-length}
 use Rattle.steps.specs.declared.Step.{Step}
 
@@ -113,6 +114,6 @@ pub records-taken : (l : List price.Step) (xs : List Step) (n : ℕ) → length 
 records-taken l xs n e h =
     let r : List Step = map recordOf l in
     let k : length (flatSteps l) ≡ n * 5 = omega (arith, flat-length l) in
-    ap (λ (z : List Step). take (n * 5) (numbersOf z)) (over-fits xs r (omega (arith, length-map l recordOf)))
+    ap (λ (z : List Step). take (n * 5) (numbersOf z)) (over-front xs r (omega (arith, length-map l recordOf)))
     ∙ ap (take (n * 5)) (numbers-append r (drop (length r) xs) ∙ ap (λ (z : List ℕ). z ++ numbersOf (drop (length r) xs)) (numbers-of-records l))
     ∙ take-at (flatSteps l) (numbersOf (drop (length r) xs)) (n * 5) k

@@ -27,19 +27,12 @@ pub enum Same {
     Done(bool),
 }
 
-// The stated workspace, in words.
-fn stated() -> usize
-    ensures { λ r. ⌜ r ≡ plainWords ⌝ }
-{
-    4096
-}
-
 // The tree check for `n` leaves.
 fn valid_in(tree: &[u16], n: usize, ws: &mut [u64]) -> Validity
     requires { ⌜ n ≤ 512 ⌝ }
     ensures { λ r. ⌜ (r ≡ validityOf (validIn n (length (now (ws .entry))) (now (tree .entry)))) × (now (ws .exit) ≡ workspaceAfter plainWords (validIn n (length (now (ws .entry))) (now (tree .entry))) (now (ws .entry))) ⌝ }
 {
-    let words = stated();
+    let words = walk::stated();
     if ws.len() < words {
         return Validity::Refused(refusal::SHORT_BUFFER);
     }
@@ -78,7 +71,7 @@ fn order_in(tree: &[u16], n: usize, ws: &mut [u64], out: &mut [u16]) -> Ordered
     requires { ⌜ n ≤ 512 ⌝ }
     ensures { λ r. ⌜ (r ≡ orderedOf (orderIn n (length (now (ws .entry))) (length (now (out .entry))) (now (tree .entry)))) × (now (ws .exit) ≡ workspaceAfter plainWords (orderIn n (length (now (ws .entry))) (length (now (out .entry))) (now (tree .entry))) (now (ws .entry))) × (now (out .exit) ≡ orderedSteps (orderIn n (length (now (ws .entry))) (length (now (out .entry))) (now (tree .entry))) (now (out .entry))) ⌝ }
 {
-    let words = stated();
+    let words = walk::stated();
     if ws.len() < words {
         return Ordered::Refused(refusal::SHORT_BUFFER);
     }
@@ -135,7 +128,7 @@ fn same_in(tree: &[u16], other: &[u16], n: usize, ws: &mut [u64]) -> Same
     requires { ⌜ n ≤ 128 ⌝ }
     ensures { λ r. ⌜ (r ≡ sameOf (sameIn n (length (now (ws .entry))) (now (tree .entry)) (now (other .entry)))) × (now (ws .exit) ≡ workspaceAfter plainWords (sameIn n (length (now (ws .entry))) (now (tree .entry)) (now (other .entry))) (now (ws .entry))) ⌝ }
 {
-    let words = stated();
+    let words = walk::stated();
     if ws.len() < words {
         return Same::Refused(refusal::SHORT_BUFFER);
     }

@@ -5,9 +5,16 @@ ghost use Prim.Native.Nat.{ℕ, _+_, _-_, _*_, _<_, _≤_};
 ghost use lib.ListN.{length, getD, set};
 ghost use Rattle.spec.specs.Memory.{over};
 ghost use Rattle.spec.specs.Tree.{valid, pairsOf, stepOrder};
-ghost use Rattle.spec.specs.Calls.{wrongTree};
+ghost use Rattle.spec.specs.Calls.{plainWords, wrongTree};
 ghost use Rattle.walk.specs.Stack.{pushed, pushedBoth, picked};
 ghost use Rattle.walk.specs.Marks.{fresh, marked, freshBoth, markedBoth};
+
+// The stated workspace of a tree's calls, in words.
+pub fn stated() -> usize
+    ensures { λ r. ⌜ r ≡ plainWords ⌝ }
+{
+    4096
+}
 
 // A child's number, as wide as an index.
 fn wide(x: u16) -> usize

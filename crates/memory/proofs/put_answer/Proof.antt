@@ -12,8 +12,8 @@ total-kind-requires c κs = search needs
 put64-requires : tie.Need-put64-requires
 put64-requires c κs = search needs
 
-total-number-requires : tie.Need-total-number-requires
-total-number-requires c κs = search needs
+exact-requires : tie.Need-exact-requires
+exact-requires c κs = search needs
 
 put64-requires-2 : tie.Need-put64-requires-2
 put64-requires-2 c κs = search needs
@@ -37,7 +37,7 @@ returns : tie.Need-returns
 returns c =
     let a = c .before .before .before .before .before .before .before .before .before .before .before .before .before .before .before .before .before .before .before .before .before .args in
     numbers-put (a .answer .now) (pricesFrom (a .prices))
-    (c .before .before .before .before .before .before .before .before .before .before .before .before .before .before .before .before .before .before .total-kind .ensures) (c .before .before .before .before .before .before .before .before .before .before .before .before .before .total-number .ensures) (c .before .before .before .before .before .before .before .before .widest-number .ensures) refl
+    (c .before .before .before .before .before .before .before .before .before .before .before .before .before .before .before .before .before .before .total-kind .ensures) (c .before .before .before .before .before .before .before .before .before .before .before .before .before .exact .ensures) (c .before .before .before .before .before .before .before .before .widest-number .ensures) refl
     (c .before .before .before .before .before .before .before .before .before .before .before .before .before .before .before .before .before .put64 .ensures) (c .before .before .before .before .before .before .before .before .before .before .before .before .put642 .ensures) (c .before .before .before .before .before .before .before .put643 .ensures) (c .before .before .put644 .ensures)
 
 pub put-answer-spec : {M : Type 1} → statement M
@@ -46,7 +46,7 @@ put-answer-spec =
     (tie.spec
     total-kind-requires
     put64-requires
-    total-number-requires
+    exact-requires
     put64-requires-2
     widest-number-requires
     put64-requires-3
