@@ -20,12 +20,16 @@ the buffer ends one byte early. `same` says that the writer gives back the file'
 
 S is a sum over everything read and both lists afterwards. It starts with 0, and each number x takes it to (S * 65599 + x + 1) modulo 2^32. The
 numbers: leaf count, index count, output count; the weights; for each leaf the count of its indices and the indices; the outputs; every place of
-the tree list; every place of the flag list. After a refusal the network is empty."""
+the tree list; every place of the flag list. After a refusal the network is empty.
+
+Cases of additions follow, in the input and in the output: additions.py states their form."""
 import collections
 import os
 import sys
 
 sys.dont_write_bytecode = True
+from addition_cases import all_additions  # noqa: E402
+from additions import answers, encoded_turn  # noqa: E402
 from file_cases import MOST_PLACES, all_cases  # noqa: E402
 from network_file import Contents, Refused, read, write  # noqa: E402
 
@@ -45,15 +49,25 @@ def encoded(cases):
     return b"".join(parts)
 
 
-def sum_of(contents, tree_list, flag_list):
-    numbers = [len(contents.leaves), len(contents.weights), len(contents.outputs), *contents.weights]
-    for leaf in contents.leaves:
-        numbers += [len(leaf), *leaf]
-    numbers += [*contents.outputs, *tree_list, *flag_list]
+def encoded_additions(cases):
+    parts = [number(len(cases), 4)]
+    for turns in cases:
+        parts += [number(len(turns), 4), *(encoded_turn(kind, value) for kind, value in turns)]
+    return b"".join(parts)
+
+
+def sum_over(numbers):
     total = 0
     for x in numbers:
         total = (total * 65599 + x + 1) % 2 ** 32
     return total
+
+
+def sum_of(contents, tree_list, flag_list):
+    numbers = [len(contents.leaves), len(contents.weights), len(contents.outputs), *contents.weights]
+    for leaf in contents.leaves:
+        numbers += [len(leaf), *leaf]
+    return sum_over(numbers + [*contents.outputs, *tree_list, *flag_list])
 
 
 def size_or_dash(items):
@@ -73,7 +87,15 @@ def line(case):
             f" flags {size_or_dash(contents.flags)} target {target} sum {sum_of(contents, tree_after, flags_after)} room 7 written same")
 
 
-def show(cases, k):
+def addition_line(turns):
+    record, told = answers(turns)
+    return " ".join(["added", *map(str, told), "check", str(record.check()), "sum", str(sum_over(record.numbers()))])
+
+
+def show(cases, additions, k):
+    if k > len(cases):
+        turns = additions[k - len(cases) - 1]
+        return print(f"{k}: {turns}\n{addition_line(turns)}")
     case = cases[k - 1]
     print(f"{k}: {case.label}\nplaces: tree {case.tree_places}, flags {case.flag_places}\n{case.data.hex(' ')}\n{line(case)}")
 
@@ -84,12 +106,20 @@ def summary(lines):
     return ", ".join(f"{name}: {counts[name]}" for name in sorted(counts))
 
 
+def addition_summary(lines):
+    """Each refusal of an addition, and each of the check, is among the cases."""
+    told = collections.Counter(word for text in lines for word in text.split()[1:-4])
+    checked = collections.Counter(text.split()[-3] for text in lines)
+    assert set(told) == set(checked) == set("03456")
+    return f"{sum(told.values())} additions, {sum(told.values()) - told['0']} refused; {checked['0']} records accepted, {len(lines) - checked['0']} refused"
+
+
 def main():
-    cases = all_cases()
+    cases, additions = all_cases(), all_additions()
     if sys.argv[1:2] == ["--show"]:
-        return show(cases, int(sys.argv[2]))
-    lines = [line(case) for case in cases]
-    made = {"stdin": encoded(cases), "stdout": "".join(text + "\n" for text in lines).encode()}
+        return show(cases, additions, int(sys.argv[2]))
+    lines, added = [line(case) for case in cases], [addition_line(turns) for turns in additions]
+    made = {"stdin": encoded(cases) + encoded_additions(additions), "stdout": "".join(text + "\n" for text in lines + added).encode()}
     os.makedirs(FOLDER, exist_ok=True)
     for name, data in made.items():
         path = os.path.join(FOLDER, name)
@@ -100,7 +130,8 @@ def main():
         else:
             with open(path, "wb") as stored:
                 stored.write(data)
-    print(f"files.py: {len(cases)} cases, {len(made['stdin'])} bytes; {summary(lines)}")
+    print(f"files.py: {len(cases)} files; {summary(lines)}")
+    print(f"files.py: {len(additions)} cases of additions; {addition_summary(added)}")
 
 
 main()

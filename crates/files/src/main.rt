@@ -1,5 +1,6 @@
-// Reads cases of network files from standard input and writes a line for each: what the reader and the writer answer.
+// Reads cases of network files from standard input and writes a line for each: what the reader and the writer answer. Cases of additions follow.
 // The form of input and output, and the sum of a case, are stated in harness/files.py, which makes both.
+mod additions;
 mod back;
 mod say;
 mod sums;
@@ -56,4 +57,5 @@ fn main() {
     for _ in 0..stored::next_number() {
         next_case();
     }
+    additions::run();
 }

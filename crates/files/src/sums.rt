@@ -41,13 +41,18 @@ fn with_leaves<'a>(sum: u64, leg_counts: &'a [u8], legs: &'a [u16], count: usize
     s
 }
 
-pub fn of(network: Network, tree: &[u16], flags: &[u8]) -> u64 {
+// The sum with a record: its counts, and its lists as far as they are counted.
+pub fn record(sum: u64, network: Network) -> u64 {
     let leaves = network.leaf_count;
     let indices = network.index_count;
     let outputs = network.output_count;
-    let counts = with(with(with(0, leaves), indices), outputs);
-    let weighed = with8(counts, &network.weights, indices);
-    let listed = with_leaves(weighed, &network.leg_counts, &network.legs, leaves);
-    let whole = with16(listed, &network.outputs, outputs);
+    let counts = with(with(with(sum, leaves), indices), outputs);
+    let weighed = with8(counts, &network.weights, min(indices, 256));
+    let listed = with_leaves(weighed, &network.leg_counts, &network.legs, min(leaves, 128));
+    with16(listed, &network.outputs, min(outputs, 32))
+}
+
+pub fn of(network: Network, tree: &[u16], flags: &[u8]) -> u64 {
+    let whole = record(0, network);
     with8(with16(whole, tree, tree.len()), flags, flags.len())
 }

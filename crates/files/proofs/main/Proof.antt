@@ -28,6 +28,9 @@ loop-less c = search needs
 loop-again : tie.Need-loop-again Inv-loop μ-loop
 loop-again c = search needs
 
+run-requires : tie.Need-run-requires Inv-loop μ-loop
+run-requires c κs = search needs
+
 returns : tie.Need-returns Inv-loop μ-loop
 returns c = search needs
 
@@ -43,4 +46,5 @@ main-spec =
     add-counter
     loop-less
     loop-again
+    run-requires
     returns)
