@@ -39,16 +39,10 @@ fn make_move(
     moves::move_vertex(graph, sides, vw, part, loads, v);
     slots::insert(graph, 2, sides + 2, v);
     cells::put16(moves, pass.count, v as u16);
-    let g = moves::counted(pass, key);
+    let mut g = moves::counted(pass, key);
     if moves::past_limit(g.count, g.peak, n) {
-        return Pass {
-            count: g.count,
-            sum: g.sum,
-            best: g.best,
-            peak: g.peak,
-            at: g.at,
-            over: true,
-        };
+        g.over = true;
+        return g;
     }
     let at = fm::enter_neighbours(
         graph,
@@ -66,14 +60,9 @@ fn make_move(
         sides + 2,
         v,
     );
-    Pass {
-        count: g.count,
-        sum: g.sum,
-        best: g.best,
-        peak: g.peak,
-        at,
-        over: false,
-    }
+    g.at = at;
+    g.over = false;
+    g
 }
 
 // Takes the first entry off; its vertex moves, unless the other side can't take it. Without an entry the pass is over.
@@ -99,16 +88,11 @@ fn turn(
     ensures { λ r. ⌜ Brings (now (weights .entry)) (now (vw .entry)) (now (draws .entry)) (place nets vertices sides m (length (now (vw .entry)))) (λ H p. passTurn H maxw p) (lists (now (graph .entry)) (now (part .entry)) (now (loads .entry)) (now (keys .entry)) (now (stamps .entry)) (now (waiting .entry)) (now (moves .entry))) (lists (now (graph .exit)) (now (part .exit)) (now (loads .exit)) (now (keys .exit)) (now (stamps .exit)) (now (waiting .exit)) (now (moves .exit))) (run (pass .count) (pass .sum) (pass .best) (pass .peak) (pass .at) (pass .over)) (run (r .count) (r .sum) (r .best) (r .peak) (r .at) (r .over)) ⌝ }
 {
     let n = vw.len();
+    let mut p = pass;
     let v = queue::largest(graph, sides, keys, stamps, waiting, n);
     if v == n {
-        return Pass {
-            count: pass.count,
-            sum: pass.sum,
-            best: pass.best,
-            peak: pass.peak,
-            at: pass.at,
-            over: true,
-        };
+        p.over = true;
+        return p;
     }
     cells::put8(waiting, v, 0);
     if moves::fits(part, loads, vw, maxw, v) {
@@ -132,14 +116,8 @@ fn turn(
             v,
         );
     }
-    Pass {
-        count: pass.count,
-        sum: pass.sum,
-        best: pass.best,
-        peak: pass.peak,
-        at: pass.at,
-        over: false,
-    }
+    p.over = false;
+    p
 }
 
 // Turn after turn until the pass is over, as often as (n + 1)² at most.
