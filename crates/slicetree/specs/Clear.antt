@@ -23,8 +23,8 @@ use Rattle.reprice.specs.Held.{PriceHeld}
 use Rattle.ranks.specs.Promise.{planWith}
 use Rattle.slicing.specs.Turns.{Within}
 use Rattle.reconfigure.specs.Improves.{flat-pairs, tree-length, beyond-is}
-use Rattle.slicepasses.specs.Once.{exact-below}
-use Rattle.slicepasses.specs.Choices.{Stands}
+use Rattle.slicetree.specs.Once.{exact-below}
+use Rattle.slicetree.specs.Choices.{Stands}
 use Rattle.cells.specs.Cells.{over-all}
 
 -- a list of one flag an index

@@ -26,7 +26,7 @@ use Rattle.passes.specs.Made.{mostTried, Improves}
 use Rattle.passes.specs.Bounds.{visits-rebuilt, visits-tried}
 use Rattle.passes.specs.Nodes.{pass-nodes}
 use Rattle.reconfigure.specs.Improves.{improved-is, right-here}
-use Rattle.slicepasses.specs.Widest.{widest-held}
+use Rattle.slicetree.specs.Widest.{widest-held}
 
 -- "limit max(widest, target)"
 abbrev pub limitFor : Network → ℕ → (ℕ → Bool) → List ℕ → ℕ

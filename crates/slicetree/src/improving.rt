@@ -8,9 +8,9 @@ ghost use Rattle.spec.specs.Calls.{flagAt};
 ghost use Rattle.spec.specs.Slicing.{orZero};
 ghost use Rattle.pricing.specs.Answers.{widestIn};
 ghost use Rattle.subset.specs.Search.{limitOf};
-ghost use Rattle.slicepasses.specs.Asks.{Asks};
-ghost use Rattle.slicepasses.specs.Once.{Once};
-ghost use Rattle.slicepasses.specs.Choices.{Stands, Choice, Sliced};
+ghost use Rattle.slicetree.specs.Asks.{Asks};
+ghost use Rattle.slicetree.specs.Once.{Once};
+ghost use Rattle.slicetree.specs.Choices.{Stands, Choice, Sliced};
 use reconf::Visited;
 use reconfigure::Limit;
 

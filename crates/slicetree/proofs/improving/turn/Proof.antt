@@ -5,12 +5,12 @@ use Rattle.spec.specs.Memory.{filled}
 use Rattle.spec.specs.Tree.{stepOrder}
 use Rattle.walk.specs.Order.{order-length}
 use Rattle.cost.specs.Checks.{order-front, front-length}
-use Rattle.slicepasses.specs.Choices.{choice-none, choice-made, within-next}
-use Rattle.slicepasses.specs.Asks.{asks-priceable, asks-room, same-asks}
+use Rattle.slicetree.specs.Choices.{choice-none, choice-made, within-next}
+use Rattle.slicetree.specs.Asks.{asks-priceable, asks-room, same-asks}
 use native.Mathlib.Omega.{arith}
 use mathlib.Core.Path.{sym, _∙_}
-use Rattle.slicepasses.proofs.turn.Statement.{statement}
-use Rattle.slicepasses.proofs.turn.Tie as tie
+use Rattle.slicetree.proofs.improving.turn.Statement.{statement}
+use Rattle.slicetree.proofs.improving.turn.Tie as tie
 
 slice-aggregate-post-order : tie.Need-slice-aggregate-post-order
 slice-aggregate-post-order c = search needs

@@ -3,14 +3,14 @@ use borrow.Author.Needs.{needs}
 use Prim.Native.Nat.{suc}
 use borrow.Author.Tests.{not-true, not-false}
 use Rattle.spec.specs.Layout.{networkOf}
-use Rattle.slicepasses.specs.Choices.{Going, going-none, going-next, going-stops, going-ends}
-use Rattle.slicepasses.specs.Asks.{same-asks}
+use Rattle.slicetree.specs.Choices.{Going, going-none, going-next, going-stops, going-ends}
+use Rattle.slicetree.specs.Asks.{same-asks}
 use native.Mathlib.Omega.{arith}
 use Prim.Native.Nat.{_+_, _-_, _≤_}
 use mathlib.Core.Path.{_≡_, refl, _∙_}
 use lib.ListN.{length}
-use Rattle.slicepasses.proofs.slice.Statement.{statement}
-use Rattle.slicepasses.proofs.slice.Tie as tie
+use Rattle.slicetree.proofs.improving.slice.Statement.{statement}
+use Rattle.slicetree.proofs.improving.slice.Tie as tie
 
 abbrev Inv-loop : tie.InvT-loop
 Inv-loop words₀ kids₀ flags₀ m n o weights counts legs outputs target rebuilt₀ tried₀ i₀ words kids flags rebuilt tried i =

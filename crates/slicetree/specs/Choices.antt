@@ -16,7 +16,7 @@ use Rattle.laws.specs.Booleans.{clash}
 use Rattle.passes.specs.Made.{mostTried}
 use Rattle.ranks.specs.Promise.{planWith}
 use Rattle.slicing.specs.Turns.{Within, Turned, also-flag, slicing-none, slicing-next}
-use Rattle.slicepasses.specs.Once.{limitFor, Once}
+use Rattle.slicetree.specs.Once.{limitFor, Once}
 
 -- the tree and the flags that slicing goes on with
 pub record Stands (N : Network) (n : ℕ) (kids flags : List ℕ) : Type 0 where

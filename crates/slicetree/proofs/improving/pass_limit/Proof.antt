@@ -9,8 +9,8 @@ use Rattle.spec.specs.Slicing.{orZero}
 use Prim.Native.Nat.{max}
 use Prim.Native.Nat.{ℕ, _+_, _-_}
 use mathlib.Core.Path.{ap, _∙_}
-use Rattle.slicepasses.proofs.pass_limit.Statement.{statement}
-use Rattle.slicepasses.proofs.pass_limit.Tie as tie
+use Rattle.slicetree.proofs.improving.pass_limit.Statement.{statement}
+use Rattle.slicetree.proofs.improving.pass_limit.Tie as tie
 
 less-requires : tie.Need-less-requires
 less-requires c κs = search needs

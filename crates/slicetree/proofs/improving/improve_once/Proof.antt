@@ -2,11 +2,11 @@
 use borrow.Author.Needs.{needs}
 use Rattle.network.specs.Layouts.{layout-leaf-count}
 use Rattle.subset.specs.Search.{limitOf}
-use Rattle.slicepasses.specs.Once.{standing-of, once, limit-is}
-use Rattle.slicepasses.specs.Asks.{asks-ready}
+use Rattle.slicetree.specs.Once.{standing-of, once, limit-is}
+use Rattle.slicetree.specs.Asks.{asks-ready}
 use native.Mathlib.Omega.{arith}
-use Rattle.slicepasses.proofs.improve_once.Statement.{statement}
-use Rattle.slicepasses.proofs.improve_once.Tie as tie
+use Rattle.slicetree.proofs.improving.improve_once.Statement.{statement}
+use Rattle.slicetree.proofs.improving.improve_once.Tie as tie
 
 slice-aggregate-reprice : tie.Need-slice-aggregate-reprice
 slice-aggregate-reprice c = search needs
