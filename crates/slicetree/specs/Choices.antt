@@ -14,7 +14,7 @@ use Rattle.spec.specs.Improve.{improve}
 use Rattle.spec.specs.Slicing.{Plan, also, chosen, sliceLoop, onePass}
 use Rattle.laws.specs.Booleans.{clash}
 use Rattle.passes.specs.Made.{mostTried}
-use Rattle.ranks.specs.Promise.{planWith}
+use Rattle.slicing.specs.Promise.{planWith}
 use Rattle.slicing.specs.Turns.{Within, Turned, also-flag, slicing-none, slicing-next}
 use Rattle.slicetree.specs.Once.{limitFor, Once}
 

@@ -20,7 +20,7 @@ use Rattle.nodesets.specs.Lists.{Ordered, ordered-steps}
 use Rattle.pricing.specs.Promise.{Room}
 use Rattle.pricing.specs.Sums.{workSum}
 use Rattle.reprice.specs.Held.{PriceHeld}
-use Rattle.ranks.specs.Promise.{planWith}
+use Rattle.slicing.specs.Promise.{planWith}
 use Rattle.slicing.specs.Turns.{Within}
 use Rattle.reconfigure.specs.Improves.{flat-pairs, tree-length, beyond-is}
 use Rattle.slicetree.specs.Once.{exact-below}

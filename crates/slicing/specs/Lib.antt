@@ -1,3 +1,9 @@
--- The turns of slicing, against the definitions. Assumes nothing.
+-- The best candidate, as a loop finds it and by the definitions; the turns of slicing. Assumes nothing.
+pub mod Best
+pub mod Folds
+pub mod Tables
+pub mod Promise
+pub mod Weights
+pub mod Whole
 pub mod Turns
 pub mod Priced

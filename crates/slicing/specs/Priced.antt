@@ -19,7 +19,7 @@ use Rattle.pricing.specs.declared.Prices.{Prices}
 use Rattle.pricing.specs.Promise.{Priceable, Room, Pricing}
 use Rattle.pricing.specs.Final.{weights-light, leaf-count, places}
 use Rattle.cost.specs.Back.{totalFrom, widestFrom, total-back, widest-back, exactOf}
-use Rattle.ranks.specs.Promise.{Rankable, PricedTree, node-sums}
+use Rattle.slicing.specs.Promise.{Rankable, PricedTree, node-sums}
 use Rattle.slicing.specs.Turns.{exact-total}
 
 module _ {W m n o : ℕ} {weights counts rows outputs kids order : List ℕ} (p : Priceable W m n o weights counts rows outputs kids order)

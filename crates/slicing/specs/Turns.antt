@@ -19,10 +19,10 @@ use Rattle.laws.specs.Booleans.{clash, and-right}
 use Rattle.laws.specs.ListLaws.{memb-keep, from-memb}
 use Rattle.laws.specs.SlicingOrder.{best-is-best}
 use Rattle.laws.specs.SlicingLaws.{flag-falls}
-use Rattle.ranks.specs.declared.Best.{Best}
-use Rattle.ranks.specs.declared.Best.the-variants.{Nothing, Index}
-use Rattle.ranks.specs.Folds.{bestIn}
-use Rattle.ranks.specs.Promise.{planWith}
+use Rattle.slicing.specs.declared.ranks.Best.{Best}
+use Rattle.slicing.specs.declared.ranks.Best.the-variants.{Nothing, Index}
+use Rattle.slicing.specs.Folds.{bestIn}
+use Rattle.slicing.specs.Promise.{planWith}
 
 abbrev pub isIndex : Best → Bool
 isIndex Nothing = false

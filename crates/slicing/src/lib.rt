@@ -7,6 +7,9 @@ ghost use Rattle.spec.specs.Slicing.{orZero, withinTarget};
 ghost use Rattle.cost.specs.Back.{totalFrom, widestFrom, exactOf};
 ghost use Rattle.pricing.specs.Promise.{Priceable, Room};
 ghost use Rattle.slicing.specs.Turns.{withFlag, isIndex, Within, Turned, Sliced};
+
+mod ranks; // ranks.rt: the index that is sliced next
+
 use pricing::Total;
 use pricing::Widest;
 use ranks::Best;

@@ -14,7 +14,7 @@ use Rattle.laws.specs.LayoutLaws.{map-range-more}
 use Rattle.slots.specs.Slots.{held}
 use Rattle.slots.specs.Rising.{keep-add}
 use Rattle.putfields.specs.Put.{Put, put-both, put-none}
-use Rattle.digits.specs.Digits.{spaced-one, spaced-append}
+use Rattle.steplines.specs.Digits.{spaced-one, spaced-append}
 use Rattle.steplines.specs.Steps.{stepFrom, stepsFrom}
 
 -- ---- one more ----

@@ -9,6 +9,8 @@ ghost use Rattle.slots.specs.Slots.{held};
 ghost use Rattle.putfields.specs.Put.{Put};
 ghost use Rattle.steplines.specs.Steps.{stepFrom, stepsFrom};
 
+pub mod digits; // digits.rt: words and decimal numbers
+
 // The index j, if it is in slot v.
 fn put_member(out: &mut [u8], at: usize, sets: &[u64], w: usize, v: usize, j: usize) -> usize
     requires { ⌜ (at ≤ 1048576) × (w ≤ 16) × (v < 65536) ⌝ }

@@ -12,7 +12,7 @@ use Rattle.spec.specs.Program.{Printed}
 use Rattle.spec.specs.Text.{ascii, spaced, line, linesOf, planLine, stepLine, totalLine, widestLine, sliceLine, planText}
 use Rattle.laws.specs.TextLaws.{decimal-length}
 use Rattle.putfields.specs.Put.{Put, put-both, put-none}
-use Rattle.digits.specs.Digits.{spaced-one}
+use Rattle.steplines.specs.Digits.{spaced-one}
 use Rattle.steplines.specs.Lines.{keep-more, lines-append, lines-one, put-numbers}
 
 -- ---- indices that are flagged ----

@@ -9,6 +9,7 @@ ghost use Rattle.cost.specs.Back.{totalFrom, widestFrom};
 ghost use Rattle.putfields.specs.Put.{Put};
 use pricing::Total;
 use pricing::Widest;
+use steplines::digits;
 
 pub fn put_total(out: &mut [u8], at: usize, total: Total) -> usize
     requires { ⌜ at ≤ 1000000 ⌝ }

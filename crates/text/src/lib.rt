@@ -8,6 +8,7 @@ ghost use Rattle.text.specs.Lists.{printedFrom};
 pub mod figures; // figures.rt: the lines of total, widest, sliced indices and counts
 
 use pricing::Prices;
+use steplines::digits;
 
 fn put_head(out: &mut [u8], leaves: usize, indices: usize) -> usize
     ensures { λ r. ⌜ Put (now (out .entry)) (now (out .exit)) 0 r (planLine leaves indices) × (r ≤ 47) ⌝ }

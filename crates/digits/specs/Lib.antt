@@ -1,2 +1,0 @@
--- Words and decimal numbers put one after another. Assumes nothing.
-pub mod Digits
