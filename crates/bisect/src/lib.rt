@@ -1,4 +1,4 @@
-// A hypergraph halved: through coarser and coarser levels to a first partition, and back level by level, refined at each.
+// What the bisection of some leaves is made of. Here: a hypergraph halved, through coarser and coarser levels to a first partition, and back level by level, refined at each.
 ghost use mathlib.Core.Path.{_≡_};
 ghost use Prim.Native.Nat.{_≤_};
 ghost use lib.ListN.{length, take};
@@ -9,6 +9,10 @@ ghost use Rattle.partition.specs.Layout.{graphIn};
 ghost use Rattle.moves.specs.Laying.{Bits};
 ghost use Rattle.levels.specs.Stage.{Stage};
 ghost use Rattle.bisect.specs.Through.{Through};
+
+pub mod halves; // halves.rt: the two halves of a list of leaves, by a partition
+pub mod halving; // halving.rt: small ends, the node over two halves
+pub mod hypergraph; // hypergraph.rt: the hypergraph of some leaves
 
 // A partition of level `level`, at the front of the list, through coarser levels and back. It falls with the number of vertices.
 // Returns the cursor.

@@ -17,7 +17,7 @@ use Rattle.spec.specs.Bisection as spec
 use Rattle.spec.specs.Bisection.{bisection}
 use Rattle.merging.specs.Removed.{flat-length}
 use Rattle.walk.specs.Entry.{Untouched, answers, same-words, same-list, done-words, by-network, past-network, by-length, past-length}
-use Rattle.halving.specs.Cases.{refusalAt}
+use Rattle.bisect.specs.Cases.{refusalAt}
 use Rattle.bisection.specs.Whole.{Whole, isRefused, isPlan, copied-out}
 use Rattle.bisection.specs.declared.Bisected.{Bisected}
 

@@ -6,9 +6,9 @@ use native.Mathlib.Omega.{arith}
 use lib.ListN.{length, take, drop, length-drop}
 use Rattle.spec.specs.Network.{Network}
 use Rattle.spec.specs.Tree.{Pair}
-use Rattle.hypergraph.specs.Whole.{Names}
+use Rattle.bisect.specs.Whole.{Names}
 use Rattle.greedynodes.specs.Begin.{Fits, Asks}
-use Rattle.halving.specs.Recursion.{rest-part}
+use Rattle.bisect.specs.Recursion.{rest-part}
 
 -- how long the part behind the left half is, once that is back
 pub rest-length : (l y : List ℕ) (m k : ℕ) → m ≤ length l → length y ≡ length (take m l) → k ≡ length (y ++ drop m l) - m

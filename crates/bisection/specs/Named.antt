@@ -11,9 +11,9 @@ use Rattle.spec.specs.Bisection.{leftHalf, rightHalf}
 use Rattle.laws.specs.Booleans.{by-cases}
 use Rattle.laws.specs.ListLaws.{count-memb, count-not-memb, count-append}
 use Rattle.laws.specs.BisectionHalves.{onZero, members-count}
-use Rattle.hypergraph.specs.Whole.{Names}
-use Rattle.halving.specs.Cuts.{CutBy, isExhausted, isWhole, isCut}
-use Rattle.halving.specs.Recursion.{rest-part}
+use Rattle.bisect.specs.Whole.{Names}
+use Rattle.bisect.specs.Cuts.{CutBy, isExhausted, isWhole, isCut}
+use Rattle.bisect.specs.Recursion.{rest-part}
 
 -- there is such a network
 pub record Named (weights counts legs leaves : List ℕ) : Type 0 where

@@ -12,8 +12,8 @@ use Rattle.spec.specs.Hypergraph.{Hypergraph}
 use Rattle.spec.specs.Bisection.{bisect}
 use Rattle.draws.specs.Cursor.{wordsAt}
 use Rattle.partition.specs.Layout.{graphIn}
-use Rattle.hypergraph.specs.Whole.{IsOf}
-use Rattle.halving.specs.Cuts.{Partitioned}
+use Rattle.bisect.specs.Whole.{IsOf}
+use Rattle.bisect.specs.Cuts.{Partitioned}
 use Rattle.levels.specs.Stage.{Stage}
 
 -- an array of k places, once its front is back

@@ -32,7 +32,7 @@ use Rattle.greedynodes.specs.Begin.{Fits, Asks}
 use Rattle.greedynodes.specs.Counted.{counted-range, light-front}
 use Rattle.bisection.specs.Calls.{names-of}
 use Rattle.bisection.specs.Named.{Named}
-use Rattle.halving.specs.Cases.{halved, refusalAt, Halves, isOff, isTree}
+use Rattle.bisect.specs.Cases.{halved, refusalAt, Halves, isOff, isTree}
 
 -- what bisection of all leaves answers: from 65536 on it is refused; else the children of the array stand at the front of `kids`
 pub data Whole (N : Network) (i cutoff : ℕ) (words kids₀ kids : List ℕ) (top next : ℕ) : Type 0 where

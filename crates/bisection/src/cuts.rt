@@ -2,9 +2,11 @@
 ghost use Prim.Native.Nat.{_<_, _≤_};
 ghost use lib.ListN.{length};
 ghost use Rattle.spec.specs.Network.{Network as Net};
-ghost use Rattle.hypergraph.specs.Whole.{Names};
-ghost use Rattle.halving.specs.Cuts.{Partitioned, CutBy};
+ghost use Rattle.bisect.specs.Whole.{Names};
+ghost use Rattle.bisect.specs.Cuts.{Partitioned, CutBy};
 ghost use Rattle.bisection.specs.Named.{Named};
+use bisect::halves;
+use bisect::hypergraph;
 
 // How many leaves go left, 0 where they are not halved; and the cursor.
 pub struct Cut {

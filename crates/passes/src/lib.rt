@@ -7,10 +7,13 @@ ghost use Rattle.spec.specs.Layout.{networkOf};
 ghost use Rattle.spec.specs.Tree.{stepOrder};
 ghost use Rattle.spec.specs.Calls.{flagAt, wrongTree};
 ghost use Rattle.subset.specs.Search.{limitOf};
-ghost use Rattle.falling.specs.Sorted.{sorted};
+ghost use Rattle.passes.specs.Sorted.{sorted};
 ghost use Rattle.reprice.specs.Held.{Standing};
 ghost use Rattle.passes.specs.Made.{Ready, VisitsAll, Passes, Improves};
 ghost use Rattle.passes.specs.Loops.{passesLeft};
+
+mod falling; // falling.rt: nodes by falling work
+
 use reconf::Visited;
 
 // Writes the nodes of the tree in `kids` to the front of `nodes`, by falling work, and returns how many they are.

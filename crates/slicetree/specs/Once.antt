@@ -19,7 +19,7 @@ use Rattle.spec.specs.Improve.{innerTrees, falling, visits, pass, improveTree, 
 use Rattle.spec.specs.Slicing.{orZero}
 use Rattle.laws.specs.Booleans.{by-cases, clash}
 use Rattle.walk.specs.Order.{order-length}
-use Rattle.falling.specs.Sorted.{sorted, sorted-length}
+use Rattle.passes.specs.Sorted.{sorted, sorted-length}
 use Rattle.pricing.specs.Answers.{widestIn}
 use Rattle.reprice.specs.Held.{treeOf, PriceHeld, Standing}
 use Rattle.passes.specs.Made.{mostTried, Improves}

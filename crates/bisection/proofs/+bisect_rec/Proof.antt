@@ -2,8 +2,8 @@
 use denote.Ref.{now}
 use lib.ListN.{length}
 use native.Mathlib.Omega.{arith}
-use Rattle.halving.specs.Recursion.{rest-part, rec-small, cut-same, rec-unsplit, left-asks, rec-left, rec-joined}
-use Rattle.halving.specs.Cases.{Halves}
+use Rattle.bisect.specs.Recursion.{rest-part, rec-small, cut-same, rec-unsplit, left-asks, rec-left, rec-joined}
+use Rattle.bisect.specs.Cases.{Halves}
 use Rattle.greedynodes.specs.Begin.{Asks}
 use Rattle.bisection.specs.Calls.{rest-length, fits-again, names-of}
 use Rattle.bisection.specs.Named.{left-named, right-named}
@@ -17,9 +17,9 @@ use Rattle.bisection.proofs.bisect_rec.Kinds as bisect-rec-kinds
 use Rattle.bisection.proofs.+bisect_rec.Lts-bisect_rec as bisect-rec-lts
 use Rattle.bisection.proofs.cuts.cut_leaves.Reads as cut-leaves-reads
 use Rattle.greedynodes.proofs.greedy_nodes.Reads as greedy-nodes-reads
-use Rattle.halving.proofs.join_halves.Reads as join-halves-reads
-use Rattle.halving.proofs.small.Reads as small-reads
-use Rattle.halving.proofs.unsplit.Reads as unsplit-reads
+use Rattle.bisect.proofs.halving.join_halves.Reads as join-halves-reads
+use Rattle.bisect.proofs.halving.small.Reads as small-reads
+use Rattle.bisect.proofs.halving.unsplit.Reads as unsplit-reads
 use Rattle.bisection.proofs.+bisect_rec.{statement}
 use Rattle.bisection.proofs.+bisect_rec.Tie.{close}
 

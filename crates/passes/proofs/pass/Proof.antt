@@ -1,7 +1,7 @@
 -- Assumes nothing.
 use borrow.Author.Needs.{needs}
 use Rattle.spec.specs.Tree.{stepOrder}
-use Rattle.falling.specs.Sorted.{sorted}
+use Rattle.passes.specs.Sorted.{sorted}
 use lib.Seq.{length-take-le}
 use lib.ListN.{take}
 use Rattle.network.specs.Layouts.{layout-leaf-count}

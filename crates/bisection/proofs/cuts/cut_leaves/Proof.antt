@@ -1,6 +1,6 @@
 -- Assumes nothing.
-use Rattle.halving.specs.Cuts.{cut-exhausted, cut-left, cut-some}
-use Rattle.halves.specs.Picks.{few-left}
+use Rattle.bisect.specs.Cuts.{cut-exhausted, cut-left, cut-some}
+use Rattle.bisect.specs.Picks.{few-left}
 use Prim.Native.Nat.{_≤_}
 use lib.Seq.{length-take-le}
 use lib.ListN.{length, take}

@@ -1,2 +1,0 @@
--- Nodes by falling work. Assumes nothing.
-pub mod Sorted
