@@ -1,4 +1,7 @@
--- The best candidate, as a loop finds it and by the definitions; the turns of slicing. Assumes nothing.
+-- Sums by index over steps and tables; the best candidate, as a loop finds it and by the definitions; the turns of slicing. Assumes nothing.
+pub mod Sums
+pub mod Words
+pub mod Nodes
 pub mod Best
 pub mod Folds
 pub mod Tables

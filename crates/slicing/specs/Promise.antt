@@ -18,7 +18,7 @@ use Rattle.slots.specs.Weigh.{Light}
 use Rattle.nodesets.specs.Passes.{nodes}
 use Rattle.nodesets.specs.Steps.{Steps}
 use Rattle.nodesets.specs.Lists.{Ordered}
-use Rattle.tallies.specs.Nodes.{stepShare, tableShare}
+use Rattle.slicing.specs.Nodes.{stepShare, tableShare}
 use Rattle.slicing.specs.declared.ranks.Best.{Best}
 use Rattle.slicing.specs.Best.{bestOf, candidateIn, rankIn}
 use Rattle.slicing.specs.Folds.{bestIn, best-same, best-is}

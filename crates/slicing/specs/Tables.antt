@@ -25,8 +25,8 @@ use Rattle.nodesets.specs.Flow.{leaf-tree}
 use Rattle.nodesets.specs.Lists.{Ordered, ordered-steps}
 use Rattle.pricing.specs.Sums.{from-add}
 use Rattle.pricing.specs.Tables.{node-counts, map-same-from, leaves-are}
-use Rattle.tallies.specs.Sums.{share-kept}
-use Rattle.tallies.specs.Nodes.{stepShare, tableShare, sizeAbove}
+use Rattle.slicing.specs.Sums.{share-kept}
+use Rattle.slicing.specs.Nodes.{stepShare, tableShare, sizeAbove}
 
 -- ---- sums ----
 

@@ -14,8 +14,8 @@ use Rattle.cells.specs.Cells.{filled-length, filled-all}
 use Rattle.slots.specs.Weigh.{openWeight, either}
 use Rattle.network.specs.Layouts.{layout-index-count, layout-weights, layout-outputs}
 use Rattle.nodesets.specs.Passes.{nodes}
-use Rattle.tallies.specs.Sums.{Small, Summed, share-most}
-use Rattle.tallies.specs.Nodes.{StepsKnown, TablesKnown, stepShare, tableShare, sum-le}
+use Rattle.slicing.specs.Sums.{Small, Summed, share-most}
+use Rattle.slicing.specs.Nodes.{StepsKnown, TablesKnown, stepShare, tableShare, sum-le}
 use Rattle.laws.specs.FlatLaws.{leftOf, rightOf}
 use Rattle.slicing.specs.declared.ranks.Best.{Best}
 use Rattle.slicing.specs.Best.{bestOf, candidateIn, rankIn}

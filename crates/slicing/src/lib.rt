@@ -9,6 +9,7 @@ ghost use Rattle.pricing.specs.Promise.{Priceable, Room};
 ghost use Rattle.slicing.specs.Turns.{withFlag, isIndex, Within, Turned, Sliced};
 
 mod ranks; // ranks.rt: the index that is sliced next
+mod tallies; // tallies.rt: sums by index over the steps and the tables of a tree
 
 use pricing::Total;
 use pricing::Widest;

@@ -10,6 +10,7 @@ ghost use Rattle.spec.specs.Layout.{firsts};
 ghost use Rattle.slots.specs.Weigh.{Light, openWeight};
 ghost use Rattle.slicing.specs.Best.{considered, bestOf, candidateIn, rankIn};
 ghost use Rattle.slicing.specs.Promise.{Rankable, Chosen};
+use crate::tallies;
 
 // The best candidate so far, with its cost and the summed size of the tables above the target that list it.
 pub enum Best {

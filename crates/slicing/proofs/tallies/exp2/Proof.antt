@@ -4,8 +4,8 @@ use lib.Pow.{pow-mono}
 use Rattle.bits.specs.Bit.{one-shl}
 use native.Mathlib.Omega.{arith}
 use Prim.Native.Nat.{_^_, _≤_}
-use Rattle.tallies.proofs.exp2.Statement.{statement}
-use Rattle.tallies.proofs.exp2.Tie as tie
+use Rattle.slicing.proofs.tallies.exp2.Statement.{statement}
+use Rattle.slicing.proofs.tallies.exp2.Tie as tie
 
 shl-result : tie.Need-shl-result
 shl-result c = search needs

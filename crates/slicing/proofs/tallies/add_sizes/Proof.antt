@@ -2,13 +2,13 @@
 use borrow.Author.Needs.{needs}
 use Rattle.nodesets.specs.Turns.{slot-in}
 use Rattle.spec.specs.Lists.{range}
-use Rattle.tallies.specs.Sums.{Summed, summed-none}
-use Rattle.tallies.specs.Nodes.{tableShare, tables-small, tables-next}
+use Rattle.slicing.specs.Sums.{Summed, summed-none}
+use Rattle.slicing.specs.Nodes.{tableShare, tables-small, tables-next}
 use native.Mathlib.Omega.{arith}
 use Prim.Native.Nat.{ℕ, _-_, _≤_}
 use mathlib.Core.Path.{_≡_, refl, subst}
-use Rattle.tallies.proofs.add_sizes.Statement.{statement}
-use Rattle.tallies.proofs.add_sizes.Tie as tie
+use Rattle.slicing.proofs.tallies.add_sizes.Statement.{statement}
+use Rattle.slicing.proofs.tallies.add_sizes.Tie as tie
 
 abbrev Inv-loop : tie.InvT-loop
 Inv-loop sums₀ sets sizes w m target v₀ sums v = (v ≤ m) × Summed (tableShare w target sets sizes) sums₀ (range v) sums

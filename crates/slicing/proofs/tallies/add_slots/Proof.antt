@@ -1,12 +1,12 @@
 -- Assumes nothing.
 use borrow.Author.Needs.{needs}
-use Rattle.tallies.specs.Sums.{summed-none}
-use Rattle.tallies.specs.Words.{AddedTo, slots-small, slots-next}
+use Rattle.slicing.specs.Sums.{summed-none}
+use Rattle.slicing.specs.Words.{AddedTo, slots-small, slots-next}
 use native.Mathlib.Omega.{arith}
 use Prim.Native.Nat.{ℕ, _-_, _≤_}
 use mathlib.Core.Path.{_≡_, refl, subst}
-use Rattle.tallies.proofs.add_slots.Statement.{statement}
-use Rattle.tallies.proofs.add_slots.Tie as tie
+use Rattle.slicing.proofs.tallies.add_slots.Statement.{statement}
+use Rattle.slicing.proofs.tallies.add_slots.Tie as tie
 
 abbrev Inv-loop : tie.InvT-loop
 Inv-loop sums₀ sets w a b amount p q k₀ sums k = (k ≤ w) × AddedTo sets w a b amount sums₀ k sums

@@ -1,12 +1,12 @@
 -- Assumes nothing.
 use borrow.Author.Needs.{needs}
 use Rattle.bits.specs.Lowest.{drop-less}
-use Rattle.tallies.specs.Words.{Adding, adding-small, adding-next, adding-end}
+use Rattle.slicing.specs.Words.{Adding, adding-small, adding-next, adding-end}
 use native.Mathlib.Omega.{arith}
 use Prim.Native.Nat.{_+_, _≤_}
 use mathlib.Core.Path.{refl}
-use Rattle.tallies.proofs.add_word.Statement.{statement}
-use Rattle.tallies.proofs.add_word.Tie as tie
+use Rattle.slicing.proofs.tallies.add_word.Statement.{statement}
+use Rattle.slicing.proofs.tallies.add_word.Tie as tie
 
 abbrev Inv-loop : tie.InvT-loop
 Inv-loop sums₀ x base amount rest₀ sums rest = Adding amount sums₀ base x sums rest × (rest ≤ x)

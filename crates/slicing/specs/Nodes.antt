@@ -17,7 +17,7 @@ use Rattle.laws.specs.FlatLaws.{leftOf, rightOf}
 use Rattle.slots.specs.Weigh.{either}
 use Rattle.nodesets.specs.Passes.{nodes}
 use Rattle.nodesets.specs.Steps.{Steps}
-use Rattle.tallies.specs.Sums.{Small, Summed, share, Added, summed-next, share-most, share-nothing}
+use Rattle.slicing.specs.Sums.{Small, Summed, share, Added, summed-next, share-most, share-nothing}
 
 -- ---- steps ----
 

@@ -2,13 +2,13 @@
 use borrow.Author.Needs.{needs}
 use Rattle.nodesets.specs.Turns.{step-inner, step-left, step-right, slot-in}
 use Rattle.laws.specs.FlatLaws.{leftOf, rightOf}
-use Rattle.tallies.specs.Sums.{Summed, summed-none}
-use Rattle.tallies.specs.Nodes.{stepShare, step-works, steps-small, steps-next, steps-end}
+use Rattle.slicing.specs.Sums.{Summed, summed-none}
+use Rattle.slicing.specs.Nodes.{stepShare, step-works, steps-small, steps-next, steps-end}
 use native.Mathlib.Omega.{arith}
 use Prim.Native.Nat.{_-_, _≤_}
 use lib.ListN.{length, take}
-use Rattle.tallies.proofs.add_works.Statement.{statement}
-use Rattle.tallies.proofs.add_works.Tie as tie
+use Rattle.slicing.proofs.tallies.add_works.Statement.{statement}
+use Rattle.slicing.proofs.tallies.add_works.Tie as tie
 
 abbrev Inv-loop : tie.InvT-loop
 Inv-loop sums₀ sets works w n kids order k₀ k-end sums k = (k ≤ length order) × Summed (stepShare w (leftOf kids n) (rightOf kids n) sets works) sums₀ (take k order) sums

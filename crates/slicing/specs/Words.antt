@@ -15,7 +15,7 @@ use Rattle.bits.specs.Digits.{digit}
 use Rattle.bits.specs.Lowest.{places, places-step, places-none, tz-small}
 use Rattle.slots.specs.Rising.{word-more}
 use Rattle.slots.specs.Weigh.{either, either-tests}
-use Rattle.tallies.specs.Sums.{Small, amountAt, share, Added, summed-more, share-most}
+use Rattle.slicing.specs.Sums.{Small, amountAt, share, Added, summed-more, share-most}
 
 -- ---- one word ----
 

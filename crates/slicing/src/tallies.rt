@@ -7,8 +7,8 @@ ghost use Rattle.spec.specs.Lists.{keep, range};
 ghost use Rattle.bits.specs.Lowest.{places};
 ghost use Rattle.slots.specs.Weigh.{either};
 ghost use Rattle.laws.specs.FlatLaws.{leftOf, rightOf};
-ghost use Rattle.tallies.specs.Sums.{Added, Summed, Small};
-ghost use Rattle.tallies.specs.Nodes.{StepsKnown, TablesKnown, stepShare, tableShare, sizeAbove};
+ghost use Rattle.slicing.specs.Sums.{Added, Summed, Small};
+ghost use Rattle.slicing.specs.Nodes.{StepsKnown, TablesKnown, stepShare, tableShare, sizeAbove};
 
 // A number as an index.
 fn index16(x: u16) -> usize

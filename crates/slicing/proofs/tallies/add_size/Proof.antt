@@ -1,9 +1,9 @@
 -- Assumes nothing.
 use borrow.Author.Needs.{needs}
-use Rattle.tallies.specs.Nodes.{sizeAbove, added-nothing}
+use Rattle.slicing.specs.Nodes.{sizeAbove, added-nothing}
 use borrow.Author.Tests.{lt-ltb, le-ltb}
-use Rattle.tallies.proofs.add_size.Statement.{statement}
-use Rattle.tallies.proofs.add_size.Tie as tie
+use Rattle.slicing.proofs.tallies.add_size.Statement.{statement}
+use Rattle.slicing.proofs.tallies.add_size.Tie as tie
 
 returns : tie.Need-returns
 returns c = let a = c .before .before .before .args in added-nothing (sizeAbove (a .target) (a .size)) _ _ (rw (le-ltb (a .target) (a .size) (c .if1 .taken)))

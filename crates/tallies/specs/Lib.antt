@@ -1,4 +1,0 @@
--- Sums by index over steps and tables. Assumes nothing.
-pub mod Sums
-pub mod Words
-pub mod Nodes
