@@ -12,8 +12,8 @@ use Rattle.spec.specs.Lists.{memb}
 use Rattle.cells.specs.Loop.{turns, turns-invariant}
 use Rattle.slots.specs.Slots.{held, withSet, withSet-length, withSet-then, withSet-ext, held-with, held-with-other}
 use Rattle.slots.specs.Writes.{andAll}
-use Rattle.slots.specs.Rising.{risingOf}
-use Rattle.mesh.specs.Stays.{Stays, stays-none, stays-then, stays-with, rising-below}
+use Rattle.slots.specs.Rising.{risingOf, rising-same}
+use Rattle.mesh.specs.Stays.{Stays, stays-none, stays-then, stays-with}
 use Rattle.mesh.specs.Crossed.{among-all}
 
 -- what stands at each number of a list
@@ -71,7 +71,7 @@ module _ (nets nets₂ : ℕ) (places : List ℕ) where
           new : (i j : ℕ) → i ≡ e → j < 128 → held (mappedNet e t) 2 (nets₂ + i) j ≡ memb j (images places (risingOf ws 2 (nets + i)))
           new i j q c =
               rw q (held-with t 2 (nets₂ + e) _ j (omega (arith, h .stays .same)) c
-              ∙ ap (λ l. memb j (images places l)) (rising-below _ _ ws t (h .stays) 2 (nets + e) (omega arith)))
+              ∙ ap (λ l. memb j (images places l)) (rising-same ws t _ (h .stays .below) 2 (nets + e) (omega arith)))
 
       -- MAPPED
       pub maps : Maps m (mapped ws m)

@@ -17,9 +17,9 @@ use Rattle.laws.specs.ListLaws.{kept-below, memb-at}
 use Rattle.cells.specs.Loop.{turns, turns-ext, turns-invariant}
 use Rattle.slots.specs.Slots.{held}
 use Rattle.slots.specs.Writes.{among}
-use Rattle.slots.specs.Rising.{risingOf, memb-rising}
+use Rattle.slots.specs.Rising.{risingOf, memb-rising, held-same}
 use Rattle.matching.specs.Meshed.{Meshed}
-use Rattle.mesh.specs.Stays.{Stays, stays-then, held-below}
+use Rattle.mesh.specs.Stays.{Stays, stays-then}
 use Rattle.mesh.specs.Entries.{emptied, emptied-stays, emptied-held, entry, entered, entered-length, entered-stays, entered-held}
 
 -- ---- places of a list ----
@@ -95,7 +95,7 @@ module _ (nets vertices : ℕ) where
           holds = λ v x lv lx.
               entered-held 4 vertices l 0 e t (length l) 128 v x (rising-at t 2 (nets + e)) (omega (arith, few .1)) (omega (arith, h .stays .same)) (omega arith)
               ∙ ap₂ (λ y z. y || (z && eqb x e)) (h .holds v x lv lx)
-              (among-all l v ∙ memb-rising t 2 (nets + e) v (omega (arith, few .1)) ∙ held-below _ _ ws t (h .stays) 2 (nets + e) (omega (arith, few .0)) v (omega (arith, few .1)))
+              (among-all l v ∙ memb-rising t 2 (nets + e) v (omega (arith, few .1)) ∙ held-same ws t _ (h .stays .below) 2 (nets + e) (omega (arith, few .0)) v (omega (arith, few .1)))
               ∙ one-more (λ y. held ws 2 (nets + y) v) x e;
         }
 
@@ -120,7 +120,7 @@ module _ (nets vertices : ℕ) where
       where
         net : (e v : ℕ) → v < n → e < 256 → (ltb e m && held ws 2 (nets + e) v) ≡ (ltb e m && held (crossed n ws m) 2 (nets + e) v)
         net e v lv le =
-            ap (λ (b : Bool). ltb e m && b) (sym (held-below _ _ ws (crossed n ws m) (all m (omega arith) .stays) 2 (nets + e) (omega arith) v (omega (arith, few .1))))
+            ap (λ (b : Bool). ltb e m && b) (sym (held-same ws (crossed n ws m) _ (all m (omega arith) .stays .below) 2 (nets + e) (omega arith) v (omega (arith, few .1))))
 
     pub crossed-stays : Stays (vertices * 4) ((vertices + 128) * 4) ws (crossed n ws m)
     crossed-stays = all m (omega arith) .stays

@@ -10,7 +10,8 @@ use Rattle.spec.specs.Hypergraph.{Net, nets≥2}
 use Rattle.network.specs.Layouts.{map-range-ext}
 use Rattle.partition.specs.Layout.{netIn}
 use Rattle.matching.specs.Meshed.{Meshed}
-use Rattle.mesh.specs.Stays.{Stays, stays-then, stays-wider, held-below, rising-below}
+use Rattle.slots.specs.Rising.{held-same, rising-same}
+use Rattle.mesh.specs.Stays.{Stays, stays-then, stays-wider}
 use Rattle.mesh.specs.Crossed.{crossed, crossed-meshed, crossed-stays}
 use Rattle.mesh.specs.Compact.{keptOf, compacted, Compacts, compacts, Within}
 
@@ -35,7 +36,7 @@ module _ (ws ws₁ ws₂ : List ℕ) (nets vertices : ℕ) (weights start weight
   crossing = subst (Stays (vertices * 4) ((vertices + 128) * 4) ws₁) (sym f) (crossed-stays nets vertices ws₁ n r fewer apart (omega (arith, made .stays .same)))
 
   same-net : (i : ℕ) → i < r → netIn ws₂ nets weights′ i ≡ netIn ws₁ nets weights′ i
-  same-net i l = ap (λ p. netWith p) (rising-below _ _ ws₁ ws₂ crossing 2 (nets + i) (omega (arith, fewer .0)))
+  same-net i l = ap (λ p. netWith p) (rising-same ws₁ ws₂ _ (crossing .below) 2 (nets + i) (omega (arith, fewer .0)))
     where
       netWith : List ℕ → Net
       netWith p = record { pins = p; weight = wholeFloat (getD weights′ i 0) }
@@ -46,6 +47,6 @@ module _ (ws ws₁ ws₂ : List ℕ) (nets vertices : ℕ) (weights start weight
         few = made .few;
         nets-are = map-range-ext (record { pins = []; weight = zeroFloat }) (netIn ws₂ nets weights′) (netIn ws₁ nets weights′) r same-net ∙ made .nets-are;
         meshed = subst (λ t. Meshed t nets vertices r n) (sym f) (crossed-meshed nets vertices ws₁ n r fewer apart (omega (arith, made .stays .same)));
-        within = λ w i v l b q. made .inside n w i v l b (sym (held-below _ _ ws₁ ws₂ crossing 2 (nets + i) (omega (arith, fewer .0)) v b) ∙ q);
+        within = λ w i v l b q. made .inside n w i v l b (sym (held-same ws₁ ws₂ _ (crossing .below) 2 (nets + i) (omega (arith, fewer .0)) v b) ∙ q);
         stays = stays-then _ _ ws ws₁ ws₂ (stays-wider _ _ _ _ ws ws₁ (omega arith) (omega arith) (made .stays)) (stays-wider _ _ _ _ ws₁ ws₂ (omega arith) (omega arith) crossing);
       }

@@ -1,13 +1,10 @@
 -- Words that stay: only those from lo on and below hi may be other ones afterwards. Assumes nothing.
-use mathlib.Core.Path.{_≡_, refl, ap, _∙_}
+use mathlib.Core.Path.{_≡_, refl, _∙_}
 use mathlib.Core.List.{List}
-use Prim.Native.Nat.{ℕ, _+_, _*_, _/_, _%_, _≤_, _<_}
+use Prim.Native.Nat.{ℕ, _+_, _*_, _≤_, _<_}
 use native.Mathlib.Omega.{arith}
 use lib.ListN.{length, getD}
-use Rattle.laws.specs.ListLaws.{keep-ext}
-use Rattle.bits.specs.Digits.{digit}
-use Rattle.slots.specs.Slots.{held, withSet, withSet-length, withSet-outside}
-use Rattle.slots.specs.Rising.{risingOf}
+use Rattle.slots.specs.Slots.{withSet, withSet-length, withSet-outside}
 
 pub record Stays (lo hi : ℕ) (ws ws′ : List ℕ) : Type 0 where
   pub same : length ws′ ≡ length ws
@@ -33,13 +30,3 @@ stays-with lo hi ws W s p l u =
       below = λ i h. withSet-outside ws W s p i (λ k q e. omega arith);
       above = λ i h. withSet-outside ws W s p i (λ k q e. omega arith);
     }
-
--- slots before those words hold what they held
-module _ (lo hi : ℕ) (ws ws′ : List ℕ) (h : Stays lo hi ws ws′) (W s : ℕ) (b : s * W + W ≤ lo) where
-  pub held-below : (j : ℕ) → j < W * 64 → held ws′ W s j ≡ held ws W s j
-  unfolding held
-  held-below j l = ap (λ (x : ℕ). digit x (j % 64)) (h .below (s * W + j / 64) (omega arith))
-
-  pub rising-below : risingOf ws′ W s ≡ risingOf ws W s
-  unfolding risingOf
-  rising-below = keep-ext (held ws′ W s) (held ws W s) (W * 64) held-below

@@ -3,7 +3,7 @@
 use mathlib.Core.Bool.{Bool, true, _&&_}
 use mathlib.Core.Path.{_≡_, refl, sym, ap, _∙_}
 use mathlib.Core.List.{List, _∷_, map}
-use Prim.Native.Nat.{ℕ, zero, suc, _+_, _*_, _/_, _≤_, _<_}
+use Prim.Native.Nat.{ℕ, zero, suc, _+_, _*_, _≤_, _<_}
 use native.Mathlib.Omega.{arith}
 use borrow.Author.Tests.{ltb-true}
 use lib.Dec.{ltb}
@@ -12,9 +12,8 @@ use lib.ListN.{length, getD}
 use Rattle.spec.specs.Lists.{from}
 use Rattle.spec.specs.Hypergraph.{Net}
 use Rattle.laws.specs.Booleans.{by-cases}
-use Rattle.laws.specs.ListLaws.{keep-ext}
 use Rattle.slots.specs.Slots.{held, withSet, withSet-length, withSet-outside}
-use Rattle.slots.specs.Rising.{risingOf}
+use Rattle.slots.specs.Rising.{risingOf, held-same, rising-same}
 use Rattle.partition.specs.Layout.{netIn, graphIn}
 use Rattle.queue.specs.Enters.{Place}
 use Rattle.matching.specs.Meshed.{Meshed}
@@ -34,18 +33,10 @@ pub kept-with : (k : ℕ) (ws : List ℕ) (s : ℕ) (p : ℕ → Bool) → k ≤
 kept-with k ws s p h = record { same = λ i b. withSet-outside ws 2 s p i (λ j l e. omega arith); long = withSet-length ws 2 s p }
 
 module _ (k : ℕ) (ws ws′ : List ℕ) (h : Kept k ws ws′) where
-  held-kept : (W s j : ℕ) → s * W + W ≤ k → j < W * 64 → held ws′ W s j ≡ held ws W s j
-  unfolding held
-  held-kept W s j b l = rw (h .same (s * W + j / 64) (omega arith))
-
-  rising-kept : (s : ℕ) → s * 2 + 2 ≤ k → risingOf ws′ 2 s ≡ risingOf ws 2 s
-  unfolding risingOf
-  rising-kept s b = keep-ext (held ws′ 2 s) (held ws 2 s) 128 (λ j l. held-kept 2 s j b l)
-
   nets-kept : (nets m : ℕ) (weights : List ℕ) (a n : ℕ) → (nets + m) * 2 ≤ k → a + n ≤ m → map (netIn ws′ nets weights) (from a n) ≡ map (netIn ws nets weights) (from a n)
   nets-kept nets m weights a zero b l = refl
   nets-kept nets m weights a (suc n) b l =
-      let e : risingOf ws′ 2 (nets + a) ≡ risingOf ws 2 (nets + a) = rising-kept (nets + a) (omega arith) in
+      let e : risingOf ws′ 2 (nets + a) ≡ risingOf ws 2 (nets + a) = rising-same ws ws′ k (h .same) 2 (nets + a) (omega arith) in
       (λ i. record { pins = e i; weight = netIn ws nets weights a .weight } ∷ nets-kept nets m weights (suc a) n b (omega arith) i)
 
   -- THE HYPERGRAPH STAYS
@@ -66,14 +57,14 @@ site-kept ws ws′ o h k =
       low = h .low;
       mesh = record {
         few = h .mesh .few;
-        crossed = λ v e b l. held-kept (o .sides * 2) ws ws′ k 4 (o .vertices + v) e (omega (arith, h .behind .1)) l ∙ h .mesh .crossed v e b l ∙ sym (crossed v e b l);
+        crossed = λ v e b l. held-same ws ws′ (o .sides * 2) (k .same) 4 (o .vertices + v) (omega (arith, h .behind .1)) e l ∙ h .mesh .crossed v e b l ∙ sym (crossed v e b l);
       };
-      within = λ e v b l p. h .within e v b l (sym (held-kept (o .sides * 2) ws ws′ k 2 (o .nets + e) v (omega (arith, h .behind .0)) l) ∙ p);
+      within = λ e v b l p. h .within e v b l (sym (held-same ws ws′ (o .sides * 2) (k .same) 2 (o .nets + e) (omega (arith, h .behind .0)) v l) ∙ p);
       behind = (h .behind .0, h .behind .1, omega (arith, h .behind .2, k .long));
     }
   where
     crossed : (v e : ℕ) → v < o .n → e < 256 → (ltb e (o .m) && held ws′ 2 (o .nets + e) v) ≡ (ltb e (o .m) && held ws 2 (o .nets + e) v)
     crossed v e b l =
         by-cases (ltb e (o .m))
-        (λ t. rw (t, held-kept (o .sides * 2) ws ws′ k 2 (o .nets + e) v (omega (arith, h .behind .0, ltb-true e (o .m) t)) (omega (arith, h .mesh .few .1))))
+        (λ t. rw (t, held-same ws ws′ (o .sides * 2) (k .same) 2 (o .nets + e) (omega (arith, h .behind .0, ltb-true e (o .m) t)) v (omega (arith, h .mesh .few .1))))
         (λ t. rw t)

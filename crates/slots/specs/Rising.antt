@@ -2,7 +2,7 @@
 use mathlib.Core.Bool.{Bool, true, false, cond}
 use mathlib.Core.Path.{_≡_, refl, sym, _∙_, ap, ap₂}
 use mathlib.Core.List.{List, [], _∷_, _++_}
-use Prim.Native.Nat.{ℕ, zero, suc, _+_, _-_, _*_, _^_, _≤_, _<_}
+use Prim.Native.Nat.{ℕ, zero, suc, _+_, _-_, _*_, _/_, _^_, _≤_, _<_}
 use native.Mathlib.Omega.{arith}
 use native.Mathlib.Nat.{suc-mul}
 use native.Mathlib.Numerals.{add-one}
@@ -43,6 +43,16 @@ module _ (ws out out′ : List ℕ) (W s r : ℕ) (e : r ≡ length (risingOf ws
 pub rising-with : (ws : List ℕ) (W s : ℕ) (p : ℕ → Bool) → s * W + W ≤ length ws → risingOf (withSet ws W s p) W s ≡ keep p (range (W * 64))
 unfolding risingOf
 rising-with ws W s p r = keep-ext (held (withSet ws W s p) W s) p (W * 64) (λ j h. held-with ws W s p j r h)
+
+-- words that stay hold the same members
+module _ (ws ws′ : List ℕ) (k : ℕ) (same : (i : ℕ) → i < k → getD ws′ i 0 ≡ getD ws i 0) (W s : ℕ) (b : s * W + W ≤ k) where
+  pub held-same : (j : ℕ) → j < W * 64 → held ws′ W s j ≡ held ws W s j
+  unfolding held
+  held-same j l = rw (same (s * W + j / 64) (omega arith))
+
+  pub rising-same : risingOf ws′ W s ≡ risingOf ws W s
+  unfolding risingOf
+  rising-same = keep-ext (held ws′ W s) (held ws W s) (W * 64) held-same
 
 -- ---- a range in two parts ----
 
