@@ -3,12 +3,11 @@ ghost use mathlib.Core.Path.{_≡_};
 ghost use mathlib.Core.List.{List};
 ghost use Prim.Native.Nat.{ℕ, _+_, _≤_};
 ghost use lib.ListN.{length};
-ghost use Rattle.spec.specs.File.{treeLent, flagsLent, readOf};
+ghost use Rattle.spec.specs.File.{treeLent, flagsLent, readOf, writeOf, bufferAfter};
 ghost use Rattle.network.specs.Record.{netOf};
 ghost use Rattle.fields.specs.Scans.{Lists, netIn};
 ghost use Rattle.netfile.specs.Answers.{placesOf, flagCount, treeAnswer, askAnswer, answerOf, emptyNetwork, networkIn, treeAfter, flagsAfter};
 ghost use Rattle.netfile.specs.Writes.{lacking, kidsOver, flagsOver, treeOf, askOf};
-ghost use Rattle.spec.specs.File.{writeOf, bufferAfter};
 ghost use Rattle.netfile.specs.Writer.{handed, writtenOf};
 
 mod writer; // writer.rt: the writer's inner functions

@@ -7,8 +7,7 @@ use Prim.Native.Nat.{ℕ, zero, suc, _+_, _-_, _^_, _≤_, _<_}
 use native.Mathlib.Omega.{arith}
 use lib.Dec.{ltb}
 use lib.ListN.{length, getD, drop, List·getD-append}
-use lib.Seq.{sets-eq}
-use lib.Seq.{sets as putAt}
+use lib.Seq.{sets-eq, sets as putAt}
 use borrow.Author.Tests.{ltb-true}
 use Rattle.spec.specs.Lists.{memb, anyb, keep, from, range}
 use Rattle.spec.specs.Network.{Network, indexCount, weight}

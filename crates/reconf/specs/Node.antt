@@ -20,8 +20,7 @@ use Rattle.laws.specs.Booleans.{or-none}
 use Rattle.laws.specs.Regions.{Swapped, graft-swapped, swapped-part}
 use Rattle.laws.specs.Rebuilds.{FrontOf, front-of}
 use Rattle.laws.specs.Arrays.{valid-once}
-use Rattle.laws.specs.Walks.{Placed, describes-placed}
-use Rattle.laws.specs.Walks.{tree-valid as valid-array}
+use Rattle.laws.specs.Walks.{Placed, describes-placed, tree-valid as valid-array}
 use Rattle.laws.specs.TreePrices.{totalBelow}
 use Rattle.laws.specs.ImprovedWork.{listing-work, not-beyond}
 use Rattle.laws.specs.VisitSplits.{members-most}

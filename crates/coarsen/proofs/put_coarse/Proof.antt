@@ -3,11 +3,10 @@ use borrow.Author.Needs.{needs}
 use Rattle.coarsen.specs.Mapped.{images, image-at}
 use Rattle.slots.specs.Writes.{andAll, all-none, all-next}
 use Rattle.slots.specs.Slots.{withSet, withSet-length}
-use lib.ListN.{take}
+use lib.ListN.{take, length, getD}
 use native.Mathlib.Omega.{arith}
 use Prim.Native.Nat.{ℕ, _-_, _≤_}
 use mathlib.Core.Path.{_≡_, sym, ap, _∙_}
-use lib.ListN.{length, getD}
 use Rattle.coarsen.proofs.put_coarse.Statement.{statement}
 use Rattle.coarsen.proofs.put_coarse.Tie as tie
 

@@ -8,11 +8,10 @@ use Rattle.spec.specs.Calls.{plainWords}
 use Rattle.spec.specs.Memory.{cleared}
 use Rattle.spec.specs.Layout.{networkOf}
 use lib.Seq.{length-take-le}
-use lib.ListN.{take}
+use lib.ListN.{take, length}
 use native.Mathlib.Omega.{arith}
 use Prim.Native.Nat.{_≤_}
 use mathlib.Core.Path.{_≡_, refl, sym, ap, _∙_}
-use lib.ListN.{length}
 use Rattle.cost.proofs.cost_of.Statement.{statement}
 use Rattle.cost.proofs.cost_of.Tie as tie
 

@@ -1,10 +1,9 @@
 -- Assumes nothing.
 use borrow.Author.Needs.{needs}
-use Rattle.cost.specs.Checks.{order-front, front-length, fitting-priceable, enough}
+use Rattle.cost.specs.Checks.{order-front, front-length, fitting-priceable, enough, rest-tree, rest-flags, rest-done, tree-wrong, tree-right, answered-refused, answered-done}
 use Rattle.walk.specs.Order.{order-length}
 use Rattle.spec.specs.Tree.{stepOrder}
 use Rattle.spec.specs.Memory.{filled}
-use Rattle.cost.specs.Checks.{rest-tree, rest-flags, rest-done, tree-wrong, tree-right, answered-refused, answered-done}
 use Rattle.cost.specs.Answers.{restCall}
 use Rattle.network.specs.Layouts.{layout-leaf-count, layout-index-count}
 use Rattle.spec.specs.Calls.{wrongTree}
@@ -12,7 +11,6 @@ use Rattle.spec.specs.Refusal.{invalidTree, invalidFlags}
 use Rattle.spec.specs.Layout.{networkOf}
 use mathlib.Core.Path.{refl, sym, _∙_}
 use native.Mathlib.Omega.{arith}
-use mathlib.Core.Path.{refl, sym, _∙_}
 use Rattle.cost.proofs.priced_in.Statement.{statement}
 use Rattle.cost.proofs.priced_in.Tie as tie
 

@@ -1,12 +1,11 @@
 -- Assumes nothing.
 use borrow.Author.Needs.{needs}
 use borrow.Author.Tests.{not-true, not-false}
-use mathlib.Core.Path.{ap₂}
+use mathlib.Core.Path.{ap₂, refl, sym, _∙_}
 use Rattle.fields.specs.Whole.{step-header, step-tag, step-truncated, step-taken}
 use Rattle.fields.specs.Scans.{lists}
 use native.Mathlib.Omega.{arith}
 use Prim.Native.Nat.{ℕ, _+_, _*_}
-use mathlib.Core.Path.{refl, sym, _∙_}
 use Rattle.fields.proofs.take_field.Statement.{statement}
 use Rattle.fields.proofs.take_field.Tie as tie
 

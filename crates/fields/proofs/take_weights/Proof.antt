@@ -2,7 +2,6 @@
 use borrow.Author.Needs.{needs}
 use Rattle.fields.specs.Fields.{whole, taken-not, weights-decide, weights-taken}
 use Rattle.spec.specs.Memory.{placed}
-use Rattle.fields.specs.Fields.{taken-not, weights-decide, weights-taken}
 use Rattle.fields.specs.Scans.{lists}
 use Rattle.fields.specs.Steps.{part}
 use Rattle.payloads.specs.Payload.{weightsRefusal}

@@ -7,11 +7,10 @@ use Rattle.spec.specs.Network.{leafCount}
 use Rattle.spec.specs.Memory.{cleared}
 use Rattle.walk.specs.Entry.{lent-cleared}
 use lib.Seq.{length-take-le}
-use lib.ListN.{take}
+use lib.ListN.{take, length}
 use native.Mathlib.Omega.{arith}
 use Prim.Native.Nat.{_≤_}
 use mathlib.Core.Path.{_≡_, refl, sym, ap, _∙_}
-use lib.ListN.{length}
 use Rattle.greedy.proofs.greedy_in.Statement.{statement}
 use Rattle.greedy.proofs.greedy_in.Tie as tie
 

@@ -2,11 +2,10 @@
 use borrow.Author.Needs.{needs}
 use Rattle.growth.specs.Links.{linkedNet, linkedNets}
 use Rattle.partition.specs.Folds.{fold-next}
-use lib.ListN.{take}
+use lib.ListN.{take, length}
 use native.Mathlib.Omega.{arith}
 use Prim.Native.Nat.{ℕ, _-_, _≤_}
 use mathlib.Core.Path.{_≡_, refl, sym, ap, _∙_}
-use lib.ListN.{length}
 use Rattle.growth.proofs.link_nets.Statement.{statement}
 use Rattle.growth.proofs.link_nets.Tie as tie
 

@@ -3,11 +3,10 @@ use borrow.Author.Needs.{needs}
 use Rattle.growth.specs.Links.{linkedPin, linkedPins, linked-same}
 use Rattle.partition.specs.Folds.{fold-next}
 use Rattle.spec.specs.Floats.{wholeFloat}
-use lib.ListN.{take}
+use lib.ListN.{take, length}
 use native.Mathlib.Omega.{arith}
 use Prim.Native.Nat.{ℕ, _-_, _≤_}
 use mathlib.Core.Path.{_≡_, refl, ap, _∙_}
-use lib.ListN.{length}
 use Rattle.growth.proofs.link_pins.Statement.{statement}
 use Rattle.growth.proofs.link_pins.Tie as tie
 

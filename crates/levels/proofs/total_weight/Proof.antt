@@ -1,7 +1,7 @@
 -- Assumes nothing.
 use borrow.Author.Needs.{needs}
 use lib.Ieee.{ofBits}
-use lib.ListN.{take}
+use lib.ListN.{take, length}
 use lib.Seq.{take-length}
 use Rattle.levels.specs.Spans.{summed, sum-next}
 use Rattle.spec.specs.Hypergraph.{foldOver}
@@ -9,7 +9,6 @@ use Rattle.spec.specs.Floats.{zeroFloat}
 use native.Mathlib.Omega.{arith}
 use Prim.Native.Nat.{ℕ, _-_, _≤_}
 use mathlib.Core.Path.{_≡_, refl, ap, _∙_}
-use lib.ListN.{length}
 use Rattle.levels.proofs.total_weight.Statement.{statement}
 use Rattle.levels.proofs.total_weight.Tie as tie
 

@@ -6,12 +6,11 @@ use Rattle.draws.specs.Cursor.{wordsAt}
 use Rattle.spec.specs.Hypergraph.{foldOver}
 use Rattle.spec.specs.Floats.{zeroFloat}
 use mathlib.Core.Bool.{false}
-use lib.ListN.{take}
+use lib.ListN.{take, length}
 use lib.Ieee.{ofBits}
 use native.Mathlib.Omega.{arith}
 use Prim.Native.Nat.{ℕ, _-_, _<_, _≤_}
 use mathlib.Core.Path.{_≡_, refl, ap, _∙_}
-use lib.ListN.{length}
 use Rattle.matching.proofs.choose.Statement.{statement}
 use Rattle.matching.proofs.choose.Tie as tie
 

@@ -2,11 +2,10 @@
 use borrow.Author.Needs.{needs}
 use Rattle.matching.specs.Order.{counted-next, counted-end}
 use Rattle.spec.specs.Lists.{range}
-use lib.ListN.{take}
+use lib.ListN.{take, length, length-set}
 use native.Mathlib.Omega.{arith}
 use Prim.Native.Nat.{_+_, _-_, _≤_}
 use mathlib.Core.Path.{_≡_, refl, ap, _∙_}
-use lib.ListN.{length, length-set}
 use Rattle.matching.proofs.count_up.Statement.{statement}
 use Rattle.matching.proofs.count_up.Tie as tie
 

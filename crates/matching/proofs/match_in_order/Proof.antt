@@ -7,11 +7,10 @@ use Rattle.draws.specs.Cursor.{wordsAt}
 use Rattle.spec.specs.Coarsen.{matched}
 use Rattle.spec.specs.Hypergraph.{foldOver}
 use Rattle.spec.specs.Draws.{drawn}
-use lib.ListN.{take}
+use lib.ListN.{take, length}
 use native.Mathlib.Omega.{arith}
 use Prim.Native.Nat.{ℕ, _-_, _<_, _≤_}
 use mathlib.Core.Path.{_≡_, refl, sym, ap, _∙_, subst}
-use lib.ListN.{length}
 use Rattle.matching.proofs.match_in_order.Statement.{statement}
 use Rattle.matching.proofs.match_in_order.Tie as tie
 

@@ -1,7 +1,6 @@
 -- Assumes nothing.
 use borrow.Author.Needs.{needs}
-use Rattle.matching.specs.Order.{swap-length}
-use Rattle.matching.specs.Order.{swap-is}
+use Rattle.matching.specs.Order.{swap-length, swap-is}
 use Prim.Native.Nat.{_+_}
 use mathlib.Core.Path.{refl}
 use Rattle.matching.proofs.swap_drawn.Statement.{statement}

@@ -3,11 +3,10 @@ use borrow.Author.Needs.{needs}
 use Rattle.memory.specs.Promise.{cost-same}
 use Rattle.memory.specs.Copies.{clear, padded-network}
 use Rattle.spec.specs.Host.{lentNetwork}
-use lib.ListN.{replicate}
+use lib.ListN.{replicate, length, getD, set, length-set}
 use native.Mathlib.Omega.{arith}
 use Prim.Native.Nat.{ℕ, _+_, _-_, _*_, _<_, _≤_}
 use mathlib.Core.Path.{_≡_, refl, sym, ap, _∙_, subst}
-use lib.ListN.{length, getD, set, length-set}
 use Rattle.memory.proofs.tree_cost.Statement.{statement}
 use Rattle.memory.proofs.tree_cost.Tie as tie
 

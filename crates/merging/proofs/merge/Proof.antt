@@ -4,9 +4,8 @@ use Rattle.merging.specs.Merge.{firstAt, secondAt, first-lt, second-lt, 
 use Rattle.scores.specs.Scores.{firstOf, secondOf}
 use Rattle.parts.specs.Lists.{listsIn, nodesIn, rowsIn, sets-back, nodes-back, sizes-back, live-back, rows-back}
 use Rattle.parts.specs.Parts.{back, part-enough}
-use Prim.Native.Nat.{_/_, _%_}
+use Prim.Native.Nat.{_/_, _%_, ℕ, _<_, _≤_}
 use native.Mathlib.Omega.{arith}
-use Prim.Native.Nat.{ℕ, _<_, _≤_}
 use mathlib.Core.Path.{_≡_, sym, ap, _∙_, subst}
 use lib.ListN.{length, getD}
 use Rattle.merging.proofs.merge.Statement.{statement}

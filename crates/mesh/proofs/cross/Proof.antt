@@ -1,9 +1,8 @@
 -- Assumes nothing.
 use borrow.Author.Needs.{needs}
-use Rattle.cells.specs.Loop.{turns}
+use Rattle.cells.specs.Loop.{turns, turns-none, turns-next, turns-end}
 use Rattle.mesh.specs.Crossed.{crossedNet, crossed, crossed-length}
 use Rattle.mesh.specs.Entries.{emptied}
-use Rattle.cells.specs.Loop.{turns-none, turns-next, turns-end}
 use native.Mathlib.Omega.{arith}
 use Prim.Native.Nat.{_-_, _≤_}
 use mathlib.Core.Path.{_≡_, sym, ap, _∙_}

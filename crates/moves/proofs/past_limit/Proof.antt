@@ -1,8 +1,7 @@
 -- `moves::past_limit` meets its contract. Assumes nothing.
 use borrow.Author.Needs.{needs}
-use Prim.Native.Nat.{_/_}
+use Prim.Native.Nat.{_/_, ℕ, _+_}
 use lib.Dec.{ltb}
-use Prim.Native.Nat.{ℕ, _+_}
 use mathlib.Core.Path.{ap}
 use Rattle.moves.proofs.past_limit.Statement.{statement}
 use Rattle.moves.proofs.past_limit.Tie as tie

@@ -10,8 +10,7 @@ use Rattle.spec.specs.File.{readOf}
 use Rattle.spec.specs.Refusal.{shortBuffer}
 use borrow.Author.Tests.{ltb-false}
 use mathlib.Core.Bool.{_||_}
-use mathlib.Core.Path.{ap₂}
-use mathlib.Core.Path.{refl, sym, ap, _∙_}
+use mathlib.Core.Path.{ap₂, refl, sym, ap, _∙_}
 use lib.ListN.{length}
 use Rattle.netfile.proofs.read.Statement.{statement}
 use Rattle.netfile.proofs.read.Tie as tie

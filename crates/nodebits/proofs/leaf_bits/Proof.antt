@@ -3,7 +3,7 @@ use borrow.Author.Needs.{needs}
 use Rattle.slots.specs.Weigh.{openWeight}
 use Rattle.spec.specs.Layout.{firsts}
 use Rattle.spec.specs.Lists.{sumOf}
-use lib.ListN.{drop}
+use lib.ListN.{drop, length}
 use mathlib.Core.List.{[]}
 use Rattle.nodebits.specs.Loops.{putTo, put-next, put-end}
 use Rattle.nodebits.specs.Bits.{leafSize}
@@ -12,7 +12,6 @@ use Rattle.spec.specs.Memory.{over, filled}
 use native.Mathlib.Omega.{arith}
 use Prim.Native.Nat.{ℕ, _-_, _*_, _≤_}
 use mathlib.Core.Path.{_≡_, refl, ap, _∙_}
-use lib.ListN.{length}
 use Rattle.nodebits.proofs.leaf_bits.Statement.{statement}
 use Rattle.nodebits.proofs.leaf_bits.Tie as tie
 

@@ -1,8 +1,7 @@
 -- Assumes nothing.
 use borrow.Author.Needs.{needs}
 use Rattle.slots.specs.Writes.{leafHas}
-use Rattle.nodesets.specs.Sets.{leaf-turn}
-use Rattle.nodesets.specs.Sets.{withSets-none, withSets-end, withSets-length}
+use Rattle.nodesets.specs.Sets.{leaf-turn, withSets-none, withSets-end, withSets-length}
 use Rattle.nodesets.specs.Passes.{withSets}
 use native.Mathlib.Omega.{arith}
 use Prim.Native.Nat.{_-_, _≤_}

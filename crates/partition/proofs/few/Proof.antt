@@ -2,9 +2,8 @@
 use borrow.Author.Needs.{needs}
 use Rattle.partition.specs.Few.{few-common}
 use lib.Bits.{bitAnd, and-le-r}
-use Prim.Native.Nat.{_^_}
+use Prim.Native.Nat.{_^_, _<_, _≤_}
 use native.Mathlib.Omega.{arith}
-use Prim.Native.Nat.{_<_, _≤_}
 use Rattle.partition.proofs.few.Statement.{statement}
 use Rattle.partition.proofs.few.Tie as tie
 

@@ -1,9 +1,8 @@
 -- `partition::few_ones` meets its contract. Assumes nothing.
 use borrow.Author.Needs.{needs}
 use Rattle.partition.specs.Few.{none-set, one-set, two-set}
-use Prim.Native.Nat.{_^_}
+use Prim.Native.Nat.{_^_, _<_}
 use native.Mathlib.Omega.{arith}
-use Prim.Native.Nat.{_<_}
 use Rattle.partition.proofs.few_ones.Statement.{statement}
 use Rattle.partition.proofs.few_ones.Tie as tie
 

@@ -1,8 +1,7 @@
 -- Assumes nothing.
 use borrow.Author.Needs.{needs}
 use Rattle.parts.specs.Parts.{low-at}
-use Prim.Native.Nat.{_%_}
-use Prim.Native.Nat.{ℕ}
+use Prim.Native.Nat.{_%_, ℕ}
 use mathlib.Core.Path.{sym, ap, _∙_}
 use Rattle.parts.proofs.get_low.Statement.{statement}
 use Rattle.parts.proofs.get_low.Tie as tie

@@ -1,13 +1,12 @@
 -- Assumes nothing.
 use borrow.Author.Needs.{needs}
-use Rattle.passes.specs.Loops.{left-falls}
+use Rattle.passes.specs.Loops.{left-falls, Going, going-none, going-next, going-end, same-ready}
 use Rattle.reprice.specs.Held.{treeOf}
 use Rattle.subset.specs.Search.{limitOf}
 use Rattle.spec.specs.Improve.{improveTree}
 use Rattle.spec.specs.Calls.{flagAt}
 use Rattle.spec.specs.Network.{leafCount}
 use Rattle.spec.specs.Layout.{networkOf}
-use Rattle.passes.specs.Loops.{Going, going-none, going-next, going-end, same-ready}
 use native.Mathlib.Omega.{arith}
 use mathlib.Core.Path.{_≡_, refl, _∙_}
 use lib.ListN.{length}

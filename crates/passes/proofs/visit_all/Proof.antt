@@ -1,7 +1,6 @@
 -- Assumes nothing.
 use borrow.Author.Needs.{needs}
-use Rattle.passes.specs.Loops.{same-room}
-use Rattle.passes.specs.Loops.{Walking, walking-none, walking-next, walking-end, walked-rebuilt, walked-tried}
+use Rattle.passes.specs.Loops.{same-room, Walking, walking-none, walking-next, walking-end, walked-rebuilt, walked-tried}
 use Rattle.spec.specs.Layout.{networkOf}
 use Rattle.spec.specs.Network.{leafCount}
 use Rattle.spec.specs.Calls.{flagAt}

@@ -6,7 +6,6 @@ use Rattle.planning.specs.Printing.{put-written, written-as}
 use lib.ListN.{replicate}
 use mathlib.Core.Path.{refl, sym, _∙_}
 use native.Mathlib.Omega.{arith}
-use mathlib.Core.Path.{refl, sym, _∙_}
 use Rattle.planning.proofs.plan.Statement.{statement}
 use Rattle.planning.proofs.plan.Tie as tie
 

@@ -9,14 +9,10 @@ use Rattle.spec.specs.Text.{outputOf}
 use Rattle.spec.specs.Program.{program}
 use Rattle.spec.specs.Calls.{treePlaces}
 use lib.Seq.{length-take-le}
-use lib.ListN.{length-take, take}
+use lib.ListN.{length-take, take, length}
 use Prim.Native.Nat.{ℕ, _+_, _≤_}
 use mathlib.Core.Path.{_≡_, ap, _∙_}
-use lib.ListN.{length}
 use native.Mathlib.Omega.{arith}
-use Prim.Native.Nat.{ℕ, _+_, _≤_}
-use mathlib.Core.Path.{_≡_, ap, _∙_}
-use lib.ListN.{length}
 use Rattle.planning.proofs.put_found.Statement.{statement}
 use Rattle.planning.proofs.put_found.Tie as tie
 

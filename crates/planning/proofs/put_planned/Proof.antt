@@ -8,7 +8,6 @@ use Rattle.network.specs.Record.{netOf}
 use lib.ListN.{length-take}
 use mathlib.Core.Path.{sym}
 use native.Mathlib.Omega.{arith}
-use mathlib.Core.Path.{sym}
 use Rattle.planning.proofs.put_planned.Statement.{statement}
 use Rattle.planning.proofs.put_planned.Tie as tie
 

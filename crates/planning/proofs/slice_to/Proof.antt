@@ -4,7 +4,6 @@ use Rattle.planning.specs.Slices.{slice-refused, slice-counts, slice-don
 use Rattle.network.specs.Record.{netOf}
 use mathlib.Core.Path.{refl, sym, _∙_}
 use native.Mathlib.Omega.{arith}
-use mathlib.Core.Path.{refl, sym, _∙_}
 use Rattle.planning.proofs.slice_to.Statement.{statement}
 use Rattle.planning.proofs.slice_to.Tie as tie
 

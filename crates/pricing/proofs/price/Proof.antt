@@ -6,7 +6,6 @@ use Rattle.spec.specs.Layout.{firsts}
 use Rattle.cells.specs.Cells.{over-length}
 use Rattle.pricing.specs.Final.{weights-light, listing-sound, known, price-list, price-answer}
 use Rattle.nodesets.specs.Lists.{ordered-steps}
-use Rattle.pricing.specs.Final.{weights-light, listing-sound, known, price-list, price-answer}
 use native.Mathlib.Omega.{arith}
 use Prim.Native.Nat.{ℕ, _+_}
 use mathlib.Core.Path.{_≡_, ap, _∙_}

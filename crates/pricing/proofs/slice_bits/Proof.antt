@@ -1,10 +1,9 @@
 -- Assumes nothing.
 use borrow.Author.Needs.{needs}
-use Prim.Native.Nat.{min}
+use Prim.Native.Nat.{min, _-_, _*_, _≤_}
 use Rattle.pricing.specs.Sums.{sliceShare, slice-none, slice-next, slice-end, slice-light}
 use Rattle.spec.specs.Lists.{range, sumOf}
 use native.Mathlib.Omega.{arith}
-use Prim.Native.Nat.{_-_, _*_, _≤_}
 use mathlib.Core.Path.{_≡_, _∙_}
 use Rattle.pricing.proofs.slice_bits.Statement.{statement}
 use Rattle.pricing.proofs.slice_bits.Tie as tie

@@ -3,11 +3,10 @@ use borrow.Author.Needs.{needs}
 use Rattle.ratings.specs.Rated.{ratingsIn, ratedNet, ratedNets}
 use Rattle.slots.specs.Rising.{risingOf}
 use Rattle.partition.specs.Folds.{fold-next}
-use lib.ListN.{take}
+use lib.ListN.{take, length, getD}
 use native.Mathlib.Omega.{arith}
 use Prim.Native.Nat.{ℕ, _+_, _-_, _*_, _≤_}
 use mathlib.Core.Path.{_≡_, refl, ap, _∙_}
-use lib.ListN.{length, getD}
 use Rattle.ratings.proofs.rate_nets.Statement.{statement}
 use Rattle.ratings.proofs.rate_nets.Tie as tie
 

@@ -3,13 +3,11 @@ use borrow.Author.Needs.{needs}
 use Rattle.ratings.specs.Rated.{one-whole}
 use mathlib.Core.Bool.{false}
 use lib.IntN.{pos}
-use lib.Ieee.{fin}
+use lib.Ieee.{fin, ofBits, inFloat, binary64, div}
 use Rattle.spec.specs.Floats.{wholeFloat}
-use Prim.Native.Nat.{max}
+use Prim.Native.Nat.{max, ℕ, _-_}
 use lib.Dec.{le→leb}
-use lib.Ieee.{ofBits, inFloat, binary64, div}
 use native.Mathlib.Omega.{arith}
-use Prim.Native.Nat.{ℕ, _-_}
 use mathlib.Core.Path.{_≡_, ap, _∙_}
 use Rattle.ratings.proofs.rate_of.Statement.{statement}
 use Rattle.ratings.proofs.rate_of.Tie as tie

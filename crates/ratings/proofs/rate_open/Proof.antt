@@ -1,7 +1,6 @@
 -- Assumes nothing.
 use borrow.Author.Needs.{needs}
-use Rattle.ratings.specs.Rated.{ratingsIn}
-use Rattle.ratings.specs.Rated.{open-self, open-yes, open-no}
+use Rattle.ratings.specs.Rated.{ratingsIn, open-self, open-yes, open-no}
 use native.Mathlib.Omega.{arith}
 use mathlib.Core.Path.{refl, sym, _∙_}
 use Rattle.ratings.proofs.rate_open.Statement.{statement}

@@ -2,11 +2,10 @@
 use borrow.Author.Needs.{needs}
 use Rattle.ratings.specs.Rated.{ratingsIn, ratedOpen, ratedPins}
 use Rattle.partition.specs.Folds.{fold-next}
-use lib.ListN.{take}
+use lib.ListN.{take, length}
 use native.Mathlib.Omega.{arith}
 use Prim.Native.Nat.{ℕ, _+_, _-_, _≤_}
 use mathlib.Core.Path.{_≡_, refl, ap, _∙_}
-use lib.ListN.{length}
 use Rattle.ratings.proofs.rate_pins.Statement.{statement}
 use Rattle.ratings.proofs.rate_pins.Tie as tie
 

@@ -1,7 +1,6 @@
 -- Assumes nothing.
 use borrow.Author.Needs.{needs}
-use Rattle.rows.specs.Rows.{bettered-one}
-use Rattle.rows.specs.Rows.{bettered, leastOf}
+use Rattle.rows.specs.Rows.{bettered-one, bettered, leastOf}
 use Rattle.parts.specs.Parts.{low}
 use Rattle.cells.specs.Loop.{turns-none, turns-next, turns-end}
 use native.Mathlib.Omega.{arith}

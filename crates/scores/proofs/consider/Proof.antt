@@ -1,11 +1,10 @@
 -- Assumes nothing.
 use borrow.Author.Needs.{needs}
-use Prim.Native.Nat.{_/_, _%_}
+use Prim.Native.Nat.{_/_, _%_, ℕ}
 use borrow.Author.Tests.{not-true, not-false}
 use Rattle.scores.specs.Scores.{keyAt, codeOf, consider-refused, consider-apart, consider-over, consider-table, consider-first, consider-sooner, consider-later}
 use Rattle.spec.specs.Greedy.{keyBefore}
 use native.Mathlib.Omega.{arith}
-use Prim.Native.Nat.{ℕ}
 use mathlib.Core.Path.{sym, ap, _∙_}
 use Rattle.scores.proofs.consider.Statement.{statement}
 use Rattle.scores.proofs.consider.Tie as tie

@@ -12,8 +12,6 @@ use mathlib.Core.Bool.{false}
 use Prim.Native.Nat.{ℕ}
 use mathlib.Core.Path.{refl, sym, _∙_}
 use native.Mathlib.Omega.{arith}
-use Prim.Native.Nat.{ℕ}
-use mathlib.Core.Path.{refl, sym, _∙_}
 use Rattle.slicetree.proofs.slice_as_is.Statement.{statement}
 use Rattle.slicetree.proofs.slice_as_is.Tie as tie
 

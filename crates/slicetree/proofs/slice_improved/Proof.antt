@@ -8,7 +8,6 @@ use Rattle.slicetree.specs.Clear.{stands-clear, sliced-to}
 use mathlib.Core.Bool.{true}
 use Prim.Native.Nat.{ℕ}
 use native.Mathlib.Omega.{arith}
-use Prim.Native.Nat.{ℕ}
 use Rattle.slicetree.proofs.slice_improved.Statement.{statement}
 use Rattle.slicetree.proofs.slice_improved.Tie as tie
 

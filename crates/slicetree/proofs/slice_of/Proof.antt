@@ -1,6 +1,6 @@
 -- Assumes nothing.
 use borrow.Author.Needs.{needs}
-use lib.ListN.{take}
+use lib.ListN.{take, length}
 use lib.Seq.{length-take-le}
 use Rattle.spec.specs.Layout.{networkOf}
 use Rattle.spec.specs.Memory.{cleared}
@@ -12,7 +12,6 @@ use Rattle.slicetree.specs.Answers.{few-words, few-flags, by-rest, slice
 use native.Mathlib.Omega.{arith}
 use Prim.Native.Nat.{_≤_}
 use mathlib.Core.Path.{_≡_, refl, sym, ap, _∙_}
-use lib.ListN.{length}
 use Rattle.slicetree.proofs.slice_of.Statement.{statement}
 use Rattle.slicetree.proofs.slice_of.Tie as tie
 

@@ -6,7 +6,6 @@ use borrow.Author.Tests.{not-true, not-false}
 use Rattle.spec.specs.Layout.{networkOf}
 use Prim.Native.Nat.{ℕ, suc, _+_, _-_, _≤_}
 use native.Mathlib.Omega.{arith}
-use Prim.Native.Nat.{ℕ, _+_, _-_, _≤_}
 use mathlib.Core.Path.{_≡_, refl, _∙_, subst}
 use lib.ListN.{length}
 use Rattle.slicing.proofs.slice.Statement.{statement}

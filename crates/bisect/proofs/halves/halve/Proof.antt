@@ -1,11 +1,10 @@
 -- Assumes nothing.
 use borrow.Author.Needs.{needs}
-use lib.ListN.{take}
+use lib.ListN.{take, length}
 use lib.Seq.{length-take-le}
 use Rattle.bisect.specs.Picks.{copied-front, few-left, both-halves}
 use native.Mathlib.Omega.{arith}
 use mathlib.Core.Path.{refl, sym, ap, _∙_}
-use lib.ListN.{length}
 use Rattle.bisect.proofs.halves.halve.Statement.{statement}
 use Rattle.bisect.proofs.halves.halve.Tie as tie
 

@@ -1,12 +1,11 @@
 -- Assumes nothing.
 use borrow.Author.Needs.{needs}
-use lib.ListN.{drop}
+use lib.ListN.{drop, length}
 use Rattle.network.specs.Checks.{leavesOf, row-of}
 use Rattle.reconfigure.specs.Tally.{tallyRows, rows-next, rows-end}
 use native.Mathlib.Omega.{arith}
 use Prim.Native.Nat.{_-_, _≤_}
 use mathlib.Core.Path.{_≡_, refl}
-use lib.ListN.{length}
 use Rattle.reconfigure.proofs.dangling.tally_leaves.Statement.{statement}
 use Rattle.reconfigure.proofs.dangling.tally_leaves.Tie as tie
 

@@ -6,8 +6,7 @@ use Rattle.pricing.specs.declared.Widest.{Widest}
 use Rattle.pricing.specs.Answers.{widestOf, widestIn}
 use Rattle.spec.specs.Layout.{firsts}
 use Rattle.spec.specs.Slicing.{orZero}
-use Prim.Native.Nat.{max}
-use Prim.Native.Nat.{ℕ, _+_, _-_}
+use Prim.Native.Nat.{max, ℕ, _+_, _-_}
 use mathlib.Core.Path.{ap, _∙_}
 use Rattle.slicetree.proofs.improving.pass_limit.Statement.{statement}
 use Rattle.slicetree.proofs.improving.pass_limit.Tie as tie

@@ -1,12 +1,11 @@
 -- Assumes nothing.
 use borrow.Author.Needs.{needs}
-use Prim.Native.Nat.{suc}
+use Prim.Native.Nat.{suc, _+_, _-_, _≤_}
 use borrow.Author.Tests.{not-true, not-false}
 use Rattle.spec.specs.Layout.{networkOf}
 use Rattle.slicetree.specs.Choices.{Going, going-none, going-next, going-stops, going-ends}
 use Rattle.slicetree.specs.Asks.{same-asks}
 use native.Mathlib.Omega.{arith}
-use Prim.Native.Nat.{_+_, _-_, _≤_}
 use mathlib.Core.Path.{_≡_, refl, _∙_}
 use lib.ListN.{length}
 use Rattle.slicetree.proofs.improving.slice.Statement.{statement}

@@ -1,7 +1,6 @@
 -- Assumes nothing.
 use borrow.Author.Needs.{needs}
-use Rattle.slicing.specs.Best.{first, replaced, stays}
-use Rattle.slicing.specs.Best.{weightless, untouched, looked}
+use Rattle.slicing.specs.Best.{first, replaced, stays, weightless, untouched, looked}
 use native.Mathlib.Omega.{arith}
 use mathlib.Core.Path.{_∙_}
 use Rattle.slicing.proofs.ranks.consider.Statement.{statement}
