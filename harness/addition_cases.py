@@ -14,6 +14,8 @@ def refused_additions(contents):
     yield from ((ADD_WEIGHT, 9), (ADD_WEIGHT, 255), (ADD_LEAF, [m]), (ADD_LEAF, [65535]), (ADD_LEAF, [0] * 33), (ADD_OUTPUT, m), (ADD_OUTPUT, 65535))
     if m:
         yield from ((ADD_LEAF, [m - 1, m - 1]), (ADD_LEAF, [m, m]), (ADD_LEAF, [0] * 32))
+    if m > 1:
+        yield from ((ADD_LEAF, [0, 1, 0]), (ADD_LEAF, [0, 0, 1]), (ADD_LEAF, [1, 0, 1, 0]))
     if contents.outputs:
         yield ADD_OUTPUT, contents.outputs[-1]
 
@@ -40,7 +42,7 @@ def record_of(contents):
 
 
 def faults(contents):
-    """Turns that leave a record no network, each with those that leave what is past the counts."""
+    """Counts and contents at their limits and past them, at places within the counts and past them."""
     m, n, o = len(contents.weights), len(contents.leaves), len(contents.outputs)
     for kind, limit in ((INDEX_COUNT, 256), (LEAF_COUNT, 128), (OUTPUT_COUNT, 32)):
         for value in (0, 1, limit - 1, limit, limit + 1, 65536, 2 ** 32 - 1):
@@ -60,10 +62,17 @@ def after_damage(contents):
     return [(ADD_WEIGHT, 3), (ADD_LEAF, list(range(min(m, 3)))), (ADD_OUTPUT, max(m, 1) - 1), (ADD_WEIGHT, 9), (ADD_LEAF, []), (ADD_OUTPUT, 65535)]
 
 
+def past_the_counts(contents):
+    """Refused additions, and then counts one higher: what a refusal leaves past the counts is seen."""
+    m, n, o = len(contents.weights), len(contents.leaves), len(contents.outputs)
+    return [(ADD_WEIGHT, 9), (ADD_LEAF, [m]), (ADD_OUTPUT, m), (INDEX_COUNT, m + 1), (LEAF_COUNT, n + 1), (OUTPUT_COUNT, o + 1)]
+
+
 def damaged(draws):
     for name in ("sample", "flagged", "two", "empty"):
         contents = SMALL[name]
         base, wrong = list(record_of(contents)), list(faults(contents))
+        yield base + past_the_counts(contents)
         for fault in wrong:
             yield base + [fault]
             yield base + [fault] + after_damage(contents)

@@ -14,7 +14,9 @@ The output, one line a case:
   added K .. check K sum S
 
 K is 0 or the number of the refusal: of each addition in turn, then of the check. S is a sum as in files.py, over the record afterwards: leaf count,
-index count, output count; the weights, for each leaf its leg count and so many legs, and the outputs, as far as there are places for the counts."""
+index count, output count; the weights, for each leaf its leg count and so many legs, and the outputs, as far as there are places for the counts.
+
+The legs of leaf i stand from place 32 i on; a leg past the last place is 0. Weights and leg counts are at most 255, and a leaf that is added has at most 40 indices."""
 from network_file import (INDICES, LEAVES, LEGS, OUT_OF_RANGE, OUTPUTS, OVERWEIGHT, REPEATED, TOO_LARGE, WEIGHT)
 
 (ADD_WEIGHT, ADD_LEAF, ADD_OUTPUT, INDEX_COUNT, LEAF_COUNT, OUTPUT_COUNT, WEIGHT_AT, LEG_COUNT_AT, LEG_AT, OUTPUT_AT) = range(10)
@@ -101,6 +103,7 @@ def answers(turns):
 
 def encoded_turn(kind, value):
     if kind == ADD_LEAF:
+        assert len(value) <= 40
         numbers = [kind, len(value), *value]
     elif kind in (WEIGHT_AT, LEG_COUNT_AT, LEG_AT, OUTPUT_AT):
         numbers = [kind, 65536 * value[0] + value[1]]

@@ -10,8 +10,8 @@ ghost use Rattle.moves.specs.Laying.{Bits};
 ghost use Rattle.levels.specs.Stage.{Stage};
 ghost use Rattle.bisect.specs.Through.{Through};
 
+pub mod ends; // ends.rt: the imbalance, small ends, the node over two halves
 pub mod halves; // halves.rt: the two halves of a list of leaves, by a partition
-pub mod halving; // halving.rt: small ends, the node over two halves
 pub mod hypergraph; // hypergraph.rt: the hypergraph of some leaves
 
 // A partition of level `level`, at the front of the list, through coarser levels and back. It falls with the number of vertices.

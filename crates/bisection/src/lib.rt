@@ -1,7 +1,7 @@
 // Recursive bisection: the leaves are halved, each half is halved again, and small ends are left to greedy.
 ghost use mathlib.Core.List.{List};
 ghost use mathlib.Core.Path.{_≡_};
-ghost use Prim.Native.Nat.{_+_, _<_, _≤_};
+ghost use Prim.Native.Nat.{_+_, _≤_};
 ghost use lib.ListN.{length};
 ghost use Rattle.spec.specs.Layout.{networkOf};
 ghost use Rattle.spec.specs.Network.{Network as Net};
@@ -16,8 +16,8 @@ ghost use Rattle.bisect.specs.Cases.{Halves};
 ghost use Rattle.bisection.specs.Named.{Named};
 ghost use Rattle.bisection.specs.Whole.{Whole};
 ghost use Rattle.bisection.specs.Answers.{answerOf, Answers};
-use bisect::halving;
-use bisect::halving::Half;
+use bisect::ends;
+use bisect::ends::Half;
 use merging::REFUSED;
 use network::Network;
 use network::refusal;
@@ -50,7 +50,7 @@ fn bisect_rec(
     requires { ⌜ Fits 4 n count (now weights) (now outputs) (now leaves) (now ws) × Light (now weights) × (count + length (now leaves) ≤ 4096) × Named (now weights) (now counts) (now legs) (now leaves) × (32768 ≤ length (now ws)) ⌝ }
     ensures { λ r. ⌜ ((N : Net) (a : List Pair) → Asks N a n count (now (weights .entry)) (now (counts .entry)) (now (legs .entry)) (now (outputs .entry)) (now (leaves .entry)) (now (kids .entry)) → Halves N eps cutoff a (now (leaves .entry)) (now (draws .entry)) at (now (kids .entry)) (now (kids .exit)) (r .top) (r .at)) ⌝ }
 {
-    let most = halving::small(cutoff);
+    let most = ends::small(cutoff);
     let all = leaves.len();
     if all <= most {
         let top = greedynodes::greedy_nodes(
@@ -71,7 +71,7 @@ fn bisect_rec(
     let left = cut.left;
     let next = cut.at;
     if left == 0 {
-        return halving::unsplit(
+        return ends::unsplit(
             ws,
             weights,
             n,
@@ -120,7 +120,7 @@ fn bisect_rec(
         kids,
         count + (left - 1),
     );
-    halving::join_halves(n, kids, count + (all - 2), top, second)
+    ends::join_halves(n, kids, count + (all - 2), top, second)
 }
 
 // Bisection of all leaves of an accepted network, whose children are put at the front of `kids`.
@@ -143,7 +143,7 @@ fn bisect_all<'a>(
 {
     let mut numbers = [0u16; 128];
     start::count_up(&mut numbers, n);
-    let eps = halving::imbalance(imbalance);
+    let eps = ends::imbalance(imbalance);
     bisect_rec(
         &mut numbers[..n],
         ws,

@@ -21,13 +21,14 @@ fn told(added: Added) -> Network {
     added.network
 }
 
-// So many indices, or as many as there is room for, to the front of a list.
+// So many indices, to the front of a list.
 fn read_leaf(leaf: &mut [u16], count: usize) {
     for i in 0..count {
         put16(leaf, i, (stored::next_number() % 65536) as u16);
     }
 }
 
+// One leaf more, of so many indices that follow, at most 40.
 fn with_leaf(network: Network, count: usize) -> Network {
     let mut leaf = [0u16; 40];
     let n = min(count, 40);

@@ -1,7 +1,7 @@
 // The leaves below each node of a tree, as sets in slots of lent words, and whether two trees have the same sets.
 ghost use mathlib.Core.Bool.{false};
 ghost use mathlib.Core.Path.{_≡_};
-ghost use Prim.Native.Nat.{_+_, _-_, _*_, _<_, _≤_};
+ghost use Prim.Native.Nat.{_-_, _<_, _≤_};
 ghost use lib.Dec.{ltb};
 ghost use lib.ListN.{length};
 ghost use Rattle.spec.specs.Lists.{anyb, from};

@@ -1,7 +1,7 @@
 // One level of bisection, in lists that hold all of them: made coarser, a coarser partition projected to it, refined. The most that a side may weigh.
 ghost use mathlib.Core.Path.{_≡_};
 ghost use mathlib.Core.List.{map};
-ghost use Prim.Native.Nat.{_+_, _*_, _<_, _≤_};
+ghost use Prim.Native.Nat.{_+_, _*_, _≤_};
 ghost use lib.ListN.{length, take};
 ghost use Rattle.spec.specs.Floats.{zeroFloat, greater, lesser};
 ghost use Rattle.spec.specs.Memory.{copied, placed};

@@ -1,8 +1,7 @@
 // The local indices of a frontier: the unsliced ones that its members list, numbered in rising order; its sets and weights in these numbers.
 ghost use mathlib.Core.Bool.{not, _&&_, _||_};
 ghost use mathlib.Core.Path.{_≡_};
-ghost use Prim.Native.Nat.{ℕ, _+_, _*_, _^_, _<_, _≤_};
-ghost use lib.Dec.{ltb};
+ghost use Prim.Native.Nat.{ℕ, _*_, _^_, _<_, _≤_};
 ghost use lib.ListN.{length, getD};
 ghost use lib.Seq.{sets as putAt};
 ghost use Rattle.spec.specs.Calls.{flagAt};

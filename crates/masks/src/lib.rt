@@ -3,7 +3,7 @@
 // and word 6 n + s has how many bits these are.
 ghost use mathlib.Core.List.{[]};
 ghost use mathlib.Core.Path.{_≡_};
-ghost use Prim.Native.Nat.{_+_, _*_, _^_, _<_, _≤_};
+ghost use Prim.Native.Nat.{_+_, _*_, _<_, _≤_};
 ghost use lib.ListN.{length};
 ghost use Rattle.slots.specs.Weigh.{Light, weighed, either};
 ghost use Rattle.masks.specs.Keeps.{withKept};

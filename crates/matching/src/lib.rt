@@ -1,7 +1,7 @@
 // Vertices matched in pairs along heavy nets, in a drawn order.
 ghost use mathlib.Core.Path.{_≡_};
 ghost use mathlib.Core.Bool.{false};
-ghost use Prim.Native.Nat.{_+_, _-_, _<_, _≤_};
+ghost use Prim.Native.Nat.{_-_, _<_, _≤_};
 ghost use lib.ListN.{length, take};
 ghost use Rattle.spec.specs.Lists.{range};
 ghost use Rattle.spec.specs.Floats.{zeroFloat};

@@ -2,7 +2,7 @@
 // A table keeps its slot, and each new table takes the next one. By slot: its set, its node number, its size bits, its least pair.
 ghost use mathlib.Core.List.{[], _∷_, _++_};
 ghost use mathlib.Core.Path.{_≡_};
-ghost use Prim.Native.Nat.{_+_, _*_, _<_, _≤_};
+ghost use Prim.Native.Nat.{_+_, _<_, _≤_};
 ghost use lib.ListN.{length, getD, take};
 ghost use Rattle.spec.specs.Memory.{over};
 ghost use Rattle.slots.specs.Weigh.{Light};

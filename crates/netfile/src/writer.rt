@@ -1,6 +1,4 @@
 // The writer's inner functions: a tree and what is asked as parts of the lists that are lent.
-ghost use mathlib.Core.Path.{_≡_};
-ghost use lib.ListN.{take};
 ghost use Rattle.network.specs.Record.{netOf};
 ghost use Rattle.netwrite.specs.Contents.{TreeLent, AskLent, treeOf, askOf};
 ghost use Rattle.netfile.specs.Writer.{WritesTo, recordOf, treeHanded};

@@ -3,7 +3,7 @@ ghost use mathlib.Core.Path.{_≡_};
 ghost use Prim.Native.Nat.{_≤_};
 ghost use lib.ListN.{length};
 ghost use Rattle.spec.specs.Refusal.{codeOf};
-ghost use Rattle.spec.specs.Network.{refusalOf, maxLeaves, maxOutputs};
+ghost use Rattle.spec.specs.Network.{refusalOf, maxLeaves};
 ghost use Rattle.spec.specs.Layout.{networkOf};
 ghost use Rattle.network.specs.Checks.{Rows, Lent, Fitting};
 ghost use Rattle.network.specs.Codes.{largeOf, outOfRangeOf, repeatOf};

@@ -1,13 +1,10 @@
 // The network file, written from lists that are lent: what is refused and by which number, how many bytes there are, and the bytes.
-ghost use mathlib.Core.Bool.{_&&_, _||_, cond};
-ghost use mathlib.Core.List.{_++_};
+ghost use mathlib.Core.Bool.{cond};
 ghost use mathlib.Core.Path.{_≡_};
 ghost use Prim.Native.Nat.{_+_, _<_, _≤_};
-ghost use lib.Dec.{eqb, ltb};
+ghost use lib.Dec.{ltb};
 ghost use lib.ListN.{length};
-ghost use Rattle.spec.specs.Lists.{anyb};
 ghost use Rattle.spec.specs.Refusal.{codeOf, first};
-ghost use Rattle.spec.specs.Calls.{wrongTree};
 ghost use Rattle.spec.specs.File.{writeChecks, treeField, askField};
 ghost use Rattle.network.specs.Checks.{Lent};
 ghost use Rattle.network.specs.Codes.{Facts};
@@ -19,7 +16,6 @@ ghost use Rattle.netwrite.specs.Numbers.{treeIsWrong, flagsAreWrong};
 ghost use Rattle.netwrite.specs.Answers.{Writes};
 ghost use Rattle.spec.specs.Layout.{networkOf};
 ghost use Rattle.spec.specs.FileClaims.{Bytes};
-use network::Network;
 use network::checks;
 use network::refusal;
 use network::scan;

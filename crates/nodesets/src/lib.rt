@@ -1,6 +1,6 @@
 // Each node's set of indices, in slots of lent words: up, in step order, what leaves below a node name; down, what is wanted outside it.
 ghost use mathlib.Core.Path.{_≡_};
-ghost use Prim.Native.Nat.{_+_, _-_, _*_, _/_, _<_, _≤_};
+ghost use Prim.Native.Nat.{_+_, _*_, _<_, _≤_};
 ghost use lib.ListN.{length};
 ghost use Rattle.laws.specs.FlatLaws.{leftOf, rightOf};
 ghost use Rattle.slots.specs.Writes.{leafHas};

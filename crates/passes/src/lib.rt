@@ -1,7 +1,7 @@
 // Improvement of a valid tree: the nodes of a pass, by falling work, each visited once; passes until one rebuilds nothing.
 ghost use mathlib.Core.Bool.{false};
 ghost use mathlib.Core.Path.{_≡_};
-ghost use Prim.Native.Nat.{ℕ, _+_, _-_, _*_, _<_, _≤_};
+ghost use Prim.Native.Nat.{ℕ, _+_, _-_, _<_, _≤_};
 ghost use lib.ListN.{length, getD, take};
 ghost use Rattle.spec.specs.Layout.{networkOf};
 ghost use Rattle.spec.specs.Tree.{stepOrder};

@@ -1,7 +1,5 @@
 // Plans stored network files by bisection and writes a line for each.
 // The form of input and output is stated in harness/src/bisection/record.rs, which makes both.
-ghost use Prim.Native.Nat.{_≤_};
-ghost use lib.ListN.{length};
 use bisection::Bisected;
 use network::Network;
 

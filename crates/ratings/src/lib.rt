@@ -1,6 +1,6 @@
 // How strongly the neighbours of a vertex are connected to it: the ratings that a matching goes by.
 ghost use mathlib.Core.Path.{_≡_};
-ghost use Prim.Native.Nat.{_+_, _*_, _<_, _≤_};
+ghost use Prim.Native.Nat.{_+_, _<_, _≤_};
 ghost use lib.ListN.{length, getD, take};
 ghost use Rattle.slots.specs.Rising.{risingOf};
 ghost use Rattle.ratings.specs.Rated.{ratingsIn, ratedPin, share, ratedOpen, ratedPins, ratedNet, ratedNets};

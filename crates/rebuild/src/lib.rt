@@ -1,14 +1,14 @@
 // The rebuild after a search: whether it happens, and the nodes that it writes.
 ghost use mathlib.Core.Path.{_≡_};
 ghost use mathlib.Core.Bool.{cond};
-ghost use Prim.Native.Nat.{_+_, _-_, _^_, _<_, _≤_};
+ghost use Prim.Native.Nat.{_^_, _<_, _≤_};
 ghost use Rattle.spec.specs.Undercut.{undercuts};
 ghost use Rattle.spec.specs.Tree.{pairsOf};
 ghost use Rattle.laws.specs.ArrayRebuild.{write, buildArray};
 ghost use Rattle.frontier.specs.Opens.{freed};
 ghost use Rattle.subset.specs.Walk.{splitAt};
 ghost use Rattle.subset.specs.Regions.{isSplit, regionOf};
-ghost use Rattle.rebuild.specs.Writes.{pair, withPair, wrote};
+ghost use Rattle.rebuild.specs.Writes.{withPair, wrote};
 
 // Is `best`, as f64, below `old` × (1 − 1e-9) in f64.
 pub fn undercuts(best: u64, old: u64) -> bool

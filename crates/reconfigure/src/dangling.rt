@@ -1,5 +1,4 @@
 // Is there an index that is no output and that just one leaf names. Each index is counted up to 2, over all leaves, in one pass.
-ghost use mathlib.Core.Bool.{cond};
 ghost use mathlib.Core.Path.{_≡_};
 ghost use Prim.Native.Nat.{ℕ, _<_, _≤_};
 ghost use lib.Dec.{eqb};

@@ -93,7 +93,7 @@ pub record Going (N : Network) (n target : ℕ) (kids₀ flags₀ : List ℕ) (m
   pub leads : sliceLoop N target (onePass N) left (planWith flags kids rebuilt tried) ≡ sliceLoop N target (onePass N) m (planWith flags₀ kids₀ 0 0)
 
 -- tree, flags and counts are those of the sliced plan
-pub record Sliced (N : Network) (n target : ℕ) (kids₀ flags₀ : List ℕ) (m : ℕ) (kids flags : List ℕ) (rebuilt tried : ℕ) : Type 0 where
+pub record ChoicesMade (N : Network) (n target : ℕ) (kids₀ flags₀ : List ℕ) (m : ℕ) (kids flags : List ℕ) (rebuilt tried : ℕ) : Type 0 where
   pub same : length flags ≡ length flags₀
   pub stands : Stands N n kids flags
   pub plan-is : planWith flags kids rebuilt tried ≡ sliceLoop N target (onePass N) m (planWith flags₀ kids₀ 0 0)
@@ -121,11 +121,11 @@ module _ (N : Network) (n target : ℕ) (kids₀ flags₀ : List ℕ) (m : ℕ) 
           leads = sym (c .goes g rebuilt tried less) ∙ ap (λ (x : ℕ). sliceLoop N target (onePass N) x (planWith flags kids rebuilt tried)) (sym e) ∙ s .leads;
         }
 
-    pub going-stops : r ≡ false → Sliced N n target kids₀ flags₀ m kids′ flags′ rebuilt tried
+    pub going-stops : r ≡ false → ChoicesMade N n target kids₀ flags₀ m kids′ flags′ rebuilt tried
     going-stops g = record { same = c .same ∙ s .same; stands = c .stands; plan-is = sym (c .stops g rebuilt tried left) ∙ s .leads }
 
   pub going-ends : {left : ℕ} {kids flags : List ℕ} {rebuilt tried : ℕ} → left ≡ 0 → Going N n target kids₀ flags₀ m left kids flags rebuilt tried
-      → Sliced N n target kids₀ flags₀ m kids flags rebuilt tried
+      → ChoicesMade N n target kids₀ flags₀ m kids flags rebuilt tried
   going-ends {left} {kids} {flags} {rebuilt} {tried} e s =
       record {
         same = s .same;

@@ -11,7 +11,8 @@ ghost use Rattle.network.specs.Checks.{Lent};
 ghost use Rattle.network.specs.Codes.{Facts};
 ghost use Rattle.slicetree.specs.Clear.{SlicedTo};
 ghost use Rattle.slicetree.specs.Answers.{slicedOf, treeNumber, Answered, Slices};
-mod improving; // improving.rt: slicing on lent lists, a pass of improvement after each choice
+
+mod choices; // choices.rt: slicing on lent lists, a pass of improvement after each choice
 
 use network::Network;
 use network::checks;
@@ -136,7 +137,7 @@ fn slice_improved<'a>(
     ensures { λ r. ⌜ SlicedTo (networkOf m n o (now (weights .entry)) (now (counts .entry)) (now (legs .entry)) (now (outputs .entry))) true target (now (tree .entry)) (now (flags .entry)) (now (tree .exit)) (now (flags .exit)) (r .rebuilt) (r .tried) ⌝ }
 {
     let mut sliced = [0u8; 256];
-    let d = improving::slice(
+    let d = choices::slice(
         ws,
         tree,
         &mut sliced,

@@ -1,17 +1,16 @@
 // Slicing on lent lists: turn after turn one index more is flagged, until the widest table is within the target or no candidate is left.
 ghost use mathlib.Core.Path.{_≡_};
-ghost use Prim.Native.Nat.{ℕ, _≤_, max};
+ghost use Prim.Native.Nat.{max};
 ghost use lib.ListN.{length};
 ghost use Rattle.spec.specs.Layout.{networkOf};
 ghost use Rattle.spec.specs.Slicing.{orZero, withinTarget};
-ghost use Rattle.cost.specs.Back.{totalFrom, widestFrom, exactOf};
+ghost use Rattle.cost.specs.Back.{widestFrom};
 ghost use Rattle.pricing.specs.Promise.{Priceable, Room};
 ghost use Rattle.slicing.specs.Turns.{withFlag, isIndex, Within, Turned, Sliced};
 
 mod ranks; // ranks.rt: the index that is sliced next
 mod tallies; // tallies.rt: sums by index over the steps and the tables of a tree
 
-use pricing::Total;
 use pricing::Widest;
 use ranks::Best;
 

@@ -1,5 +1,4 @@
 // Words and decimal numbers put into a lent buffer, from a cursor on. What stands before the cursor stays, and past the end nothing is put.
-ghost use mathlib.Core.Path.{_≡_};
 ghost use mathlib.Core.List.{_∷_, []};
 ghost use Prim.Native.Nat.{_+_, _≤_};
 ghost use lib.ListN.{length};

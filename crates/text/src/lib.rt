@@ -1,6 +1,5 @@
 // What the program writes: the lines of a plan, or of a refusal, in a lent buffer.
 ghost use Prim.Native.Nat.{_≤_};
-ghost use mathlib.Core.List.{_∷_, []};
 ghost use Rattle.spec.specs.Text.{planLine, refusedLine, planText};
 ghost use Rattle.putfields.specs.Put.{Put};
 ghost use Rattle.text.specs.Lists.{printedFrom};

@@ -17,9 +17,9 @@ use Rattle.bisection.proofs.bisect_rec.Kinds as bisect-rec-kinds
 use Rattle.bisection.proofs.+bisect_rec.Lts-bisect_rec as bisect-rec-lts
 use Rattle.bisection.proofs.cuts.cut_leaves.Reads as cut-leaves-reads
 use Rattle.greedynodes.proofs.greedy_nodes.Reads as greedy-nodes-reads
-use Rattle.bisect.proofs.halving.join_halves.Reads as join-halves-reads
-use Rattle.bisect.proofs.halving.small.Reads as small-reads
-use Rattle.bisect.proofs.halving.unsplit.Reads as unsplit-reads
+use Rattle.bisect.proofs.ends.join_halves.Reads as join-halves-reads
+use Rattle.bisect.proofs.ends.small.Reads as small-reads
+use Rattle.bisect.proofs.ends.unsplit.Reads as unsplit-reads
 use Rattle.bisection.proofs.+bisect_rec.{statement}
 use Rattle.bisection.proofs.+bisect_rec.Tie.{close}
 

@@ -3,8 +3,8 @@ use lib.Dec.{le→leb}
 use lib.Ieee.{inFloat, ofBits, round}
 use Rattle.bisect.specs.Eps.{thousandths, at-least, at-most, between}
 use native.Mathlib.Omega.{arith}
-use Rattle.bisect.proofs.halving.imbalance.Statement.{statement}
-use Rattle.bisect.proofs.halving.imbalance.Tie as tie
+use Rattle.bisect.proofs.ends.imbalance.Statement.{statement}
+use Rattle.bisect.proofs.ends.imbalance.Tie as tie
 
 int-to-float-x : tie.Need-int-to-float-x
 unfolding inFloat

@@ -10,7 +10,7 @@ ghost use Rattle.pricing.specs.Answers.{widestIn};
 ghost use Rattle.subset.specs.Search.{limitOf};
 ghost use Rattle.slicetree.specs.Asks.{Asks};
 ghost use Rattle.slicetree.specs.Once.{Once};
-ghost use Rattle.slicetree.specs.Choices.{Stands, Choice, Sliced};
+ghost use Rattle.slicetree.specs.Choices.{Stands, Choice, ChoicesMade};
 use reconf::Visited;
 use reconfigure::Limit;
 
@@ -161,7 +161,7 @@ pub fn slice<'a>(
     target: u16,
 ) -> Visited
     requires { ⌜ Asks m n o (length (now words)) (now weights) (now counts) (now legs) (now outputs) × Stands (networkOf m n o (now weights) (now counts) (now legs) (now outputs)) n (now kids) (now flags) ⌝ }
-    ensures { λ r. ⌜ Sliced (networkOf m n o (now (weights .entry)) (now (counts .entry)) (now (legs .entry)) (now (outputs .entry))) n target (now (kids .entry)) (now (flags .entry)) m (now (kids .exit)) (now (flags .exit)) (r .rebuilt) (r .tried) ⌝ }
+    ensures { λ r. ⌜ ChoicesMade (networkOf m n o (now (weights .entry)) (now (counts .entry)) (now (legs .entry)) (now (outputs .entry))) n target (now (kids .entry)) (now (flags .entry)) m (now (kids .exit)) (now (flags .exit)) (r .rebuilt) (r .tried) ⌝ }
 {
     let mut rebuilt: u64 = 0;
     let mut tried: u64 = 0;

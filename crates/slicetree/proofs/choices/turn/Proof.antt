@@ -9,8 +9,8 @@ use Rattle.slicetree.specs.Choices.{choice-none, choice-made, within-nex
 use Rattle.slicetree.specs.Asks.{asks-priceable, asks-room, same-asks}
 use native.Mathlib.Omega.{arith}
 use mathlib.Core.Path.{sym, _∙_}
-use Rattle.slicetree.proofs.improving.turn.Statement.{statement}
-use Rattle.slicetree.proofs.improving.turn.Tie as tie
+use Rattle.slicetree.proofs.choices.turn.Statement.{statement}
+use Rattle.slicetree.proofs.choices.turn.Tie as tie
 
 slice-aggregate-post-order : tie.Need-slice-aggregate-post-order
 slice-aggregate-post-order c = search needs

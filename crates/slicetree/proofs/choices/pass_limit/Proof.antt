@@ -8,8 +8,8 @@ use Rattle.spec.specs.Layout.{firsts}
 use Rattle.spec.specs.Slicing.{orZero}
 use Prim.Native.Nat.{max, ℕ, _+_, _-_}
 use mathlib.Core.Path.{ap, _∙_}
-use Rattle.slicetree.proofs.improving.pass_limit.Statement.{statement}
-use Rattle.slicetree.proofs.improving.pass_limit.Tie as tie
+use Rattle.slicetree.proofs.choices.pass_limit.Statement.{statement}
+use Rattle.slicetree.proofs.choices.pass_limit.Tie as tie
 
 less-requires : tie.Need-less-requires
 less-requires c κs = search needs

@@ -2,8 +2,8 @@
 use borrow.Author.Needs.{needs}
 use Rattle.bisect.specs.Cases.{isDry, isGreedy}
 use mathlib.Core.Path.{refl, sym, _∙_}
-use Rattle.bisect.proofs.halving.unsplit.Statement.{statement}
-use Rattle.bisect.proofs.halving.unsplit.Tie as tie
+use Rattle.bisect.proofs.ends.unsplit.Statement.{statement}
+use Rattle.bisect.proofs.ends.unsplit.Tie as tie
 
 is-exhausted-requires : tie.Need-is-exhausted-requires
 is-exhausted-requires c κs = search needs

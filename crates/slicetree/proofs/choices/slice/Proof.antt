@@ -8,8 +8,8 @@ use Rattle.slicetree.specs.Asks.{same-asks}
 use native.Mathlib.Omega.{arith}
 use mathlib.Core.Path.{_≡_, refl, _∙_}
 use lib.ListN.{length}
-use Rattle.slicetree.proofs.improving.slice.Statement.{statement}
-use Rattle.slicetree.proofs.improving.slice.Tie as tie
+use Rattle.slicetree.proofs.choices.slice.Statement.{statement}
+use Rattle.slicetree.proofs.choices.slice.Tie as tie
 
 abbrev Inv-loop : tie.InvT-loop
 Inv-loop words₀ kids₀ flags₀ m n o weights counts legs outputs target rebuilt₀ tried₀ i₀ words kids flags rebuilt tried i =

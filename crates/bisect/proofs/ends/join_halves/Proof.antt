@@ -3,8 +3,8 @@ use borrow.Author.Needs.{needs}
 use Rattle.bisect.specs.Cases.{isRight, isNode}
 use native.Mathlib.Omega.{arith}
 use mathlib.Core.Path.{refl}
-use Rattle.bisect.proofs.halving.join_halves.Statement.{statement}
-use Rattle.bisect.proofs.halving.join_halves.Tie as tie
+use Rattle.bisect.proofs.ends.join_halves.Statement.{statement}
+use Rattle.bisect.proofs.ends.join_halves.Tie as tie
 
 returns : tie.Need-returns
 returns c = isRight (omega (arith, c .if1 .taken)) refl

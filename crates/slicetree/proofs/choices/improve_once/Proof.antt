@@ -5,8 +5,8 @@ use Rattle.subset.specs.Search.{limitOf}
 use Rattle.slicetree.specs.Once.{standing-of, once, limit-is}
 use Rattle.slicetree.specs.Asks.{asks-ready}
 use native.Mathlib.Omega.{arith}
-use Rattle.slicetree.proofs.improving.improve_once.Statement.{statement}
-use Rattle.slicetree.proofs.improving.improve_once.Tie as tie
+use Rattle.slicetree.proofs.choices.improve_once.Statement.{statement}
+use Rattle.slicetree.proofs.choices.improve_once.Tie as tie
 
 slice-aggregate-reprice : tie.Need-slice-aggregate-reprice
 slice-aggregate-reprice c = search needs
