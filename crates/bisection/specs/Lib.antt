@@ -1,4 +1,5 @@
 -- Bisection: what its calls ask, a partition, over all leaves, what it answers and leaves behind. Assumes nothing.
+pub mod Zeros
 pub mod Calls
 pub mod Named
 pub mod Parting

@@ -23,6 +23,7 @@ use network::Network;
 use network::refusal;
 
 pub mod cuts; // cuts.rt: leaves halved by a partition
+mod wipe; // wipe.rt: the stated words made 0
 
 // The answer of bisection: how many words were taken.
 pub enum Bisected {
@@ -209,7 +210,7 @@ fn bisection_in<'a>(
         draws,
         &mut kids,
     );
-    cells::clear(ws, words);
+    wipe::wipe(ws, words);
     if r.top == REFUSED {
         return Bisected::Refused(refusal::TABLE_TOO_WIDE);
     }

@@ -44,8 +44,8 @@ slice-aggregate-bisect-all-2 c = search needs
 bisect-all-requires : tie.Need-bisect-all-requires
 bisect-all-requires c κs = let d = c .before .before .before .before .before .before .before .before .before .before .before .before .before in (d .pre .0, d .pre .1, omega (arith, c .before .before .before .before .before .stated .ensures, length-take-le (c .before .before .before .before .before .stated .result) (d .args .ws .now) (c .before .before .before .before .if1 .left)), d .pre .2)
 
-clear-requires : tie.Need-clear-requires
-clear-requires c κs = tt
+wipe-requires : tie.Need-wipe-requires
+wipe-requires c κs = tt
 
 same-length : tie.Need-same-length
 same-length c = search needs
@@ -56,7 +56,7 @@ returns-3 c = let d = c .before .before .before .before .before .before .before 
     let fit : stated .result ≤ length (a .ws .now) = c .before .before .before .before .before .before .before .before .before .before .before .before .before .before .if1 .left in
     let n : leafCount (networkOf (a .m) (a .n) (a .o) (a .weights .now) (a .counts .now) (a .legs .now) (a .outputs .now)) ≡ a .n = layout-leaf-count (a .m) (a .n) (a .o) (a .weights .now) (a .counts .now) (a .legs .now) (a .outputs .now) in
     let ran = c .before .before .before .before .before .before .before .before .before .bisect-all in
-    let z = c .before .before .before .before .clear .ensures ∙ lent-cleared (a .ws .now) (ran .last .0) (stated .result) (stated .result) fit (ran .kept .0) refl ∙ ap (cleared (a .ws .now)) (stated .ensures) in
+    let z = c .before .before .before .before .wipe .ensures ∙ lent-cleared (a .ws .now) (ran .last .0) (stated .result) (stated .result) fit (ran .kept .0) refl ∙ ap (cleared (a .ws .now)) (stated .ensures) in
     answer-wide (networkOf (a .m) (a .n) (a .o) (a .weights .now) (a .counts .now) (a .legs .now) (a .outputs .now)) (a .imbalance) (a .cutoff) (a .draws .now) (a .tree .now) (a .ws .now) (omega (arith, fit, stated .ensures))
     (omega (arith, c .before .before .before .before .before .before .before .before .before .before .before .before .if2 .left, c .before .before .before .before .before .before .before .before .before .before .before .before .before .less .ensures, n)) _ z _ _ (ran .result .top) (ran .result .at) (ran .ensures) (c .if3 .taken)
 
@@ -69,7 +69,7 @@ returns-4 c = let d = c .before .before .before .before .before .before .before 
     let fit : stated .result ≤ length (a .ws .now) = c .before .before .before .before .before .before .before .before .before .before .before .before .before .before .before .before .if1 .left in
     let n : leafCount (networkOf (a .m) (a .n) (a .o) (a .weights .now) (a .counts .now) (a .legs .now) (a .outputs .now)) ≡ a .n = layout-leaf-count (a .m) (a .n) (a .o) (a .weights .now) (a .counts .now) (a .legs .now) (a .outputs .now) in
     let ran = c .before .before .before .before .before .before .before .before .before .before .before .bisect-all in
-    let z = c .before .before .before .before .before .before .clear .ensures ∙ lent-cleared (a .ws .now) (ran .last .0) (stated .result) (stated .result) fit (ran .kept .0) refl ∙ ap (cleared (a .ws .now)) (stated .ensures) in
+    let z = c .before .before .before .before .before .before .wipe .ensures ∙ lent-cleared (a .ws .now) (ran .last .0) (stated .result) (stated .result) fit (ran .kept .0) refl ∙ ap (cleared (a .ws .now)) (stated .ensures) in
     answer-exhausted (networkOf (a .m) (a .n) (a .o) (a .weights .now) (a .counts .now) (a .legs .now) (a .outputs .now)) (a .imbalance) (a .cutoff) (a .draws .now) (a .tree .now) (a .ws .now) (omega (arith, fit, stated .ensures))
     (omega (arith, c .before .before .before .before .before .before .before .before .before .before .before .before .before .before .if2 .left, c .before .before .before .before .before .before .before .before .before .before .before .before .before .before .before .less .ensures, n)) _ z _ _ (ran .result .top) (ran .result .at) (ran .ensures) (c .if4 .taken)
 
@@ -94,7 +94,7 @@ returns-5 c = let d = c .before .before .before .before .before .before .before 
     let fit : stated .result ≤ length (a .ws .now) = c .before .before .before .before .before .before .before .before .before .before .before .before .before .before .before .before .before .before .before .before .before .before .if1 .left in
     let n : leafCount (networkOf (a .m) (a .n) (a .o) (a .weights .now) (a .counts .now) (a .legs .now) (a .outputs .now)) ≡ a .n = layout-leaf-count (a .m) (a .n) (a .o) (a .weights .now) (a .counts .now) (a .legs .now) (a .outputs .now) in
     let ran = c .before .before .before .before .before .before .before .before .before .before .before .before .before .before .before .before .before .bisect-all in
-    let z = c .before .before .before .before .before .before .before .before .before .before .before .before .clear .ensures ∙ lent-cleared (a .ws .now) (ran .last .0) (stated .result) (stated .result) fit (ran .kept .0) refl ∙ ap (cleared (a .ws .now)) (stated .ensures) in
+    let z = c .before .before .before .before .before .before .before .before .before .before .before .before .wipe .ensures ∙ lent-cleared (a .ws .now) (ran .last .0) (stated .result) (stated .result) fit (ran .kept .0) refl ∙ ap (cleared (a .ws .now)) (stated .ensures) in
     answer-done (networkOf (a .m) (a .n) (a .o) (a .weights .now) (a .counts .now) (a .legs .now) (a .outputs .now)) (a .imbalance) (a .cutoff) (a .draws .now) (a .tree .now) (a .ws .now) (omega (arith, fit, stated .ensures))
     (omega (arith, c .before .before .before .before .before .before .before .before .before .before .before .before .before .before .before .before .before .before .before .before .if2 .left, c .before .before .before .before .before .before .before .before .before .before .before .before .before .before .before .before .before .before .before .before .before .less .ensures, n)) _ z _ _ (ran .result .top) (ran .result .at) (ran .ensures) (c .before .before .before .before .before .before .if4 .left) (c .before .before .before .before .before .before .before .before .if3 .left)
     _ (omega (arith, c .before .before .before .before .before .before .before .before .before .before .before .before .before .before .before .before .before .before .before .before .before .less .ensures, n)) (omega (arith, c .before .before .before .before .before .before .before .before .before .before .before .before .before .before .before .before .before .before .before .before .before .less .ensures, d .pre .1 .fewLeaves)) _ (c .before .before .before .copy16 .ensures) _ (c .min .ensures)
@@ -112,7 +112,7 @@ bisection-in-spec =
     slice-aggregate-bisect-all
     slice-aggregate-bisect-all-2
     bisect-all-requires
-    clear-requires
+    wipe-requires
     same-length
     returns-3
     same-length-2
