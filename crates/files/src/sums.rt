@@ -48,7 +48,12 @@ pub fn record(sum: u64, network: Network) -> u64 {
     let outputs = network.output_count;
     let counts = with(with(with(sum, leaves), indices), outputs);
     let weighed = with8(counts, &network.weights, min(indices, 256));
-    let listed = with_leaves(weighed, &network.leg_counts, &network.legs, min(leaves, 128));
+    let listed = with_leaves(
+        weighed,
+        &network.leg_counts,
+        &network.legs,
+        min(leaves, 128),
+    );
     with16(listed, &network.outputs, min(outputs, 32))
 }
 
