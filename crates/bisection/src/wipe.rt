@@ -1,4 +1,4 @@
-// The stated words made 0 at the end. After a small network most of them are 0 already, and to look at them is faster than to write them.
+// The stated words made 0 at the end. Words that came as 0 and were not written are 0 still, and to look at them is faster than to write them.
 ghost use mathlib.Core.Bool.{false};
 ghost use mathlib.Core.Path.{_≡_};
 ghost use lib.ListN.{length};
