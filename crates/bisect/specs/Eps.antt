@@ -1,7 +1,7 @@
 -- The imbalance in thousandths: the quotient of two whole numbers in f64 is the f64 nearest to the fraction. Assumes nothing.
 use Rattle.std.specs.Prelude.{Bool, true, false, cond, ◌≡◌, refl, ℕ, ◌*◌, ◌≤◌, pos, Float}
 use Rattle.std.proofs.Common.{true≢false, sym, ◌∙◌, ap, mul-one, mul_assoc, mul_right_comm, mul-pos, zero-lt-suc, arith}
-use Rattle.std.specs.Float.{fin, binary64}
+use Rattle.std.specs.Float.{nan, inf, fin, binary64}
 use Rattle.std.specs.Float.Ieee.{up, down, round, div, lt, of_int}
 use Rattle.std.specs.Float.Ieee.Fits.{down_pos}
 use Rattle.std.specs.Float.Ieee.Exact.{HasValue}
@@ -13,6 +13,8 @@ use Rattle.spec.specs.Bisection.{imbalance}
 -- 1000 = 125 × 2^3
 over_thousand : (x : Float) (i : ℕ) → HasValue x false i 1 → div binary64 x (fin false 125 (pos 3)) ≡ decimal i 1000
 unfolding div
+over_thousand nan i x'' = elim x'' [ ]
+over_thousand (inf _) i x4 = elim x4 [ ]
 over_thousand (fin true m e) i (s, p) = absurd (true≢false s)
 over_thousand (fin false m e) i (s, p) =
     let q : m * up e ≡ i * down e = sym (mul-one (m * up e)) ∙ p in

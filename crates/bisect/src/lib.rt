@@ -1,3 +1,4 @@
+#![tactic(auto)]
 // What the bisection of some leaves is made of. Here: a hypergraph halved, through coarser and coarser levels to a first partition, and back level by level, refined at each.
 ghost use Rattle.std.specs.Prelude.{◌≡◌, ◌≤◌, length, take};
 ghost use Rattle.spec.specs.Draws.{drawn};

@@ -1,3 +1,4 @@
+#![tactic(auto)]
 // Recursive bisection: the leaves are halved, each half is halved again, and small ends are left to greedy.
 ghost use Rattle.std.specs.Prelude.{List, ◌≡◌, ◌+◌, ◌≤◌, length};
 ghost use Rattle.spec.specs.Layout.{network_of};

@@ -1,3 +1,4 @@
+#![tactic(auto)]
 // Digits of words, and the sub-masks of a mask.
 ghost use Rattle.std.specs.Prelude.{◌≡◌, ◌^◌, ◌<◌, ◌≤◌, min};
 ghost use Rattle.std.specs.Int.Count.{ones, count_trailing_zeros};

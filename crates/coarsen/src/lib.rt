@@ -1,3 +1,4 @@
+#![tactic(auto)]
 // A coarser hypergraph: a vertex for each pair of a matching and each vertex alone, the nets mapped to these.
 ghost use Rattle.std.specs.Prelude.{not, ◌≡◌, ◌+◌, ◌*◌, ◌<◌, ◌≤◌, length, take};
 ghost use Rattle.spec.specs.Draws.{drawn};

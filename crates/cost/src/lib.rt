@@ -1,3 +1,4 @@
+#![tactic(auto)]
 // Pricing of a network's tree, as an entry that asks nothing of its caller.
 ghost use Rattle.std.specs.Prelude.{◌≡◌, ◌≤◌, length};
 ghost use Rattle.spec.specs.Layout.{network_of};
@@ -12,7 +13,7 @@ use network::{Network, checks, refusal};
 use pricing::{Prices, Total};
 
 // The answer of pricing.
-#[derive(Drop)]
+#[derive(Clone, Copy)]
 pub enum Priced {
     Refused(u8),
     Done(Prices),

@@ -45,6 +45,8 @@ half_exact n h =
 
 half_sum : (x : Float) (n : ℕ) → HasValue x false n 1 → add binary64 x (fin false 1 (negsuc 0)) ≡ round binary64 false (n * 2 + 1) 2
 unfolding add sum
+half_sum nan n p = elim p [ ]
+half_sum (inf _) n p = elim p [ ]
 half_sum (fin true m e) n p = absurd (true≢false p.0)
 half_sum (fin false m e) n p =
     let P : m * up e ≡ n * down e = sym (mul-one (m * up e)) ∙ p.1 in
@@ -55,6 +57,8 @@ half_sum (fin false m e) n p =
 -- ---- a comparison with a value
 lt_value : (m : ℕ) (e : ℤ) (h : Float) (b c : ℕ) → 0 < c → HasValue h false b c → lt (fin false m e) h ≡ nat_lt (m * up e * c) (b * down e)
 unfolding lt
+lt_value m e nan b c C p = elim p [ ]
+lt_value m e (inf _) b c C p = elim p [ ]
 lt_value m e (fin true n d) b c C p = absurd (true≢false p.0)
 lt_value m e (fin false n d) b c C p =
     sym (ltb_scale (m * up e * down d) (n * up d * down e) c C)

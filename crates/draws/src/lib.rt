@@ -1,3 +1,4 @@
+#![tactic(auto)]
 // Draws from lent words, by a cursor; rounding to multiples.
 ghost use Rattle.std.specs.Prelude.{◌≡◌, ◌<◌, false, T, pos};
 ghost use Rattle.std.specs.Float.Ieee.{lt};

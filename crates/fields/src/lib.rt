@@ -1,3 +1,4 @@
+#![tactic(auto)]
 // The fields of a network file, one after another, into lists that are lent.
 ghost use Rattle.std.specs.Prelude.{◌≡◌, List, ℕ, ◌+◌, ◌≤◌, ◌<◌, length};
 ghost use Rattle.spec.specs.File.{allowed, take_weights, take_leaf, take_outputs, take_tree, take_flags, take_target, take_field};
@@ -14,7 +15,7 @@ use payloads::tags;
 
 // What has been read, as numbers: a refusal's number, or 0; what is due; where the next field starts; the counts of the network; where the
 // tree's payload stands, if there is one; what is asked, and where that payload stands.
-#[derive(Drop)]
+#[derive(Clone, Copy)]
 pub struct Scan {
     pub refusal: u8,
     pub due: u8,

@@ -1,3 +1,4 @@
+#![tactic(auto)]
 // Reads cases of network files from standard input and writes a line for each: what the reader and the writer answer. Cases of additions follow.
 // The form of input and output, and the sum of a case, are stated in harness/files.py, which makes both.
 mod additions;

@@ -1,3 +1,4 @@
+#![tactic(auto)]
 // Refinement of a partition by moves of single vertices: after a move, the pins of its nets are entered again.
 ghost use Rattle.std.specs.Prelude.{◌<◌, ◌≤◌, length};
 ghost use Rattle.draws.specs.Cursor.{words_at};

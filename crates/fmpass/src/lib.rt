@@ -1,3 +1,4 @@
+#![tactic(auto)]
 // A pass of refinement: turn after turn, the vertex of the first entry moves, if the other side can take it.
 ghost use Rattle.std.specs.Prelude.{false, ◌≡◌, ◌<◌, eqb, length, get_or};
 ghost use Rattle.spec.specs.Lists.{memb};

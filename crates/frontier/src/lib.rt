@@ -1,3 +1,4 @@
+#![tactic(auto)]
 // The frontier of a node: members are opened, the first of most work first, until there are `k`. The members' and the opened nodes' numbers stand
 // at the front of lent lists.
 ghost use Rattle.std.specs.Prelude.{◌≡◌, ◌+◌, ◌-◌, ◌<◌, ◌≤◌, length, set, take};

@@ -1,3 +1,4 @@
+#![tactic(auto)]
 // The greedy plan.
 ghost use Rattle.std.specs.Prelude.{◌≡◌, ◌≤◌, length};
 ghost use Rattle.spec.specs.Layout.{network_of};

@@ -8,9 +8,9 @@ use Rattle.std.proofs.lemmas.List.{length-map}
 use Rattle.spec.specs.Lists.{memb, count, from, range}
 use Rattle.spec.specs.Members.{All}
 use Rattle.spec.specs.Memory.{filled, over}
-use Rattle.spec.specs.Network.{Network, leaf_count, index_count, legs}
+use Rattle.spec.specs.Network.{Network, leaf_count, index_count}
 use Rattle.spec.specs.NetworkClaims.{Accepted}
-use Rattle.spec.specs.Tree.{Tree, leaf, numbers, Pair, flat_of, Describes}
+use Rattle.spec.specs.Tree.{Tree, leaf, Pair, flat_of, Describes}
 use Rattle.spec.specs.Price.{lists}
 use Rattle.spec.specs.Greedy.{Live, size_of, trees, slots, start_of, leaves_of}
 use Rattle.laws.specs.Booleans.{by_cases, clash, or_intror}

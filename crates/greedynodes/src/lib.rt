@@ -1,3 +1,4 @@
+#![tactic(auto)]
 // Greedy over a list of leaves, in lent words: the sets by slot in 1040 of them, then 256 each for the numbers, the size bits, the live slots
 // and the least pairs.
 ghost use Rattle.std.specs.Prelude.{List, ◌++◌, ◌≡◌, ◌<◌, ◌≤◌};

@@ -1,3 +1,4 @@
+#![tactic(auto)]
 // A side that grows along its nets: how strongly the other vertices are connected to it.
 ghost use Rattle.std.specs.Prelude.{◌≡◌, ◌+◌, ◌<◌, ◌≤◌, length, take};
 ghost use Rattle.spec.specs.Floats.{whole_float};

@@ -1,3 +1,4 @@
+#![tactic(auto)]
 // The functions that a C host calls: a file's bytes priced, a file planned, a network in memory priced, its greedy plan, its plan by bisection, a tree
 // of it improved, a tree of it sliced.
 ghost use Rattle.std.specs.Prelude.{◌≡◌, ◌∷◌, [], ◌≤◌, length, take};

@@ -1,3 +1,4 @@
+#![tactic(auto)]
 // A first partition: the best of eight growths, each refined.
 ghost use Rattle.std.specs.Prelude.{true, ◌≡◌, ◌<◌, length};
 ghost use Rattle.std.proofs.Math.Option.{some};

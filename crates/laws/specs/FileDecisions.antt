@@ -69,7 +69,7 @@ decides_in_order s =
       two_bytes = λ t high. refl;
       tag = λ t high low bytes a. rw a;
       payload = λ t high low bytes a h. rw (a, lt-ltb (length bytes) (high * 256 + low) h);
-      own_val = λ t high low bytes r a h e. one_field s t high low bytes a h
+      own = λ t high low bytes r a h e. one_field s t high low bytes a h
           ∙ ap (λ (x : Result Reading). and_then x (λ s'. read_from s' (drop (high * 256 + low) bytes))) e;
     }
 

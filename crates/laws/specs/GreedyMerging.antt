@@ -52,18 +52,20 @@ off_none s lo (x ∷ l) h r =
 
 -- taking a member's slot off takes just that member off
 off_takes : (lo : ℕ) (l : List Live) (x : Live) → Rising lo l → In x l → Takes x.tree (trees (off x.slot l)) (trees l)
-off_takes lo l x r (here {y = y} {l = l'} e) =
+off_takes lo [] x r i = elim i [ ]
+off_takes lo (y ∷ l') x r (here e) =
     rw (eq-eqb y.slot x.slot (ap (λ (z : Live). z.slot) (sym e)), off_none x.slot (suc y.slot) l' (omega (arith, ap (λ (z : Live). z.slot) e)) r.1)
     (subst (λ z. Takes x.tree (trees l') (z.tree ∷ trees l')) e (takes_head x.tree (trees l')))
-off_takes lo l x r (there {y = y} {l = l'} i) =
+off_takes lo (y ∷ l') x r (there i) =
     let h : suc y.slot ≤ x.slot = all_in (λ z. suc y.slot ≤ z.slot) x l' (rising_above (suc y.slot) l' r.1) i in
     rw (ne_eqb y.slot x.slot (λ q. omega arith))
     (takes_cons x.tree y.tree (trees (off x.slot l')) (trees l') (off_takes (suc y.slot) l' x r.1 i))
 
 in_off : (s : ℕ) (l : List Live) (x : Live) → (x.slot ≡ s → ⊥) → In x l → In x (off s l)
-in_off s l x h (here {y = y} e) =
+in_off s [] x h i = elim i [ ]
+in_off s (y ∷ l') x h (here e) =
     rw (ne_eqb y.slot s (λ q. h (ap (λ (z : Live). z.slot) e ∙ q))) (here e)
-in_off s l x h (there {y = y} {l = l'} i) =
+in_off s (y ∷ l') x h (there i) =
     by_cases (eqb y.slot s) (λ e. rw e (in_off s l' x h i)) (λ e. rw e (there (in_off s l' x h i)))
 
 -- ---- pairs ----

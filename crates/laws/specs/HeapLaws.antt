@@ -57,6 +57,7 @@ module _ {A : Type 0} where
       by_cases (p x) (λ e. rw e ((here refl, e), rest)) (λ e. rw e rest)
 
   in_keep : (p : A → Bool) (x : A) (l : List A) → In x l → p x ≡ true → In x (keep p l)
+  in_keep p x [] i h = elim i [ ]
   in_keep p x (y ∷ l) (here e) h = rw (ap p (sym e) ∙ h) (here e)
   in_keep p x (y ∷ l) (there i) h = by_cases (p y) (λ e. rw e (there (in_keep p x l i h))) (λ e. rw e (in_keep p x l i h))
 
@@ -243,7 +244,7 @@ module _ (n : ℕ) (moves : List ℕ) (q : Queue) (heap : List Entry) (key : Flo
   pub push : memb v moves ≡ false → All (λ e. e.vertex ≡ v → e.stamp < stamp) heap → HeapOf n moves entered (entry_of entered v ∷ heap)
   push m newer =
       record {
-        present = λ u. by_cases (eqb v u) (λ k. rw (← eqb-true v u k) same) (λ k. other u k);
+        present = λ u. by_cases (eqb v u) (λ k. subst (λ w. keep (live_of moves entered w) (entry_of entered v ∷ heap) ≡ cond (waits entered w) (entry_of entered w ∷ []) []) (eqb-true v u k) same) (λ k. other u k);
         older = (omega arith, all_map _ _ heap still_older (all_both _ _ heap newer H.older));
         sized =
             (length-set q.keys v key ∙ H.sized.0, length-set q.stamps v stamp ∙ H.sized.1, length-set q.waiting v 1 ∙ H.sized.2);

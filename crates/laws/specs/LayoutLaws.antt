@@ -3,7 +3,7 @@ use Rattle.std.specs.Prelude.{◌≡◌, refl, List, [], ◌∷◌, map, ◌++�
 use Rattle.std.proofs.Common.{sym, ap, ◌∙◌, zero-add, add-zero, arith, add-one, ext_get_or, get_or-drop}
 use Rattle.std.proofs.lemmas.List.{map-append, length-map}
 use Rattle.spec.specs.Lists.{from, range}
-use Rattle.spec.specs.Network.{Network, weight, legs, max_legs}
+use Rattle.spec.specs.Network.{Network, legs, max_legs}
 use Rattle.spec.specs.Layout.{firsts, row_at, network_of}
 use Rattle.spec.specs.BuildingClaims.{Holds, LaidOut, OneNetwork, SameWithinCounts}
 use Rattle.laws.specs.ListLaws.{range_length, from_last}

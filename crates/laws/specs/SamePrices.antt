@@ -11,7 +11,7 @@ use Rattle.spec.specs.Lists.{memb, range, keep}
 use Rattle.spec.specs.Network.{Network, leaf_count, index_count, legs, named}
 use Rattle.spec.specs.Tree.{Tree, leaf, node, number, numbers, below, inner, inner_of, Pair, tree_at, valid, Describes, ValidTree, below_of, Within}
 use Rattle.spec.specs.TreeClaims.{SamePrices}
-use Rattle.spec.specs.Price.{kept, lists, lists_of, list_at, bits, step_at, listing, work, total, largest, widest, slice_bits, price_of, up_to}
+use Rattle.spec.specs.Price.{kept, lists, lists_of, list_at, bits, step_at, listing, work, largest, slice_bits, price_of, up_to}
 use Rattle.spec.specs.Improve.{weigh, work_of}
 use Rattle.laws.specs.Booleans.{bool_ext, or_introl, or_intror, or_cases, clash, eqb_self}
 use Rattle.laws.specs.ListLaws.{memb_one, memb_head, three_cases, three_left, three_right, three_last}

@@ -4,7 +4,7 @@ use Rattle.std.proofs.Common.{sym, ap, ◌∙◌, mul-one, add-mul, mul_comm, mu
 use Rattle.std.specs.Bool.{beq}
 use Rattle.std.proofs.Math.Nat.{mul-sub}
 use Rattle.std.proofs.Math.IntN.{sub_ℕ}
-use Rattle.std.specs.Float.{fin, binary64}
+use Rattle.std.specs.Float.{nan, inf, fin, binary64}
 use Rattle.std.specs.Float.Ieee.{up, down, round, sum, add, neg, sub, of_int, in_float}
 use Rattle.std.specs.Float.Ieee.Fits.{down_pos}
 use Rattle.std.specs.Float.Ieee.Exact.{HasValue}
@@ -39,6 +39,10 @@ sum_scale s a t b c C =
 -- ---- two floats that are whole numbers
 pub add_values : (x y : Float) (s : Bool) (a : ℕ) (t : Bool) (b : ℕ) → HasValue x s a 1 → HasValue y t b 1 → add binary64 x y ≡ sum binary64 s a t b 1
 unfolding add
+add_values nan y s a t b p q = elim p [ ]
+add_values (inf _) y s a t b p q = elim p [ ]
+add_values (fin s' m e) nan s a t b p q = elim q [ ]
+add_values (fin s' m e) (inf _) s a t b p q = elim q [ ]
 add_values (fin s' m e) (fin t' n d) s a t b p q =
     let l : m * up e * down d ≡ a * (down e * down d) = ap (λ (z : ℕ). z * down d) (sym (mul-one (m * up e)) ∙ p.1) ∙ mul_assoc a (down e) (down d) in
     let r : n * up d * down e ≡ b * (down e * down d) = ap (λ (z : ℕ). z * down e) (sym (mul-one (n * up d)) ∙ q.1) ∙ mul_right_comm b (down d) (down e) ∙ mul_assoc b (down e) (down d) in
@@ -46,6 +50,8 @@ add_values (fin s' m e) (fin t' n d) s a t b p q =
 
 neg_value : (x : Float) (s : Bool) (a : ℕ) → HasValue x s a 1 → HasValue (neg x) (not s) a 1
 unfolding neg
+neg_value nan s a p = elim p [ ]
+neg_value (inf _) s a p = elim p [ ]
 neg_value (fin s' m e) s a p = (ap not p.0, p.1)
 
 -- ---- a difference of whole numbers

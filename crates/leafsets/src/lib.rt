@@ -1,3 +1,4 @@
+#![tactic(auto)]
 // The leaves below each node of a tree, as sets in slots of lent words, and whether two trees have the same sets.
 ghost use Rattle.std.specs.Prelude.{false, ◌≡◌, ◌-◌, ◌<◌, ◌≤◌, ltb, length};
 ghost use Rattle.spec.specs.Lists.{anyb, from};

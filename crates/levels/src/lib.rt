@@ -1,3 +1,4 @@
+#![tactic(auto)]
 // One level of bisection, in lists that hold all of them: made coarser, a coarser partition projected to it, refined. The most that a side may weigh.
 ghost use Rattle.std.specs.Prelude.{◌≡◌, map, ◌+◌, ◌*◌, ◌≤◌, length, take};
 ghost use Rattle.spec.specs.Floats.{zero_float, greater, lesser};

@@ -1,3 +1,4 @@
+#![tactic(auto)]
 // The listing of a priced tree as bytes: a head, and ten bytes a step; of a network in memory, and of a file.
 ghost use Rattle.std.specs.Prelude.{◌≡◌, ◌≤◌, ◌*◌, length, take};
 ghost use Rattle.spec.specs.Memory.{placed};

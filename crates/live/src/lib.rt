@@ -1,3 +1,4 @@
+#![tactic(auto)]
 // Live tables, in slots of lent words: which share an index, and what a merge of two makes.
 // Slot 256 holds the outputs and what is named outside, slot 257 what two live tables or more hold, slot 258 what three or more hold.
 ghost use Rattle.std.specs.Prelude.{◌≡◌, ◌+◌, ◌*◌, ◌<◌, ◌≤◌, length, set};

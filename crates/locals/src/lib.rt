@@ -1,3 +1,4 @@
+#![tactic(auto)]
 // The local indices of a frontier: the unsliced ones that its members list, numbered in rising order; its sets and weights in these numbers.
 ghost use Rattle.std.specs.Prelude.{not, ◌&&◌, ◌||◌, ◌≡◌, ℕ, ◌*◌, ◌^◌, ◌<◌, ◌≤◌, length, get_or};
 ghost use Rattle.std.proofs.lemmas.List.Edits.{sets as put_at};

@@ -1,3 +1,4 @@
+#![tactic(auto)]
 // The index sets of masks of members, in a lent list of words. With n masks, and slots of two words: slot n + s has the united sets of the
 // members of the mask s (slot n, of the mask of none, has the region's root's), slot 2 n + s has the indices that the mask's table keeps,
 // and word 6 n + s has how many bits these are.

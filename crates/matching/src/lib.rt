@@ -1,3 +1,4 @@
+#![tactic(auto)]
 // Vertices matched in pairs along heavy nets, in a drawn order.
 ghost use Rattle.std.specs.Prelude.{◌≡◌, false, ◌-◌, ◌<◌, ◌≤◌, length, take};
 ghost use Rattle.spec.specs.Lists.{range};

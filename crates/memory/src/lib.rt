@@ -1,3 +1,4 @@
+#![tactic(auto)]
 // A network in memory, whose lists are lent whole: its record, its prices.
 ghost use Rattle.std.specs.Prelude.{◌≡◌, true, false, ◌*◌, ◌≤◌, length, get_or};
 ghost use Rattle.spec.specs.Memory.{over};

@@ -1,3 +1,4 @@
+#![tactic(auto)]
 // Greedy's merging, turn after turn: the two tables of the least pair make one.
 // A table keeps its slot, and each new table takes the next one. By slot: its set, its node number, its size bits, its least pair.
 ghost use Rattle.std.specs.Prelude.{[], ◌∷◌, ◌++◌, ◌≡◌, ◌+◌, ◌<◌, ◌≤◌, length, get_or, take};

@@ -1,3 +1,4 @@
+#![tactic(auto)]
 // Hypergraphs in slots of lent words, put together: raw nets are compacted to those of two pins or more, and the nets of each vertex are made from them.
 ghost use Rattle.std.specs.Prelude.{◌≡◌, ◌+◌, ◌*◌, ◌<◌, ◌≤◌, length};
 ghost use Rattle.mesh.specs.Entries.{emptied, entered};

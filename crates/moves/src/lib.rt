@@ -1,3 +1,4 @@
+#![tactic(auto)]
 // Moves of single vertices: the sides of a partition and their weights, the sums of a pass.
 ghost use Rattle.std.specs.Prelude.{◌≡◌, ◌+◌, ◌-◌, ◌*◌, ◌/◌, ◌<◌, ◌≤◌, ltb, length};
 ghost use Rattle.fm.specs.Again.{Under};
@@ -74,7 +75,7 @@ pub fn fits(part: &[u8], loads: &[f64], vw: &[f64], maxw: f64, v: usize) -> bool
 }
 
 // A pass: how many moves were made, the sum of their gains, the largest sum and after how many moves it was reached; the cursor; is it over.
-#[derive(Drop)]
+#[derive(Clone, Copy)]
 pub struct Pass {
     pub count: usize,
     pub sum: f64,

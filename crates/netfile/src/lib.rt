@@ -1,3 +1,4 @@
+#![tactic(auto)]
 // The network file: its reader and its writer.
 ghost use Rattle.std.specs.Prelude.{◌≡◌, List, ℕ, ◌+◌, ◌≤◌, length};
 ghost use Rattle.spec.specs.File.{tree_lent, flags_lent, read_of, write_of, buffer_after};
@@ -14,21 +15,21 @@ use network::{Network, refusal};
 use payloads::tags;
 
 // The file's tree: how many places of the list it fills.
-#[derive(Drop)]
+#[derive(Clone, Copy)]
 pub enum Tree {
     Absent,
     Present(usize),
 }
 
 // What the file asks: nothing, its flags, as many as it has, or a target.
-#[derive(Drop)]
+#[derive(Clone, Copy)]
 pub enum Ask {
     Plain,
     Flagged(usize),
     Target(u8),
 }
 
-#[derive(Drop)]
+#[derive(Clone, Copy)]
 pub struct Found {
     pub tree: Tree,
     pub ask: Ask,

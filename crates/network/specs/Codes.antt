@@ -9,7 +9,7 @@ use Rattle.std.proofs.Math.ListN.{length, get_or}
 use borrow.Author.Tests.{lt-ltb, le-ltb, ltb-false}
 use Rattle.spec.specs.Lists.{anyb, range}
 use Rattle.spec.specs.Refusal.{Refusal, truncated, wrong_tag, too_large, overweight, out_of_range, repeated, short_buffer, invalid_tree, invalid_flags, total_beyond, dangling_index, table_too_wide, draws_exhausted, code_of, number_of, passes}
-use Rattle.spec.specs.Network.{Network, leaf_count, index_count, legs, max_leaves, max_indices, max_legs, max_outputs, max_weight, repeats, any_out_of_range, refusal_of, accepted}
+use Rattle.spec.specs.Network.{Network, leaf_count, index_count, legs, max_leaves, max_indices, max_legs, max_outputs, max_weight, repeats, any_out_of_range, refusal_of}
 use Rattle.spec.specs.NetworkClaims.{Accepted}
 use Rattle.spec.specs.Layout.{firsts, row_at, network_of}
 use Rattle.laws.specs.Booleans.{or_introl, or_intror, or_none}

@@ -1,3 +1,4 @@
+#![tactic(auto)]
 // Networks as records: limits, what a record stands for, the check by number, and networks made step by step.
 ghost use Rattle.std.specs.Prelude.{◌≡◌, []};
 ghost use Rattle.spec.specs.Refusal.{code_of};
@@ -13,7 +14,7 @@ pub mod scan; // scan.rt: searches of lists that are lent
 pub mod checks; // checks.rt: the check by number, on lists that are lent
 
 // A record. The places of its arrays past the counts are no part of the network.
-#[derive(Drop)]
+#[derive(Clone, Copy)]
 pub struct Network {
     pub index_count: usize,
     pub leaf_count: usize,

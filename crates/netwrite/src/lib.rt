@@ -1,3 +1,4 @@
+#![tactic(auto)]
 // The network file, written from lists that are lent: what is refused and by which number, how many bytes there are, and the bytes.
 ghost use Rattle.std.specs.Prelude.{cond, ◌≡◌, ◌+◌, ◌<◌, ◌≤◌, ltb, length};
 ghost use Rattle.spec.specs.Refusal.{code_of, first};

@@ -1,3 +1,4 @@
+#![tactic(auto)]
 // Size bits and work bits of each node, from the nodes' sets: a step's work is its children's sizes less what they share, and its size
 // is its work less what it drops.
 ghost use Rattle.std.specs.Prelude.{◌≡◌, true, not, ◌&&◌, cond, [], map, ℕ, ◌+◌, ◌*◌, ◌<◌, ◌≤◌, eqb, length, get_or, drop};

@@ -1,3 +1,4 @@
+#![tactic(auto)]
 // Each node's set of indices, in slots of lent words: up, in step order, what leaves below a node name; down, what is wanted outside it.
 ghost use Rattle.std.specs.Prelude.{◌≡◌, ◌+◌, ◌*◌, ◌<◌, ◌≤◌, length};
 ghost use Rattle.laws.specs.FlatLaws.{left_of, right_of};

@@ -1,12 +1,10 @@
 -- Folds over a lent list's first members, and over a range. Assumes nothing.
-use Rattle.std.specs.Prelude.{◌≡◌, refl, List, [], ◌∷◌, ◌++◌, map, ℕ, zero, suc, ◌+◌, ◌-◌, ◌*◌, ◌^◌, ◌≤◌, ◌<◌, length, get_or, take, drop, replicate}
-use Rattle.std.proofs.Common.{sym, ◌∙◌, arith, add-one, take-suc, take_at}
+use Rattle.std.specs.Prelude.{◌≡◌, refl, List, [], ◌∷◌, ◌++◌, map, ℕ, ◌+◌, ◌-◌, ◌*◌, ◌^◌, ◌<◌, length, get_or, take}
+use Rattle.std.proofs.Common.{sym, ◌∙◌, arith, add-one, take-suc}
 use Rattle.std.proofs.Math.Path.{ap}
 use Rattle.std.specs.Int.Bits.{bit_and}
 use Rattle.std.specs.Int.Count.{count_trailing_zeros}
-use Rattle.std.proofs.lemmas.List.Edits.{sets, sets-eq}
-use Rattle.spec.specs.Lists.{keep, from, range}
-use Rattle.spec.specs.Memory.{filled}
+use Rattle.spec.specs.Lists.{keep, range}
 use Rattle.spec.specs.Hypergraph.{fold_over}
 use Rattle.bits.specs.Lowest.{places, places_step, places_none}
 use Rattle.slots.specs.Slots.{held}

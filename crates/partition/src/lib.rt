@@ -1,3 +1,4 @@
+#![tactic(auto)]
 // Hypergraphs in slots of lent words, and partitions of their vertices: gains and cuts.
 ghost use Rattle.std.specs.Prelude.{◌≡◌, ◌<◌, ◌≤◌, length};
 ghost use Rattle.std.specs.Int.Count.{ones};

@@ -1,3 +1,4 @@
+#![tactic(auto)]
 // Small numbers kept in words: what is read is what stands there modulo 65536.
 ghost use Rattle.std.specs.Prelude.{◌≡◌, ◌<◌, get_or, set};
 ghost use Rattle.parts.specs.Parts.{low};

@@ -1,3 +1,4 @@
+#![tactic(auto)]
 // Improvement of a valid tree: the nodes of a pass, by falling work, each visited once; passes until one rebuilds nothing.
 ghost use Rattle.std.specs.Prelude.{false, ◌≡◌, ℕ, ◌+◌, ◌-◌, ◌<◌, ◌≤◌, length, get_or, take};
 ghost use Rattle.spec.specs.Layout.{network_of};

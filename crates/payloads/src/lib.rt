@@ -1,3 +1,4 @@
+#![tactic(auto)]
 // The payloads of a network file's fields: which refusal each brings, by number, 0 for none; and bytes copied to lists of indices.
 ghost use Rattle.std.specs.Prelude.{◌≡◌, [], ◌≤◌};
 ghost use Rattle.spec.specs.Memory.{over, placed};

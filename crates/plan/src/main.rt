@@ -1,3 +1,4 @@
+#![tactic(auto)]
 // The program `plan`: reads a network file from standard input and writes its plan, or the number of the refusal, to standard output.
 // 131,072 bytes of input decide every file, and no text is longer.
 fn main() {

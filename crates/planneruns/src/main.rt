@@ -1,3 +1,4 @@
+#![tactic(auto)]
 // Runs the planners on stored cases and writes a line for each, to be held to the Rust's trees: greedy's, then bisection's, then improvement's.
 // The form of input and output is stated in harness/src/greedy/record.rs, bisection/record.rs and reconfigure/record.rs, which make both.
 mod bisection_runs; // bisection_runs.rt: plans by bisection

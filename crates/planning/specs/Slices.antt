@@ -10,7 +10,7 @@ use Rattle.spec.specs.Tree.{valid, pairs_of, flat_of}
 use Rattle.spec.specs.Refusal.{number_of, Check, Result, refused, done, and_then, checked}
 use Rattle.spec.specs.Slicing.{Plan, slice, one_pass}
 use Rattle.spec.specs.Calls.{lent, length_check, slice_words, tree_check, beyond_check, dangling_if, follow_up, slice_checks, slice_call, sliced_tree, sliced_flags}
-use Rattle.spec.specs.File.{Ask, plain, flagged, target}
+use Rattle.spec.specs.File.{Ask, plain, target}
 use Rattle.spec.specs.Program.{flags_of, flagged_plan, counted, slice_for}
 use Rattle.laws.specs.Results.{done_same, checked_done}
 use Rattle.laws.specs.Accepted.{accepted_means}

@@ -1,5 +1,5 @@
 -- What is printed is a refusal's line or a plan's text, and the printed steps run to the direct sum. Assumes nothing.
-use Rattle.std.specs.Prelude.{◌≡◌, refl, List, ◌++◌, ℕ, ◌≤◌, length, take, drop}
+use Rattle.std.specs.Prelude.{◌≡◌, refl, List, ℕ, ◌≤◌, length, take, drop}
 use Rattle.std.proofs.Common.{sym, ap, ◌∙◌, subst, arith, take_at}
 use Rattle.std.proofs.Math.Option.{Option}
 use Rattle.spec.specs.Refusal.{Result, refused, done}

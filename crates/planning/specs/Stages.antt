@@ -13,7 +13,7 @@ use Rattle.spec.specs.Improve.{improve}
 use Rattle.spec.specs.Greedy.{greedy}
 use Rattle.spec.specs.Slicing.{Plan}
 use Rattle.spec.specs.Calls.{lent, length_check, plain_words, improve_words, tree_places, greedy_checks, greedy_call, improve_checks, improve_call, greedy_tree, improved_tree}
-use Rattle.spec.specs.File.{Ask, flagged, flag_bytes}
+use Rattle.spec.specs.File.{Ask, flag_bytes}
 use Rattle.spec.specs.FileClaims.{LawfulTree}
 use Rattle.spec.specs.Program.{flags_of, tree_for, improve_for, slice_for, plan_of}
 use Rattle.laws.specs.Results.{done_same, checked_done}

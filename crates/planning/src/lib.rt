@@ -1,3 +1,4 @@
+#![tactic(auto)]
 // The program `plan` as one function: from a network file's bytes to the text that is printed.
 ghost use Rattle.std.specs.Prelude.{true, ◌≡◌, ◌≤◌, length, take};
 ghost use Rattle.spec.specs.Memory.{over};

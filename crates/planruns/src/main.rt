@@ -1,3 +1,4 @@
+#![tactic(auto)]
 // Plans stored network files, then slices trees of stored networks. The form of input and output is stated in harness/plan.py, which makes both.
 mod slices;
 

@@ -1,3 +1,4 @@
+#![tactic(auto)]
 // Pricing on lent lists: each node's set, size bits and work bits, the listing, total, widest and slice bits.
 ghost use Rattle.std.specs.Prelude.{◌≡◌, not, cond, ◌∷◌, [], eqb, ◌+◌, ◌*◌, ◌<◌, ◌≤◌, max, length};
 ghost use Rattle.std.proofs.lemmas.List.Edits.{sets};
@@ -17,20 +18,20 @@ ghost use Rattle.pricing.specs.Lines.{lines};
 ghost use Rattle.pricing.specs.Promise.{Priceable, Room, Pricing};
 
 // The sum of 2 to the work bits, or beyond from 2^53 on.
-#[derive(Drop)]
+#[derive(Clone, Copy)]
 pub enum Total {
     Exact(u64),
     Beyond,
 }
 
 // The size bits of the widest table.
-#[derive(Drop)]
+#[derive(Clone, Copy)]
 pub enum Widest {
     NoLeaves,
     Bits(u16),
 }
 
-#[derive(Drop)]
+#[derive(Clone, Copy)]
 pub struct Prices {
     pub total: Total,
     pub widest: Widest,

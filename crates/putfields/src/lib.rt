@@ -1,3 +1,4 @@
+#![tactic(auto)]
 // The fields of a network file, put into a lent buffer from a cursor on. What stands before the cursor stays.
 ghost use Rattle.std.specs.Prelude.{◌+◌, ◌<◌, ◌≤◌, ◌≡◌, length};
 ghost use Rattle.spec.specs.Memory.{over};

@@ -1,12 +1,12 @@
 -- The vertices that are on a side and have not moved: the first entry is found among them. Assumes nothing.
-use Rattle.std.specs.Prelude.{Bool, true, false, not, ◌&&◌, ◌||◌, cond, ◌≡◌, refl, List, [], ◌∷◌, ◌++◌, ℕ, zero, suc, ◌+◌, ◌-◌, ◌*◌, ◌≤◌, ◌<◌, eqb, length, get_or}
-use Rattle.std.proofs.Common.{sym, ap, ◌∙◌, arith, ne_eqb, eqb-true}
+use Rattle.std.specs.Prelude.{Bool, false, not, ◌&&◌, ◌||◌, ◌≡◌, refl, List, [], ◌∷◌, ◌++◌, ℕ, zero, suc, ◌+◌, ◌-◌, ◌*◌, ◌≤◌, ◌<◌, eqb, length, get_or}
+use Rattle.std.proofs.Common.{sym, ap, ◌∙◌, arith, ne_eqb}
 use Rattle.std.proofs.Math.Decide.{dec_lt}
 use Rattle.std.specs.Int.Bits.{bit_or}
 use Rattle.std.proofs.Math.ListN.{get_or-eq_default}
 use Rattle.spec.specs.Lists.{keep, from, range}
 use Rattle.spec.specs.Hypergraph.{fold_over}
-use Rattle.laws.specs.Booleans.{by_cases, clash}
+use Rattle.laws.specs.Booleans.{by_cases}
 use Rattle.bits.specs.Digits.{digit, bit_diff, or_digits, diff_digits}
 use Rattle.bits.specs.Lowest.{Tests, places}
 use Rattle.slots.specs.Slots.{held, held-digit}

@@ -1,3 +1,4 @@
+#![tactic(auto)]
 // The queue of refinement in lent lists: keys, the vertex whose entry comes first, entering vertices.
 ghost use Rattle.std.specs.Prelude.{◌≡◌, false, ℕ, ◌*◌, ◌<◌, ◌≤◌, eqb, length, get_or};
 ghost use Rattle.spec.specs.Hypergraph.{fold_over};

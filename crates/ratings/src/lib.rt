@@ -1,3 +1,4 @@
+#![tactic(auto)]
 // How strongly the neighbours of a vertex are connected to it: the ratings that a matching goes by.
 ghost use Rattle.std.specs.Prelude.{◌≡◌, ◌+◌, ◌<◌, ◌≤◌, length, get_or, take};
 ghost use Rattle.slots.specs.Rising.{rising_of};

@@ -1,3 +1,4 @@
+#![tactic(auto)]
 // The rebuild after a search: whether it happens, and the nodes that it writes.
 ghost use Rattle.std.specs.Prelude.{◌≡◌, cond, ◌^◌, ◌<◌, ◌≤◌};
 ghost use Rattle.spec.specs.Undercut.{undercuts};

@@ -1,3 +1,4 @@
+#![tactic(auto)]
 // One visit of a node: its frontier, the search over it, the rebuild if it is cheaper, and then pricing again.
 ghost use Rattle.std.specs.Prelude.{false, ◌&&◌, ◌≡◌, ℕ, ◌+◌, ◌-◌, ◌*◌, ◌^◌, ◌<◌, ◌≤◌, ltb, length, get_or};
 ghost use Rattle.std.proofs.lemmas.List.Edits.{sets as put_at};

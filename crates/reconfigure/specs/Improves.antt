@@ -31,7 +31,6 @@ use Rattle.pricing.specs.declared.Total.TheVariants.{Exact, Beyond}
 use Rattle.cost.specs.Checks.{row_places}
 use Rattle.passes.specs.Made.{Ready, Improves}
 use Rattle.reconf.specs.declared.Visited.{Visited as Counts}
-use Rattle.reconfigure.specs.declared.Improved.{Improved}
 use Rattle.reconfigure.specs.declared.Improved.TheVariants.{Done}
 use Rattle.reconfigure.specs.Answers.{answer_of, Answered}
 

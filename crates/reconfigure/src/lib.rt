@@ -1,3 +1,4 @@
+#![tactic(auto)]
 // Improvement of a network's tree, as an entry that asks nothing of its caller.
 ghost use Rattle.std.specs.Prelude.{false, ◌≡◌, ◌+◌, ◌-◌, ◌*◌, ◌^◌, ◌<◌, ◌≤◌, length};
 ghost use Rattle.spec.specs.Layout.{network_of};

@@ -1,3 +1,4 @@
+#![tactic(auto)]
 // Refinement of a partition by moves of single vertices (Fiduccia and Mattheyses): pass after pass, while they bring something.
 ghost use Rattle.std.specs.Prelude.{true, not, ◌≡◌, length};
 ghost use Rattle.spec.specs.Floats.{zero_float};

@@ -1,3 +1,4 @@
+#![tactic(auto)]
 // Prices stored network files and writes a line for each, to be held to the Rust's answers.
 // The form of input and output is stated in harness/src/record.rs, which makes both.
 mod records; // records.rt: the steps as records

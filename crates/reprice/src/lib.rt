@@ -1,3 +1,4 @@
+#![tactic(auto)]
 // Pricing for improvement: each node's set, size bits and work bits, in lists that are lent, with no listing and no answer.
 ghost use Rattle.std.specs.Prelude.{false, ◌≡◌, ◌*◌, ◌≤◌, length};
 ghost use Rattle.spec.specs.Layout.{network_of};

@@ -1,3 +1,4 @@
+#![tactic(auto)]
 // The least pair of each live table, kept from turn to turn in a list by slot, and the least of all.
 ghost use Rattle.std.specs.Prelude.{◌≡◌, ◌<◌, ◌≤◌, length};
 ghost use Rattle.parts.specs.Parts.{low};

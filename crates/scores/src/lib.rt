@@ -1,3 +1,4 @@
+#![tactic(auto)]
 // Scores of pairs of live tables, and the least pair of a table.
 ghost use Rattle.std.specs.Prelude.{◌&&◌, ◌||◌, ◌≡◌, ◌+◌, ◌^◌, ◌<◌, ◌≤◌, eqb, ltb, get_or};
 ghost use Rattle.parts.specs.Parts.{low};

@@ -8,7 +8,6 @@ use Rattle.spec.specs.Network.{Network, leaf_count}
 use Rattle.spec.specs.Tree.{Tree, number, pairs_of, step_order}
 use Rattle.spec.specs.Price.{Total, up_to, listing, work, widest}
 use Rattle.spec.specs.Calls.{wrong_tree, is_beyond}
-use Rattle.spec.specs.Improve as spec
 use Rattle.spec.specs.Improve.{inner_trees, falling, visits, pass, improve_tree, improve}
 use Rattle.spec.specs.Slicing.{or_zero}
 use Rattle.laws.specs.Booleans.{by_cases, clash}

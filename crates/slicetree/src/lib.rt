@@ -1,3 +1,4 @@
+#![tactic(auto)]
 // Slicing of a network's tree to a target, with improvement or without.
 ghost use Rattle.std.specs.Prelude.{◌≡◌, true, false, ◌≤◌, length};
 ghost use Rattle.spec.specs.Layout.{network_of};

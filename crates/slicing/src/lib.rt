@@ -1,3 +1,4 @@
+#![tactic(auto)]
 // Slicing on lent lists: turn after turn one index more is flagged, until the widest table is within the target or no candidate is left.
 ghost use Rattle.std.specs.Prelude.{◌≡◌, max, length};
 ghost use Rattle.spec.specs.Layout.{network_of};

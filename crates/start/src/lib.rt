@@ -1,3 +1,4 @@
+#![tactic(auto)]
 // Greedy's start: the leaves' tables in slots of lent words, their sizes, and the indices that stay whatever is merged.
 ghost use Rattle.std.specs.Prelude.{◌≡◌, ◌*◌, ◌<◌, ◌≤◌, length, get_or, take};
 ghost use Rattle.slots.specs.Slots.{with_set};

@@ -1,3 +1,4 @@
+#![tactic(auto)]
 // The lines of a plan's steps, from the flat listing and the nodes' sets.
 ghost use Rattle.std.specs.Prelude.{cond, ◌∷◌, [], ◌+◌, ◌*◌, ◌<◌, ◌≤◌, get_or};
 ghost use Rattle.spec.specs.Lists.{keep, range};

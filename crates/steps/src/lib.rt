@@ -1,3 +1,4 @@
+#![tactic(auto)]
 // Steps as records: pricing's listing, put into a lent list of structs.
 ghost use Rattle.std.specs.Prelude.{◌≡◌, ◌*◌, ◌<◌, ◌^◌, min};
 ghost use Rattle.spec.specs.Memory.{over};
@@ -10,7 +11,7 @@ use cost::Priced;
 use network::Network;
 
 // A step: its node, the children, work bits and size bits.
-#[derive(Drop)]
+#[derive(Clone, Copy)]
 pub struct Step {
     pub node: u16,
     pub left: u16,
@@ -48,7 +49,7 @@ pub fn put_steps(steps: &mut [Step], numbers: &[u16], count: usize)
 }
 
 // A priced tree's answer, the number of its steps, which is 0 on a refusal, and its listing.
-#[derive(Drop)]
+#[derive(Clone, Copy)]
 struct Listed {
     priced: Priced,
     count: usize,

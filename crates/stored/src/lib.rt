@@ -1,3 +1,4 @@
+#![tactic(auto)]
 // What the programs that run stored cases share: numbers, files and trees from standard input, words and numbers to standard output.
 ghost use Rattle.std.specs.Prelude.{◌<◌, ◌≤◌, length};
 

@@ -1,3 +1,4 @@
+#![tactic(auto)]
 // The search over the subsets of up to 12 members, as masks. With n masks, word s of the lent list has the least cost of the mask s, and word
 // n + s the part of the first split that has it. What crate `masks` says of the masks' sets stands from word 2 n on.
 ghost use Rattle.std.specs.Prelude.{◌≡◌, ◌+◌, ◌*◌, ◌^◌, ◌<◌, ◌≤◌, ltb, length};

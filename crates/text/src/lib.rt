@@ -1,3 +1,4 @@
+#![tactic(auto)]
 // What the program writes: the lines of a plan, or of a refusal, in a lent buffer.
 ghost use Rattle.std.specs.Prelude.{◌≤◌};
 ghost use Rattle.spec.specs.Text.{plan_line, refused_line, plan_text};

@@ -1,3 +1,4 @@
+#![tactic(auto)]
 // Trees of a network, as entries that ask nothing of their caller: the tree check, the step order, sameness of plans.
 ghost use Rattle.std.specs.Prelude.{◌≡◌, ◌≤◌, length};
 ghost use Rattle.network.specs.Record.{net_of};

@@ -1,3 +1,4 @@
+#![tactic(auto)]
 // Runs the tree check, the step order and the comparison of two trees on stored cases and writes a line for each.
 // The form of input and output is stated in harness/src/tree_record.rs, which makes both.
 use network::Network;

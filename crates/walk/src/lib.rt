@@ -1,3 +1,4 @@
+#![tactic(auto)]
 // Trees as flat lists of children, two places a node: the tree check and the step order. The stacks are in the lent workspace.
 ghost use Rattle.std.specs.Prelude.{false, not, ◌≡◌, ℕ, ◌+◌, ◌-◌, ◌*◌, ◌<◌, ◌≤◌, length, get_or, set};
 ghost use Rattle.spec.specs.Memory.{over};

@@ -1,0 +1,4 @@
+use Rattle.bisect.proofs.+multilevel.Given as goal
+
+abbrev pub decreases-multilevel : goal.decreases-multilevel
+decreases-multilevel l = l.n

@@ -1,0 +1,11 @@
+use Rattle.bisect.specs.Cuts.{cut_exhausted, cut_left, cut_some}
+use Rattle.bisection.proofs.cuts.cut_leaves.Goals as goal
+
+pub returns-then-is_exhausted-clause-cut_by : goal.returns-then-is_exhausted-clause-cut_by
+returns-then-is_exhausted-clause-cut_by c = let a = c.args in λ N s. cut_exhausted N a.leaves.now a.eps a.draws.now a.at _ c.partition_of-next.result (c.partition_of-next.ensures N s) c.is_exhausted.result c.is_exhausted.ensures c.if-is_exhausted.true
+
+pub returns-then-left-n-clause-cut_by : goal.returns-then-left-n-clause-cut_by
+returns-then-left-n-clause-cut_by c = let a = c.args in λ N s. cut_left N a.leaves.now a.eps a.draws.now a.at _ c.partition_of-next.result (c.partition_of-next.ensures N s) c.is_exhausted.result c.is_exhausted.ensures c.if-is_exhausted.false _ c.halve-left.result c.halve-left.ensures c.if-left-n.true
+
+pub returns-clause-cut_by : goal.returns-clause-cut_by
+returns-clause-cut_by c = let a = c.args in λ N s. cut_some N a.leaves.now a.eps a.draws.now a.at _ c.partition_of-next.result (c.partition_of-next.ensures N s) c.is_exhausted.result c.is_exhausted.ensures c.if-is_exhausted.false _ c.halve-left.result c.halve-left.ensures c.if-left-n.false

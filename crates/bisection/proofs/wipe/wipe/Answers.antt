@@ -1,0 +1,9 @@
+use mathlib.Core.Path.{ap, ◌∙◌}
+use Rattle.spec.specs.Memory.{cleared}
+use Rattle.cells.specs.Cells.{cleared_back, cleared-min}
+use Rattle.bisection.proofs.wipe.wipe.Goals as goal
+
+pub returns : goal.returns
+returns c =
+    let ws = c.args.words.now in
+    cleared_back ws _ _ c.zero.ensures ∙ ap (cleared ws) c.min-n.ensures ∙ cleared-min ws _

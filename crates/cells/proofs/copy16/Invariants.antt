@@ -1,0 +1,11 @@
+use Prim.Native.Nat.{◌-◌, ◌≤◌, min}
+use mathlib.Core.Path.{◌≡◌}
+use lib.ListN.{length}
+use Rattle.spec.specs.Memory.{copied}
+use Rattle.cells.proofs.copy16.Given as goal
+
+abbrev pub invariant-loop-k : goal.invariant-loop-k
+invariant-loop-k l = (l.k ≤ l.k-end) × (l.k-end ≡ min l.n (min (length l.initial.to) (length l.list))) × (length l.to ≡ length l.initial.to) × (l.to ≡ copied l.initial.to l.list l.k)
+
+abbrev pub decreases-loop-k : goal.decreases-loop-k
+decreases-loop-k l = l.k-end - l.k

@@ -1,0 +1,17 @@
+use Rattle.partition.specs.Folds.{range_next}
+use Rattle.growth.specs.Links.{strong_in, offered_in}
+use Rattle.matching.specs.Choices.{mate_if}
+use Rattle.draws.specs.Cursor.{words_at}
+use Rattle.spec.specs.Floats.{whole_float}
+use mathlib.Core.Option.{none}
+use lib.Ieee.{of_bits, of_int, round, neg}
+use native.Mathlib.Omega.{arith}
+use mathlib.Core.Path.{refl}
+use Rattle.growth.proofs.strongest.Goals as goal
+
+pub loop-u-init : goal.loop-u-init
+unfolding of_bits of_int round neg
+loop-u-init c = (omega arith, refl, refl, c.requires.0)
+
+pub loop-u-preserved : goal.loop-u-preserved
+loop-u-preserved c = let a = c.args in let l = c.loop-u in (omega (arith, c.loop-u-test.true), l.invariant.1, range_next (offered_in a.part.now a.links.now) (strong_in (neg (whole_float 1)) none (words_at a.words.now a.at)) (strong_in l.best.link (mate_if l.best.found l.best.vertex) (words_at a.words.now l.best.at)) _ l.u l.invariant.2 c.offer-best.ensures.0, c.offer-best.ensures.1)

@@ -1,0 +1,24 @@
+use Rattle.locals.specs.Unions.{tested_none, tested_yes, tested_no, tested_end}
+use Rattle.slots.specs.Slots.{held}
+use native.Mathlib.Omega.{arith}
+use Prim.Native.Nat.{ℕ}
+use mathlib.Core.Path.{refl, sym, ap, ◌∙◌}
+use lib.ListN.{length, get_or}
+use Rattle.locals.proofs.local_set.Goals as goal
+use Rattle.locals.proofs.local_set.Goals.{then-has, else-has}
+
+pub loop-i-init : goal.loop-i-init
+loop-i-init c = let a = c.args in (omega arith, refl, tested_none a.words.now 2 a.s (λ (x : ℕ). held a.sets.now a.w a.node (get_or a.local.now x 0)) c.empty.new.words c.empty.ensures)
+
+pub loop-i-preserved : goal.loop-i-preserved
+loop-i-preserved c = let a = c.args in let l = c.loop-i in let z = c.empty.new.words in
+    let t : ℕ → _ = λ (x : ℕ). held a.sets.now a.w a.node (get_or a.local.now x 0) in
+    let h = c.has.ensures ∙ ap (λ (x : ℕ). held a.sets.now a.w a.node x) c.at16.ensures.0 in (
+      omega arith,
+      elim c.if-has.branch [ then-has k ↦ omega (arith, ap length k.words-is, k.insert.auto.words, l.invariant.1) | else-has k ↦ omega (arith, ap length k.words-is, l.invariant.1) ],
+      elim c.if-has.branch [ then-has k ↦ tested_yes z 2 a.s t l.i l.words c.if-has.words (sym h ∙ k.if-has.true) l.invariant.2 (k.words-is ∙ k.insert.ensures) | else-has k ↦ k.words-is ∙ tested_no z 2 a.s t l.i l.words (sym h ∙ k.if-has.false) l.invariant.2 ],
+    )
+
+pub returns : goal.returns
+returns c = let a = c.args in let l = c.loop-i in
+    tested_end a.words.now 2 a.s (λ (x : ℕ). held a.sets.now a.w a.node (get_or a.local.now x 0)) c.empty.new.words c.empty.ensures l.i a.c l.words (omega arith) l.invariant.2

@@ -1,0 +1,7 @@
+use Rattle.mesh.specs.Entries.{entered}
+use Prim.Native.Nat.{◌≤◌}
+use mathlib.Core.Path.{◌≡◌}
+use Rattle.mesh.proofs.put_into.Given as goal
+
+abbrev pub invariant-loop-k : goal.invariant-loop-k
+invariant-loop-k l = (l.k ≤ l.n) × (l.words ≡ entered l.w l.base l.list l.at l.x l.initial.words l.k)

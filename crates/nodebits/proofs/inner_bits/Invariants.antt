@@ -1,0 +1,7 @@
+use Rattle.nodebits.specs.Stepped.{Stepped}
+use Prim.Native.Nat.{◌≤◌}
+use lib.ListN.{length}
+use Rattle.nodebits.proofs.inner_bits.Given as goal
+
+abbrev pub invariant-loop-k : goal.invariant-loop-k
+invariant-loop-k l = (l.k ≤ length l.order) × Stepped l.w l.n l.kids l.order l.sets l.effective l.initial.sizes l.initial.works l.k l.sizes l.works

@@ -1,0 +1,11 @@
+use Rattle.slots.specs.Weigh.{word_weight}
+use mathlib.Core.List.{[]}
+use Prim.Native.Nat.{◌+◌, ◌≤◌}
+use mathlib.Core.Path.{◌≡◌}
+use Rattle.nodebits.proofs.weigh_word.Given as goal
+
+abbrev pub invariant-loop-rest : goal.invariant-loop-rest
+invariant-loop-rest l = (l.sum + word_weight l.effective [] l.base l.rest ≡ word_weight l.effective [] l.base l.x) × (l.rest ≤ l.x)
+
+abbrev pub decreases-loop-rest : goal.decreases-loop-rest
+decreases-loop-rest l = l.rest

@@ -1,0 +1,19 @@
+use borrow.Author.Rules.{rules}
+use mathlib.Core.Bool.{◌&&◌}
+use lib.Bits.{bit_and, and_lt}
+use Rattle.bits.specs.Digits.{and_digits}
+use Rattle.slots.specs.Slots.{written_none, with_set_end}
+use Rattle.nodesets.specs.Mixes.{mix_with_next}
+use native.Mathlib.Omega.{arith}
+use Prim.Native.Nat.{◌+◌, ◌*◌}
+use mathlib.Core.Path.{refl}
+use Rattle.nodesets.proofs.trim.Goals as goal
+
+pub loop-k-init : goal.loop-k-init
+loop-k-init c = (omega arith, refl, written_none _ _ _)
+
+pub loop-k-preserved : goal.loop-k-preserved
+loop-k-preserved c = let d = c.args in let l = c.loop-k in (omega arith, search rules, mix_with_next bit_and (λ x y. x && y) and_digits (λ x y. and_lt 64 x y) d.sets.now d.outside.now d.w d.s d.s d.s l.k _ _ _ _ (omega arith) l.invariant.2 (omega (arith, c.slice_known-1.given (d.s * d.w + l.k))) (omega (arith, c.shared_slice_known-1.given (d.s * d.w + l.k))) refl refl refl)
+
+pub returns : goal.returns
+returns c = with_set_end _ _ _ _ _ _ (omega arith) c.loop-k.invariant.2

@@ -1,4 +1,0 @@
--- What the walks by hand share. Assumes nothing.
-pub mod Types
-pub mod Tokens
-pub mod Lends
