@@ -1,13 +1,13 @@
 //! Finds path.rs where it lies and the port's static library. Either may be missing: the program then says so.
 //!
 //! LOQSHYBER_PATH_RS   path.rs; else ../shared/docs/src/src/engines/tn/path.rs, from the repository's top
-//! LOQSHYBER_HOST_LIB  the library; else target/staticlib/libhost.a, from the repository's top (`rt staticlib host`)
+//! LOQSHYBER_HOST_LIB  the library; else crates/host/out/libhost.a, from the repository's top (`rt lib` in crates/host)
 
 use std::path::{Path, PathBuf};
 use std::{env, fs};
 
 const PATH_RS: &str = "../shared/docs/src/src/engines/tn/path.rs";
-const HOST_LIB: &str = "target/staticlib/libhost.a";
+const HOST_LIB: &str = "crates/host/out/libhost.a";
 
 /// The file that a variable names, or the one at its usual place, if it is there.
 fn find(variable: &str, top: &Path, usual: &str) -> Option<PathBuf> {

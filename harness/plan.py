@@ -6,7 +6,7 @@
   plan.py --show K  prints input K in hex, counted from 1, and what is printed of it
   plan.py --slice K prints question K on slicing, counted from 1, and its line
   plan.py FILE      prints the plan of a network file
-  plan.py --beside N [SEED]   holds the built program target/bin/planruns to this reading on N files at random
+  plan.py --beside N [SEED]   holds the built program crates/planruns/out/planruns to this reading on N files at random
 
 `samples` has each sample's network file (NAME.net) and its plan (NAME.plan). crates/plan runs on the document's sample. The input of crates/planruns: a 4-byte count;
 then, for each case, a 4-byte length and so many bytes of a network file, all numbers high byte first. Its output, for each case: the line `case K`, K counted
@@ -95,7 +95,7 @@ def show(k):
 def beside(count, seed):
     cases = random_files(count, seed)
     texts = [plan_text(data) for data in cases]
-    run = subprocess.run([os.path.join(TOP, "target/bin/planruns")], input=runs_input(cases), capture_output=True, check=True)
+    run = subprocess.run([os.path.join(TOP, "crates/planruns/out/planruns")], input=runs_input(cases), capture_output=True, check=True)
     if run.stdout != runs_output(texts):
         wrong = [k for k, (one, other) in enumerate(zip(run.stdout.decode().split("case ")[1:], texts)) if one.split("\n", 1)[1] != other]
         sys.exit(f"plan.py: {len(wrong)} of {count} differ, first {cases[wrong[0]].hex(' ')}")

@@ -14,7 +14,7 @@ use std::process::{Command, ExitCode, Stdio};
 use std::{env, fs};
 
 /// The program that plans many files in one process.
-const PLAN_RUNS: &str = concat!(env!("CARGO_MANIFEST_DIR"), "/../target/bin/planruns");
+const PLAN_RUNS: &str = concat!(env!("CARGO_MANIFEST_DIR"), "/../crates/planruns/out/planruns");
 /// No text is longer.
 const TEXT: usize = 131_072;
 /// What stands around each buffer, and how many bytes of it.
@@ -220,7 +220,7 @@ fn program_output(program: &Path, files: &[Vec<u8>]) -> io::Result<Vec<u8>> {
 fn compare_program(files: &[Vec<u8>], texts: &[Vec<u8>]) -> Result<&'static str, String> {
     let program = PathBuf::from(PLAN_RUNS);
     if !program.is_file() {
-        return Ok("the program planruns is not built (`rt check planruns`), so it was not run");
+        return Ok("the program planruns is not built (`rt run` in crates/planruns), so it was not run");
     }
     let output = program_output(&program, files).map_err(|error| error.to_string())?;
     let numbered = texts.iter().enumerate().map(|(k, text)| [format!("case {}\n", k + 1).as_bytes(), text].concat());

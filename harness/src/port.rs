@@ -3,7 +3,7 @@
 /// Whether the port is linked in.
 pub const AT_HAND: bool = cfg!(port);
 
-pub const MISSING: &str = "the port is not linked: run `rt staticlib host` at the repository's top, and build again";
+pub const MISSING: &str = "the port is not linked: run `rt lib` in crates/host, and build again";
 
 /// C functions of the port: slices that are read, then slices that are written, then numbers.
 macro_rules! c_functions {
