@@ -13,8 +13,8 @@ use Rattle.spec.specs.Bisection.{imbalance}
 -- 1000 = 125 × 2^3
 over_thousand : (x : Float) (i : ℕ) → HasValue x false i 1 → div binary64 x (fin false 125 (pos 3)) ≡ decimal i 1000
 unfolding div
-over_thousand nan i x'' = elim x'' [ ]
-over_thousand (inf _) i x4 = elim x4 [ ]
+over_thousand nan i p = elim p [ ]
+over_thousand (inf _) i p = elim p [ ]
 over_thousand (fin true m e) i (s, p) = absurd (true≢false s)
 over_thousand (fin false m e) i (s, p) =
     let q : m * up e ≡ i * down e = sym (mul-one (m * up e)) ∙ p in

@@ -13,7 +13,7 @@ use merging::REFUSED;
 pub const EXHAUSTED: usize = 65537;
 
 // The top of what was built over some leaves, or REFUSED, or EXHAUSTED; and the cursor into the words.
-#[derive(Drop)]
+#[derive(Clone, Copy)]
 pub struct Half {
     pub top: usize,
     pub at: usize,

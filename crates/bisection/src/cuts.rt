@@ -8,7 +8,7 @@ ghost use Rattle.bisection.specs.Named.{Named};
 use bisect::{halves, hypergraph};
 
 // How many leaves go left, 0 where they are not halved; and the cursor.
-#[derive(Drop)]
+#[derive(Clone, Copy)]
 pub struct Cut {
     pub left: usize,
     pub at: usize,

@@ -24,7 +24,7 @@ pub mod cuts; // cuts.rt: leaves halved by a partition
 mod wipe; // wipe.rt: the stated words made 0
 
 // The answer of bisection: how many words were taken.
-#[derive(Drop)]
+#[derive(Clone, Copy)]
 pub enum Bisected {
     Refused(u8),
     Done(usize),

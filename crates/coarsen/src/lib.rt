@@ -95,7 +95,7 @@ fn map_nets(graph: &mut [u64], nets: usize, coarse: usize, m: usize, places: &[u
 }
 
 // How many nets and vertices a hypergraph has.
-#[derive(Drop)]
+#[derive(Clone, Copy)]
 pub struct Size {
     pub nets: usize,
     pub vertices: usize,
@@ -139,7 +139,7 @@ fn is_worthwhile(n: usize, left: usize) -> bool
 }
 
 // How many nets and vertices the coarser hypergraph has, and whether it is worthwhile; the cursor.
-#[derive(Drop)]
+#[derive(Clone, Copy)]
 pub struct Coarse {
     pub nets: usize,
     pub vertices: usize,

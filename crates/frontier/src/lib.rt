@@ -6,7 +6,7 @@ ghost use Rattle.frontier.specs.Costs.{cost_below};
 ghost use Rattle.frontier.specs.Opens.{more_rank, ranks, nothing, state, open_at, open_most, openings};
 
 // A member's place, and its work bits and one; none if that is 0.
-#[derive(Drop)]
+#[derive(Clone, Copy)]
 pub struct Most {
     pub place: usize,
     pub rank: usize,

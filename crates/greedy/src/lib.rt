@@ -14,7 +14,7 @@ use merging::REFUSED;
 use network::{Network, checks, refusal};
 
 // The answer of greedy.
-#[derive(Drop)]
+#[derive(Clone, Copy)]
 pub enum Planned {
     Refused(u8),
     Done,

@@ -13,7 +13,7 @@ ghost use Rattle.growth.specs.Grown.{growth_of, grown_from, part_grown};
 ghost use Rattle.growth.specs.Links.{strong_in, offered_in, strongest_in, linked_pin, linked_pins, linked_net, linked_nets};
 
 // The strongest connection so far, and its vertex, if one was found; the cursor.
-#[derive(Drop)]
+#[derive(Clone, Copy)]
 pub struct Candidate {
     pub link: f64,
     pub vertex: usize,
@@ -124,7 +124,7 @@ pub fn link_nets(
 }
 
 // A growth: the weight of side 1, the next vertex to come to it, if there is one, and the cursor.
-#[derive(Drop)]
+#[derive(Clone, Copy)]
 pub struct Growth {
     pub weight: f64,
     pub next: usize,

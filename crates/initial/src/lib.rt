@@ -10,7 +10,7 @@ ghost use Rattle.initial.specs.Tried.{Tried};
 ghost use Rattle.initial.specs.Least.{candidate_as, best_of, Initial};
 
 // The weight of the cut nets of a try, or of the best one so far; was there one; the cursor.
-#[derive(Drop)]
+#[derive(Clone, Copy)]
 pub struct Best {
     pub cut: f64,
     pub found: bool,

@@ -20,7 +20,7 @@ use Rattle.laws.specs.Samples.{network, sample, apart}
 abbrev contents : Contents
 contents = record { network = sample; tree = some (2 ∷ 1 ∷ 3 ∷ 0 ∷ []); ask = flagged (0 ∷ 1 ∷ []) }
 
--- two steps, total 4, widest 1, slice bits 2; then the steps of document 01's sample, index 1 being flagged
+-- two steps, total 4, widest 1, slice bits 2; then the steps of the sample, index 1 being flagged
 priced : host_call 36 (file_of contents)
     ≡ done (0 ∷ 2 ∷ 0 ∷ 0 ∷ 0 ∷ 0 ∷ 0 ∷ 0 ∷ 0 ∷ 0 ∷ 4 ∷ 1 ∷ 0 ∷ 1 ∷ 0 ∷ 2
     ∷ 0 ∷ 3 ∷ 0 ∷ 2 ∷ 0 ∷ 1 ∷ 0 ∷ 1 ∷ 0 ∷ 0

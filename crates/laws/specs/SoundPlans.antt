@@ -1,4 +1,4 @@
--- SOUND PLANS, WHOLE: demand 3 over every planner, of the calls as the entries' promises give them. Statement and proof.
+-- SOUND PLANS, WHOLE: one claim over every planner, of the calls as the entries' promises give them. Statement and proof.
 -- Whatever greedy, bisection, improvement or slicing is handed: the list of children that it hands back passes the tree check. And whatever tree of a
 -- network of two leaves or more the tree check passes, and whatever named non-outputs are sliced: the run of pricing's whole listing gives the direct
 -- sum in every output cell; tables are of any commutative semiring, whole numbers among them. What slicing flags are such indices, so its own tree and

@@ -1,4 +1,4 @@
--- THE TABLE: document 01's cases marked † that the definitions decide, in its order, and one theorem on all of them. A row has what the
+-- THE TABLE: the scope document's cases marked † that the definitions decide, in its order, and one theorem on all of them. A row has what the
 -- document says and what the definitions give, as numbers: 1 for valid or accepted, a refusal's number, an order, a total; and the program's
 -- sample, from the file's bytes to those of its output. Assumes nothing.
 use Rattle.std.specs.Prelude.{false, cond, List, [], ◌∷◌, map, ◌≡◌, refl, ℕ, ◌+◌, ◌-◌, ◌*◌, ◌^◌, leb, replicate}

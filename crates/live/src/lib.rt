@@ -27,7 +27,7 @@ pub fn share(ws: &[u64], w: usize, x: usize, y: usize) -> bool
     false
 }
 
-#[derive(Drop)]
+#[derive(Clone, Copy)]
 struct Holders {
     two: u64,
     three: u64,

@@ -50,7 +50,7 @@ fn shuffle(order: &mut [u16], words: &[u64], at: usize) -> usize
 }
 
 // The best mate so far, if one was found, with its rating; the cursor.
-#[derive(Drop)]
+#[derive(Clone, Copy)]
 pub struct Best {
     pub rating: f64,
     pub mate: usize,

@@ -86,7 +86,7 @@ pub fn put_children(kids: &mut [u64], i: usize, l: u16, r: u16)
 }
 
 // The numbers of two tables that make one.
-#[derive(Drop)]
+#[derive(Clone, Copy)]
 struct Children {
     left: u16,
     right: u16,

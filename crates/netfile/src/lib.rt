@@ -35,14 +35,14 @@ pub struct Found {
     pub ask: Ask,
 }
 
-#[derive(Drop)]
+#[derive(Clone, Copy)]
 pub enum Answer {
     Refused(u8),
     Done(Found),
 }
 
 // After a refusal the network is the empty one.
-#[derive(Drop)]
+#[derive(Clone, Copy)]
 pub struct Reading {
     pub answer: Answer,
     pub network: Network,
@@ -197,7 +197,7 @@ pub fn read(file: &[u8], tree: &mut [u16], flags: &mut [u8]) -> Reading
 }
 
 // What the writer answers: the number of the refusal, or the cursor past the file.
-#[derive(Drop)]
+#[derive(Clone, Copy)]
 pub enum Written {
     Refused(u8),
     Done(usize),

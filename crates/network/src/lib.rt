@@ -27,14 +27,14 @@ pub struct Network {
 }
 
 // What a check answers: the number of the refusal, or that there is none.
-#[derive(Drop)]
+#[derive(Clone, Copy)]
 pub enum Verdict {
     Refused(u8),
     Accepted,
 }
 
 // What an addition answers: the verdict on the network with it, and the record, which a refusal leaves as it is.
-#[derive(Drop)]
+#[derive(Clone, Copy)]
 pub struct Added {
     pub verdict: Verdict,
     pub network: Network,

@@ -18,7 +18,7 @@ use network::{checks, refusal, scan};
 use payloads::tags;
 
 // What the writer answers: the number of the refusal, or 0 and the cursor past the file.
-#[derive(Drop)]
+#[derive(Clone, Copy)]
 pub struct Wrote {
     pub number: u8,
     pub next: usize,

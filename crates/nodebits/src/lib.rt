@@ -97,7 +97,7 @@ fn weigh_word(x: u64, base: usize, effective: &[u8]) -> usize
 }
 
 // The weights of the indices that both children list, and of those that the node drops.
-#[derive(Drop)]
+#[derive(Clone, Copy)]
 struct Between {
     shared: usize,
     dropped: usize,
@@ -124,7 +124,7 @@ fn overlap(sets: &[u64], w: usize, l: usize, r: usize, v: usize, effective: &[u8
 }
 
 // The work bits and size bits of a step.
-#[derive(Drop)]
+#[derive(Clone, Copy)]
 pub struct StepBits {
     pub work: u16,
     pub size: u16,

@@ -27,7 +27,7 @@ fn put_node(kids: &mut [u16], n: usize, v: u16, left: u16, right: u16)
 }
 
 // The top of what was built, and how many freed numbers are left.
-#[derive(Drop)]
+#[derive(Clone, Copy)]
 pub struct Built {
     pub top: u16,
     pub left: usize,

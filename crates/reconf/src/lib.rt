@@ -66,7 +66,7 @@ fn accepts(cost: u64, old: u64) -> bool
 }
 
 // What a visit did: how many rebuilds, how many splits tried.
-#[derive(Drop)]
+#[derive(Clone, Copy)]
 pub struct Visited {
     pub rebuilt: u64,
     pub tried: u64,
@@ -87,7 +87,7 @@ pub fn reconf_node(
     v: u16,
 ) -> Visited
     requires visitable { (N : Network) × Visitable N n weights.now flags.now kids.old sets.now works.now }
-    requires le_k { (3 ≤ k) × (k ≤ 12) × (v < n + (n - 1)) × (4096 + 8 * 2 ^ k ≤ length words.old) }
+    requires bounds { (3 ≤ k) × (k ≤ 12) × (v < n + (n - 1)) × (4096 + 8 * 2 ^ k ≤ length words.old) }
     ensures { (N : Network) → Visitable N n weights.now flags.now kids.old sets.now works.now → Reconfs N (flag_at flags.now) k (limit_of limit) v kids.old kids.new result.rebuilt result.tried }
 {
     let mut members = [0u16; 12];
@@ -144,7 +144,7 @@ pub fn visit<'a>(
     limit: u64,
     v: u16,
 ) -> Visited
-    requires lent { Lent weights.now counts.now legs.now outputs.now × Facts m n o weights.now counts.now legs.now outputs.now × (dangling (network_of m n o weights.now counts.now legs.now outputs.now) ≡ false) × Room k (length words.old) (length sets.old) (length sizes.old) (length works.old) × (3 ≤ k) × (k ≤ 12) × (v < n + (n - 1)) }
+    requires ready { Lent weights.now counts.now legs.now outputs.now × Facts m n o weights.now counts.now legs.now outputs.now × (dangling (network_of m n o weights.now counts.now legs.now outputs.now) ≡ false) × Room k (length words.old) (length sets.old) (length sizes.old) (length works.old) × (3 ≤ k) × (k ≤ 12) × (v < n + (n - 1)) }
     requires standing { Standing (network_of m n o weights.now counts.now legs.now outputs.now) (flag_at flags.now) kids.old sets.old sizes.old works.old }
     ensures { Visits (network_of m n o weights.now counts.now legs.now outputs.now) (flag_at flags.now) k (limit_of limit) v kids.old kids.new sets.new sizes.new works.new result.rebuilt result.tried }
 {

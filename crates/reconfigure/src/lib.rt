@@ -19,14 +19,14 @@ use pricing::Total;
 use reconf::Visited;
 
 // The limit on the size bits of the tables that a search makes.
-#[derive(Drop)]
+#[derive(Clone, Copy)]
 pub enum Limit {
     Unlimited,
     Bits(u16),
 }
 
 // The answer of improvement.
-#[derive(Drop)]
+#[derive(Clone, Copy)]
 pub enum Improved {
     Refused(u8),
     Done(Visited),

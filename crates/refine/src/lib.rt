@@ -51,7 +51,7 @@ fn start_pass(
 }
 
 // Did a pass bring no more than 1e-9; the cursor.
-#[derive(Drop)]
+#[derive(Clone, Copy)]
 pub struct Refined {
     pub done: bool,
     pub at: usize,

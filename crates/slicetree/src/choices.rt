@@ -14,7 +14,7 @@ use reconf::Visited;
 use reconfigure::Limit;
 
 // A turn of slicing: was an index flagged, and what the pass after it did.
-#[derive(Drop)]
+#[derive(Clone, Copy)]
 pub struct Turned {
     pub flagged: bool,
     pub rebuilt: u64,

@@ -16,7 +16,7 @@ use network::{Network, checks, refusal};
 use reconf::Visited;
 
 // The answer of slicing: how many subtrees were rebuilt, and how many splits were tried.
-#[derive(Drop)]
+#[derive(Clone, Copy)]
 pub enum Sliced {
     Refused(u8),
     Done { rebuilt: u64, tried: u64 },

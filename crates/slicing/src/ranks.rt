@@ -10,7 +10,7 @@ ghost use Rattle.slicing.specs.Promise.{Rankable, Chosen};
 use crate::tallies;
 
 // The best candidate so far, with its cost and the summed size of the tables above the target that list it.
-#[derive(Drop)]
+#[derive(Clone, Copy)]
 pub enum Best {
     Nothing,
     Index { index: usize, cost: u64, size: u64 },

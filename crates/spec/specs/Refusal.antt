@@ -3,7 +3,7 @@ use Rattle.std.specs.Prelude.{Bool, true, false, cond, List, [], ◌∷◌, ℕ}
 use Rattle.std.proofs.Math.Option.{Option, none, some}
 use Prim.Native.String.{String}
 
--- "Refusals by number". Document 01's own words for them are `word`'s.
+-- "Refusals by number". The scope document's own words for them are `word`'s.
 pub data Refusal : Type 0 where
   -- a field, or the file before 03, ends early
   truncated : Refusal

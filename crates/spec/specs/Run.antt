@@ -25,7 +25,7 @@ module _ (R : Semiring) where
   abbrev pub read : Table → Assign → R.Car
   read A σ = A.at (map σ A.inds)
 
-  -- what the store, document 01's shelf, has under a number: no table made yet, one "made and unused", or one that is used
+  -- what the store, the scope document's shelf, has under a number: no table made yet, one "made and unused", or one that is used
   pub data Place : Type 0 where
     unmade : Place
     present : Table → Place

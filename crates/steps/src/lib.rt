@@ -153,7 +153,7 @@ pub fn step_records(
 }
 
 // What `step_records` answers, and the records after it.
-#[derive(Drop)]
+#[derive(Clone, Copy)]
 pub struct PricedSteps {
     pub priced: Priced,
     pub steps: [Step; 127],

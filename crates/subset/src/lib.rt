@@ -11,7 +11,7 @@ ghost use Rattle.subset.specs.Walk.{infinite, step_cost, considered, cheapest_of
 const INFINITE: u64 = 9007199254740992;
 
 // A cost, and the part of the split that has it.
-#[derive(Drop)]
+#[derive(Clone, Copy)]
 pub struct Choice {
     pub cost: u64,
     pub part: usize,
@@ -36,7 +36,7 @@ fn step_cost<'a>(
     room: u64,
 ) -> u64
     requires tables { Tables words.now weights.now n }
-    requires le_l { (1 ≤ l) × (l < n) × (1 ≤ r) × (r < n) × (room ≤ infinite) }
+    requires bounds { (1 ≤ l) × (l < n) × (1 ≤ r) × (r < n) × (room ≤ infinite) }
     ensures { result ≡ step_cost (work_at words.now weights.now n l r) room }
 {
     if !below(words[6 * n + l], room) {
@@ -61,7 +61,7 @@ fn consider<'a>(
     was: Choice,
 ) -> Choice
     requires tables { Tables words.now weights.now n }
-    requires le_low { (1 ≤ low) × (low + rest < n) × (sub < rest) × (was.cost ≤ infinite) }
+    requires bounds { (1 ≤ low) × (low + rest < n) × (sub < rest) × (was.cost ≤ infinite) }
     ensures { result ≡ considered (best_at words.now) (work_at words.now weights.now n) low rest sub was }
 {
     let l = sub + low;
@@ -94,7 +94,7 @@ fn cheapest_split<'a>(
     rest: usize,
 ) -> Choice
     requires tables { Tables words.now weights.now n }
-    requires le_low { (1 ≤ low) × (low + rest < n) }
+    requires bounds { (1 ≤ low) × (low + rest < n) }
     ensures { result ≡ cheapest_of (best_at words.now) (work_at words.now weights.now n) n low rest }
 {
     let mut found = Choice {
@@ -113,7 +113,7 @@ fn cheapest_split<'a>(
 }
 
 // What is found for a mask: the least cost, the part of the first split that has it, and how many splits are tried.
-#[derive(Drop)]
+#[derive(Clone, Copy)]
 pub struct Entry {
     pub cost: u64,
     pub part: usize,
@@ -123,7 +123,7 @@ pub struct Entry {
 // The mask `s`, from what is found for the masks below it. A mask that is not the full one is passed over if its table is above the limit.
 fn search_mask<'a>(words: &'a [u64], weights: &'a [u8], limit: u64, n: usize, s: usize) -> Entry
     requires tables { Tables words.now weights.now n }
-    requires le_s { (1 ≤ s) × (s < n) }
+    requires bounds { (1 ≤ s) × (s < n) }
     ensures { result ≡ entry_of (best_at words.now) (work_at words.now weights.now n) n limit s }
 {
     let rest = s & (s - 1);
@@ -154,7 +154,7 @@ fn search_mask<'a>(words: &'a [u64], weights: &'a [u8], limit: u64, n: usize, s:
 // Fills the tables of costs and parts, from the lowest mask up, and returns how many splits are tried.
 fn fill(words: &mut [u64], weights: &[u8], limit: u64, n: usize) -> u64
     requires tables { Tables words.old weights.now n }
-    requires le_n { 1 ≤ n }
+    requires bounds { 1 ≤ n }
     ensures { Filled (best_at words.new) (split_at words.new n) (work_at words.old weights.now n) n limit n result }
 {
     let mut tried: u64 = 0;
@@ -168,7 +168,7 @@ fn fill(words: &mut [u64], weights: &[u8], limit: u64, n: usize) -> u64
 }
 
 // The least cost of a tree over all members, 2^53 for none below that, and how many splits were tried.
-#[derive(Drop)]
+#[derive(Clone, Copy)]
 pub struct Searched {
     pub cost: u64,
     pub tried: u64,

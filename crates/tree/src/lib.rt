@@ -8,21 +8,21 @@ ghost use Rattle.tree.specs.Answers.{validity_of, ordered_of, same_of, valid_in,
 use network::{Network, checks, refusal};
 
 // The answer of the tree check.
-#[derive(Drop)]
+#[derive(Clone, Copy)]
 pub enum Validity {
     Refused(u8),
     Valid,
 }
 
 // The answer of the step order: how many steps are written.
-#[derive(Drop)]
+#[derive(Clone, Copy)]
 pub enum Ordered {
     Refused(u8),
     Done(usize),
 }
 
 // The answer of the comparison of two trees: whether they are the same plan.
-#[derive(Drop)]
+#[derive(Clone, Copy)]
 pub enum Same {
     Refused(u8),
     Done(bool),

@@ -37,7 +37,7 @@ fn push(n: usize, p: usize, x: usize) -> usize
 }
 
 // The top of the stack, which is the node to be visited, and the stack's places, the top's included.
-#[derive(Drop)]
+#[derive(Clone, Copy)]
 struct Top {
     node: usize,
     places: usize,

@@ -1,4 +1,3 @@
--- by hand
 use native.Mathlib.Omega.{arith}
 use Rattle.bisect.specs.Through.{at_least, tried_stage, tried_more, tried_none, fewer_there, back_stage, through_level_lem, back_bits, up_to, fewer_than, third_of}
 use borrow.Author.Tests.{not-true, not-false}

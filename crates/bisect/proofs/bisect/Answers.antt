@@ -1,4 +1,3 @@
--- by hand
 use native.Mathlib.Omega.{arith}
 use Rattle.bisect.specs.Through.{halved}
 use Rattle.bisect.proofs.bisect.Goals as goal

@@ -1,4 +1,3 @@
--- by hand
 use lib.ListN.{length}
 use native.Mathlib.Omega.{arith}
 use Rattle.bisect.specs.Recursion.{rest_part, rec_small, cut_same, rec_unsplit, left_asks, rec_left, rec_joined}

@@ -1,4 +1,3 @@
--- by hand
 use Rattle.coarsen.specs.Mapped.{images, image_at}
 use Rattle.slots.specs.Writes.{all_none, all_next}
 use lib.ListN.{take, get_or}

@@ -1,4 +1,3 @@
--- by hand
 use Rattle.fmpass.specs.Makes.{count_low, stamps_low, made_site, made_split, made_over, made_on}
 use Rattle.fmpass.specs.State.{lists, run}
 use Rattle.moves.specs.Split.{site_placed}

@@ -1,4 +1,3 @@
--- by hand
 use Rattle.fmpass.specs.Turns.{runs_next, runs_over, runs_end}
 use Rattle.fmpass.specs.State.{lists, run}
 use native.Mathlib.Omega.{arith}

@@ -1,4 +1,3 @@
--- by hand
 use native.Mathlib.Omega.{arith}
 use lib.ListN.{length}
 use Rattle.draws.specs.Cursor.{words_at}

@@ -1,4 +1,3 @@
--- by hand
 use Rattle.levels.specs.Deeper.{deeper, is_more}
 use Rattle.levels.specs.Spans.{span_length}
 use native.Mathlib.Omega.{arith}

@@ -1,4 +1,3 @@
--- by hand
 use mathlib.Core.Path.{refl}
 use Rattle.listing.specs.Listing.{answer_short, answer_refused, answer_done}
 use Rattle.listing.proofs.list_with.Goals as goal

@@ -1,4 +1,3 @@
--- by hand
 use native.Mathlib.Omega.{arith}
 use mathlib.Core.Path.{refl, sym, ◌∙◌}
 use lib.ListN.{length, replicate}

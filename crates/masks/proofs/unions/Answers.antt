@@ -1,4 +1,3 @@
--- by hand: ⊎_elim over .branch is `elim` today
 use mathlib.Core.List.{List}
 use Rattle.masks.specs.Unions.{unite_single, unite_joint}
 use Rattle.masks.specs.Tables.{United}

@@ -1,4 +1,3 @@
--- by hand: c.in-V.is in the place of .given.1 of the matched value
 use Rattle.memory.specs.Promise.{cost_short, cost_refused, cost_done}
 use Rattle.spec.specs.Host.{lent_network}
 use Rattle.memory.proofs.price_lists.Goals as goal

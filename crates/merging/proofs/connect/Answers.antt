@@ -1,4 +1,3 @@
--- by hand
 use Rattle.merging.specs.Scans.{kids_behind, words_refused, words_end, words_merge}
 use Rattle.merging.specs.Connect.{reached_start, reached_end}
 use Rattle.parts.specs.Lists.{lists_in, front_in}

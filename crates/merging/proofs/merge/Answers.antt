@@ -1,4 +1,3 @@
--- by hand
 use Rattle.merging.specs.Merge.{first_at, second_at, merged_all}
 use Rattle.scores.specs.Scores.{first_of, second_of}
 use Rattle.parts.specs.Lists.{lists_in, rows_in, sets_back, nodes_back, sizes_back, live_back, rows_back}

@@ -1,4 +1,3 @@
--- by hand
 use Rattle.planning.specs.Sound.{handed_out}
 use Rattle.planning.specs.Reading.{read_refused, read_done, whole_bytes, found_in, zeros}
 use Rattle.planning.specs.Printing.{put_written, written_as}

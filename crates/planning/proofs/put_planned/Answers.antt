@@ -1,4 +1,3 @@
--- by hand
 use Rattle.planning.specs.Writing.{refusal_text, printable, plan_written}
 use Rattle.planning.specs.Stages.{given_tree, answers_at}
 use Rattle.planning.specs.Printing.{index_count_lem, put_written, written_as}

@@ -1,4 +1,3 @@
--- by hand
 use native.Mathlib.Omega.{arith}
 use lib.ListN.{length}
 use mathlib.Core.Bool.{true}

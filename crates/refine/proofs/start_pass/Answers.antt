@@ -1,4 +1,3 @@
--- by hand
 use Rattle.refine.specs.Starts.{first_placed, starts}
 use Rattle.refine.proofs.start_pass.Goals as goal
 

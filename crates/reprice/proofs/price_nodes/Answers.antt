@@ -1,4 +1,3 @@
--- by hand
 use borrow.Author.Rules.{rules}
 use Rattle.reprice.specs.Prices.{nodes_held}
 use Rattle.pricing.specs.Final.{known}

@@ -1,4 +1,3 @@
--- by hand
 use Rattle.spec.specs.Layout.{network_of}
 use Rattle.spec.specs.Memory.{filled}
 use Rattle.spec.specs.Tree.{step_order}

@@ -1,4 +1,3 @@
--- by hand
 use Rattle.slicing.specs.Turns.{Slicing, slicing_next}
 use borrow.Author.Tests.{not-false}
 use Rattle.spec.specs.Layout.{network_of}

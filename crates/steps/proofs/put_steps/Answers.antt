@@ -1,4 +1,3 @@
--- by hand
 use Rattle.std.proofs.Common.{arith}
 use Rattle.steps.specs.Records.{put_by_index}
 use Rattle.steps.proofs.put_steps.Goals as goal

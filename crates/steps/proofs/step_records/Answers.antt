@@ -1,4 +1,3 @@
--- by hand
 use Rattle.network.specs.Record.{net_of}
 use Rattle.steps.specs.Promise.{handed_out}
 use Rattle.steps.proofs.step_records.Goals as goal

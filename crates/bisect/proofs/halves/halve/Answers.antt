@@ -1,4 +1,3 @@
--- by hand
 use lib.ListN.{take, length}
 use Rattle.bisect.specs.Picks.{copied_front, few_left, both_halves}
 use native.Mathlib.Omega.{arith}

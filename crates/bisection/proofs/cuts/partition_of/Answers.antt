@@ -1,4 +1,3 @@
--- by hand
 use Rattle.bisection.specs.Parting.{stage_of, put_back}
 use Rattle.spec.specs.Floats.{zero_float}
 use lib.Ieee.{of_bits}

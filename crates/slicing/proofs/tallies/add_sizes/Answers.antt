@@ -1,4 +1,3 @@
--- by hand
 use Rattle.nodesets.specs.Turns.{slot_in}
 use Rattle.slicing.specs.Nodes.{tables_small, tables_next}
 use native.Mathlib.Omega.{arith}
