@@ -1,4 +1,4 @@
-"""Networks made by additions, and the check of any record, as document 01 says: the cases that follow those of the files in crates/files/stdin.
+"""Networks made by additions, and the check of any record, as the scope document says: the cases that follow those of the files in crates/files/stdin.
 
 The input: a 4-byte count; then, for each case, a 4-byte count of turns; each turn is two 4-byte numbers, a kind and a value V. It starts with the
 empty network. The kinds:

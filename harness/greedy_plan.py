@@ -1,4 +1,4 @@
-"""Greedy's tree, as document 01 says: of all pairs of tables that share an index the one of least 2^merged - 2^left - 2^right is joined first."""
+"""Greedy's tree, as the scope document says: of all pairs of tables that share an index the one of least 2^merged - 2^left - 2^right is joined first."""
 from network_file import refuse_if
 from price_list import listed
 

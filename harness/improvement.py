@@ -1,4 +1,4 @@
-"""Improvement, as document 01 says: each node's frontier is opened, all trees over it are searched, and a cheaper one replaces what was there.
+"""Improvement, as the scope document says: each node's frontier is opened, all trees over it are searched, and a cheaper one replaces what was there.
 
 Costs are whole numbers; the comparison that decides a rebuild is in f64, as Python's floats are."""
 from dataclasses import dataclass

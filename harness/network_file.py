@@ -1,4 +1,4 @@
-"""The network file, read and written as document 01 says. Independent of every other part of this repository.
+"""The network file, read and written as the scope document says. Independent of every other part of this repository.
 
 A file is a row of fields: a tag byte, a two-byte length (high byte first), a payload. Each field is checked in this order: its header is there
 (else 1), its tag is allowed at its place (else 2), its payload is there (else 1), its length and the leaf count, its bytes left to right, and a

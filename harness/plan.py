@@ -1,5 +1,5 @@
 #!/usr/bin/env python3
-"""plan.py: makes the stored inputs of the program `plan`, stored questions on slicing, and what must be printed, by a reading of document 01 in whole numbers.
+"""plan.py: makes the stored inputs of the program `plan`, stored questions on slicing, and what must be printed, by a reading of the scope document in whole numbers.
 
   plan.py           writes samples, crates/plan/stdin and stdout, crates/planruns/stdin and stdout
   plan.py --check   fails if they are not what it makes

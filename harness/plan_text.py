@@ -1,4 +1,4 @@
-"""The program `plan`, as document 01 says: from a network file's bytes to the text that it prints; and the line of a question on slicing."""
+"""The program `plan`, as the scope document says: from a network file's bytes to the text that it prints; and the line of a question on slicing."""
 from greedy_plan import greedy
 from improvement import improve
 from network_file import INVALID_TREE, Refused, is_valid, parse, refuse_if

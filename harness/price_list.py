@@ -1,4 +1,4 @@
-"""The price list of a tree, in whole numbers, as document 01 says: what each node lists, size bits, work bits, total, widest, slice bits.
+"""The price list of a tree, in whole numbers, as the scope document says: what each node lists, size bits, work bits, total, widest, slice bits.
 
 Sets of indices are whole numbers, bit i for index i. A tree is a list of children, left and right of each internal node."""
 from dataclasses import dataclass

@@ -1,4 +1,4 @@
-"""Slicing to a target, as document 01 says: index after index is flagged; with improvement on, a pass of it follows each choice."""
+"""Slicing to a target, as the scope document says: index after index is flagged; with improvement on, a pass of it follows each choice."""
 from dataclasses import dataclass
 
 from improvement import improve

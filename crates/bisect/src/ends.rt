@@ -56,7 +56,7 @@ pub fn unsplit(
     count: usize,
 ) -> Half
     requires { Fits 4 n count weights.now outputs.now leaves.now ws.old × Light weights.now }
-    ensures at_value { result.at ≡ at }
+    ensures cursor_stays { result.at ≡ at }
     ensures unsplit { (N : Net) (a : List Pair) → Asks N a n count weights.now counts.now legs.now outputs.now leaves.now kids.old → Unsplit N a leaves.now draws.now at kids.old kids.new result.top }
 {
     if draws::is_exhausted(draws, at) {

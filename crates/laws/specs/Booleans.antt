@@ -1,4 +1,4 @@
--- Laws of Booleans and of tests of numbers, beside those of `mathlib.Core.Bool` and `borrow.Author.Tests`. Assumes nothing.
+-- Laws of Booleans and of tests of numbers, beside those of the kit's `Rattle.std.proofs.lemmas.Bool` and `borrow.Author.Tests`. Assumes nothing.
 use Rattle.std.specs.Prelude.{◌≡◌, refl, Bool, true, false, not, ◌&&◌, ◌||◌, cond, ℕ, ◌≤◌, ◌+◌, eqb, ltb}
 use Rattle.std.proofs.Common.{sym, ap, ◌∙◌, true≢false, arith, eqb-true, eq-eqb, ne_eqb, lt-ltb, le-ltb, ltb-true, ltb-false}
 use Rattle.std.proofs.Math.Bool.{or_assoc, or_comm}

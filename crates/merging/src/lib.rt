@@ -136,7 +136,7 @@ fn scan(ws: &mut [u64], w: usize, weights: &[u8], n0: usize, m: usize) -> usize
 // The array so far has `count` nodes. Each merge makes one more, whose children are put into the words behind the lists.
 pub fn connect(ws: &mut [u64], w: usize, weights: &[u8], n: usize, n0: usize, count: usize) -> usize
     requires { (w ≤ 16) × Light weights.now × (n0 ≤ 256) × (n < 16384) × (count < 16384) × (2320 ≤ length ws.old) }
-    ensures upper_bound { (result ≡ 65536 → ⊥) → result ≤ n0 }
+    ensures bound_unless_refused { (result ≡ 65536 → ⊥) → result ≤ n0 }
     ensures connected { (G : Given) (S : Ghost) → Start G S (lists_in (front_in ws.old)) w n n0 count weights.now (kids_behind S ws.old) → Connected G S (kids_behind S ws.old) (nodes_in (front_in ws.new)) (sizes_in (front_in ws.new)) (live_in (front_in ws.new)) (kids_behind S ws.new) result }
 {
     let mut t: usize = 0;

@@ -97,7 +97,7 @@ abbrev pub dangling_check : Network → Check
 dangling_check N = check (dangling N) dangling_index
 
 -- ---- the calls: their checks, "by number", and their answers ----
--- words, places, flagPlaces: the lengths of the lent workspace, flat list of children, and list of flags. Improvement, and slicing with it,
+-- words, places, flag_places: the lengths of the lent workspace, flat list of children, and list of flags. Improvement, and slicing with it,
 -- work in the tree that is handed in, so nothing is lent for it.
 
 -- the lengths of the lists that pricing fills: sets, size bits and work bits by node, and the listing

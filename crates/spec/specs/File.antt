@@ -184,7 +184,7 @@ flags_lent N flag_places plain = []
 flags_lent N flag_places (flagged l) = lent flag_places (index_count N) ∷ []
 flags_lent N flag_places (target w) = []
 
--- the reader: places and flagPlaces are the lengths of the lists that are lent for the tree and the flags
+-- the reader: places and flag_places are the lengths of the lists that are lent for the tree and the flags
 unfoldable pub read_of : ℕ → ℕ → List ℕ → Result Contents
 read_of places flag_places file =
     and_then (read_fields (suc (length file)) nothing_read file) λ c.

@@ -14,7 +14,7 @@ pub returns-then-all-most : goal.returns-then-all-most
 returns-then-all-most t c = let a = c.args in λ N b s. rec_small N a.eps a.cutoff b a.leaves.now a.draws.now a.at a.kids.now (omega (arith, c.if-all-most.true, c.small-most.ensures)) _ _ (c.greedy_nodes-top.ensures N b s)
 
 pub returns-then-left-eq0 : goal.returns-then-left-eq0
-returns-then-left-eq0 t c = let a = c.args in λ N b s. let cut = c.cut_leaves-cut.ensures.cut_by N (names_of s) in subst (Halves N a.eps a.cutoff b a.leaves.now a.draws.now a.at a.kids.now _ c.unsplit.result.top) (sym c.unsplit.ensures.at_value) (rec_unsplit N a.eps a.cutoff b a.leaves.now a.draws.now a.at a.kids.now (omega (arith, c.if-all-most.false, c.small-most.ensures)) _ _ _ cut c.if-left-eq0.true _ _ (c.unsplit.ensures.unsplit N b (subst (λ l. Asks N b a.n a.count a.weights.now a.counts.now a.legs.now a.outputs.now l a.kids.now) (sym (cut_same N a.eps a.cutoff b a.leaves.now a.draws.now a.at a.kids.now _ _ _ cut c.if-left-eq0.true)) s)))
+returns-then-left-eq0 t c = let a = c.args in λ N b s. let cut = c.cut_leaves-cut.ensures.cut_by N (names_of s) in subst (Halves N a.eps a.cutoff b a.leaves.now a.draws.now a.at a.kids.now _ c.unsplit.result.top) (sym c.unsplit.ensures.cursor_stays) (rec_unsplit N a.eps a.cutoff b a.leaves.now a.draws.now a.at a.kids.now (omega (arith, c.if-all-most.false, c.small-most.ensures)) _ _ _ cut c.if-left-eq0.true _ _ (c.unsplit.ensures.unsplit N b (subst (λ l. Asks N b a.n a.count a.weights.now a.counts.now a.legs.now a.outputs.now l a.kids.now) (sym (cut_same N a.eps a.cutoff b a.leaves.now a.draws.now a.at a.kids.now _ _ _ cut c.if-left-eq0.true)) s)))
 
 pub bisect_rec-first-requires : goal.bisect_rec-first-requires
 bisect_rec-first-requires t c = let l = c.cut_leaves-cut.new.leaves in let z = length-take-le c.cut_leaves-cut.result.left l (omega (arith, c.cut_leaves-cut.ensures.left_in_bounds)) in (omega (arith, z, c.cut_leaves-cut.ensures.left_in_bounds, c.decreases), (fits_again c.requires.0 (omega (arith, z, c.cut_leaves-cut.ensures.left_in_bounds)) (omega arith) c.requires.0.array, c.requires.1, omega (arith, z, c.cut_leaves-cut.ensures.left_in_bounds, c.requires.2), left_named _ _ _ _ c.requires.3 _ _ _ l _ _ (c.cut_leaves-cut.ensures.cut_by _ c.requires.3.names), omega (arith, c.requires.4)))
