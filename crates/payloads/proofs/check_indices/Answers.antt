@@ -1,7 +1,6 @@
 use Rattle.payloads.specs.Payload.{clean_again, clean_next, before_found}
 use Rattle.spec.specs.Refusal.{code_of}
 use borrow.Author.Tests.{lt-leb}
-use mathlib.Core.Bool.{false}
 use native.Mathlib.Omega.{arith}
 use mathlib.Core.Path.{◌≡◌, sym, ap}
 use lib.ListN.{get_or}
