@@ -1,16 +1,17 @@
 -- Bisection of some leaves by cases of the definition; what code answers. Assumes nothing.
-use Rattle.std.specs.Prelude.{Bool, true, false, ◌||◌, ◌≡◌, List, [], ◌∷◌, eqb, Float}
+use Rattle.std.specs.Prelude.{Bool, true, false, ◌||◌, ◌≡◌, List, [], ◌∷◌, eqb, Float, Result, Err, Ok}
 use Rattle.std.proofs.Math.Bool.{cond}
 use Rattle.std.proofs.Math.Path.{refl, ap}
 use Rattle.std.proofs.Common.{◌∙◌, le-leb, ne_eqb}
 use Prim.Native.Nat.{ℕ, zero, suc, ◌+◌, ◌-◌, ◌≤◌, ◌<◌, max}
 use native.Mathlib.Omega.{arith}
 use Rattle.std.proofs.Math.ListN.{length}
+use Rattle.spec.specs.declared.Refusal.{Refusal}
+use Rattle.spec.specs.declared.Refusal.TheVariants.{TableTooWide, DrawsExhausted}
 use Rattle.std.proofs.lemmas.Bool.{lt-leb}
 use Rattle.spec.specs.Memory.{over}
 use Rattle.spec.specs.Network.{Network}
 use Rattle.spec.specs.Tree.{Tree, number, Pair, flat_of}
-use Rattle.spec.specs.Refusal.{Refusal, table_too_wide, draws_exhausted, Result, refused, done}
 use Rattle.spec.specs.Greedy.{Built}
 use Rattle.spec.specs.Hypergraph.{hypergraph_of}
 use Rattle.spec.specs.Draws.{Words, drawn}
@@ -21,12 +22,12 @@ use Rattle.merging.specs.Merge.{with_node}
 use Rattle.greedynodes.specs.Ends.{Greedied}
 
 -- bisection of some leaves, with fuel enough
-unfoldable pub halved : Network → Float → ℕ → List ℕ → List Pair → Words → Result Halved
+unfoldable pub halved : Network → Float → ℕ → List ℕ → List Pair → Words → Result Halved Refusal
 halved N eps cutoff leaves a ws = bisect_rec N eps cutoff (length leaves) leaves a ws
 
 -- the refusal that a top from 65,536 on stands for
 abbrev pub refusal_at : ℕ → Refusal
-refusal_at top = cond (eqb top 65536) table_too_wide draws_exhausted
+refusal_at top = cond (eqb top 65536) TableTooWide DrawsExhausted
 
 -- ---- the definition, case by case ----
 
@@ -43,7 +44,7 @@ module _ (N : Network) (eps : Float) (cutoff : ℕ) where
   module _ (leaves : List ℕ) (a : List Pair) (ws : Words) (h : max cutoff 2 < length leaves) (part : List ℕ) (next : Words)
       (ep : bisect (hypergraph_of N leaves) eps ws ≡ drawn part next)
     where
-      abbrev parts : ℕ → Result Halved
+      abbrev parts : ℕ → Result Halved Refusal
       parts k = split N eps cutoff (λ l b w. bisect_rec N eps cutoff k l b w) leaves a (drawn part next)
 
       pub halved_parts : halved N eps cutoff leaves a ws ≡ parts (length leaves - 1)
@@ -56,7 +57,7 @@ module _ (N : Network) (eps : Float) (cutoff : ℕ) where
               (lt-leb (length leaves) (max cutoff 2) h)
               ∙ ap (split N eps cutoff (λ l c w. bisect_rec N eps cutoff k l c w) leaves a) ep
 
-      pub halved_exhausted : next.exhausted ≡ true → halved N eps cutoff leaves a ws ≡ refused draws_exhausted
+      pub halved_exhausted : next.exhausted ≡ true → halved N eps cutoff leaves a ws ≡ Err DrawsExhausted
       halved_exhausted s = halved_parts ∙ rw s
 
       pub halved_whole : next.exhausted ≡ false → (eqb (length (left_half part leaves)) 0 || eqb (length (right_half part leaves)) 0) ≡ true
@@ -75,26 +76,26 @@ module _ (N : Network) (eps : Float) (cutoff : ℕ) where
         unfolding halved
         left_fuel = fuel_enough N eps cutoff f (left_half part leaves) a next (omega arith)
 
-        pub left_refused : (r : Refusal) → halved N eps cutoff (left_half part leaves) a next ≡ refused r → halved N eps cutoff leaves a ws ≡ refused r
+        pub left_refused : (r : Refusal) → halved N eps cutoff (left_half part leaves) a next ≡ Err r → halved N eps cutoff leaves a ws ≡ Err r
         left_refused r q = both ∙ rw (left_fuel ∙ q)
 
-        module _ (x : Halved) (qx : halved N eps cutoff (left_half part leaves) a next ≡ done x) where
+        module _ (x : Halved) (qx : halved N eps cutoff (left_half part leaves) a next ≡ Ok x) where
           right_fuel : bisect_rec N eps cutoff f (right_half part leaves) x.built.pairs x.words ≡ halved N eps cutoff (right_half part leaves) x.built.pairs x.words
           unfolding halved
           right_fuel = fuel_enough N eps cutoff f (right_half part leaves) x.built.pairs x.words (omega (arith, halves_length part leaves))
 
-          pub right_refused : (r : Refusal) → halved N eps cutoff (right_half part leaves) x.built.pairs x.words ≡ refused r → halved N eps cutoff leaves a ws ≡ refused r
+          pub right_refused : (r : Refusal) → halved N eps cutoff (right_half part leaves) x.built.pairs x.words ≡ Err r → halved N eps cutoff leaves a ws ≡ Err r
           right_refused r q = both ∙ rw (left_fuel ∙ qx) (rw (right_fuel ∙ q))
 
-          pub both_done : (y : Halved) → halved N eps cutoff (right_half part leaves) x.built.pairs x.words ≡ done y → halved N eps cutoff leaves a ws ≡ done (join_halves N eps cutoff x y)
+          pub both_done : (y : Halved) → halved N eps cutoff (right_half part leaves) x.built.pairs x.words ≡ Ok y → halved N eps cutoff leaves a ws ≡ Ok (join_halves N eps cutoff x y)
           both_done y q = both ∙ rw (left_fuel ∙ qx) (rw (right_fuel ∙ q))
 
 -- ---- what code answers ----
 
 -- a refusal, or the number of the tree that is built, whose array stands at the front of `kids`; and the cursor
 pub data Halves (N : Network) (eps : Float) (cutoff : ℕ) (a : List Pair) (leaves words : List ℕ) (at : ℕ) (kids₀ kids : List ℕ) (top next : ℕ) : Type 0 where
-  is_off : 65536 ≤ top → halved N eps cutoff leaves a (words_at words at) ≡ refused (refusal_at top) → Halves N eps cutoff a leaves words at kids₀ kids top next
-  is_tree : top < 65536 → (b : Built) → halved N eps cutoff leaves a (words_at words at) ≡ done (record { built = b; words = words_at words next })
+  is_off : 65536 ≤ top → halved N eps cutoff leaves a (words_at words at) ≡ Err (refusal_at top) → Halves N eps cutoff a leaves words at kids₀ kids top next
+  is_tree : top < 65536 → (b : Built) → halved N eps cutoff leaves a (words_at words at) ≡ Ok (record { built = b; words = words_at words next })
       → kids ≡ over kids₀ (flat_of b.pairs) → length b.pairs ≡ length a + (length leaves - 1)
       → (0 < length leaves → (t : Tree) × (b.tops ≡ t ∷ []) × (top ≡ number t)) → Halves N eps cutoff a leaves words at kids₀ kids top next
 

@@ -1,11 +1,10 @@
 -- What `bisect_rec` answers, from what its calls answer. Assumes nothing.
-use Rattle.std.specs.Prelude.{false, ◌≡◌, refl, List, [], ◌∷◌, ◌++◌, ℕ, ◌+◌, ◌-◌, ◌≤◌, ◌<◌, max, Float, length, take, drop}
+use Rattle.std.specs.Prelude.{false, ◌≡◌, refl, List, [], ◌∷◌, ◌++◌, ℕ, ◌+◌, ◌-◌, ◌≤◌, ◌<◌, max, Float, length, take, drop, Err, Ok}
 use Rattle.std.proofs.Common.{sym, ◌∙◌, ap, ap₂, subst, arith, length-append, length-drop, take_all, take_at, drop_at, length-take-le}
 use Rattle.spec.specs.Lists.{memb, count}
 use Rattle.spec.specs.Memory.{over}
 use Rattle.spec.specs.Network.{Network}
 use Rattle.spec.specs.Tree.{Tree, number, Pair, flat_of}
-use Rattle.spec.specs.Refusal.{refused, done}
 use Rattle.spec.specs.Greedy.{Built, plus, joined, join_all}
 use Rattle.spec.specs.Hypergraph.{hypergraph_of}
 use Rattle.spec.specs.Draws.{drawn}
@@ -50,7 +49,7 @@ module _ (N : Network) (eps : Float) (cutoff : ℕ) (a : List Pair) (leaves word
   by_greedy : (next : ℕ) → halved N eps cutoff leaves a (words_at words at) ≡ small_end N eps cutoff leaves a (words_at words next)
       → (kids : List ℕ) (top : ℕ) → Greedied N a leaves kids₀ kids top → Halves N eps cutoff a leaves words at kids₀ kids top next
   by_greedy next e kids top (is_refused z q) =
-      is_off (omega (arith, z)) (e ∙ ap (with_words (words_at words next)) q ∙ ap (λ (k : ℕ). refused (refusal_at k)) (sym z))
+      is_off (omega (arith, z)) (e ∙ ap (with_words (words_at words next)) q ∙ ap (λ (k : ℕ). Err (refusal_at k)) (sym z))
   by_greedy next e kids top (is_built h b q w k t) = is_tree h b (e ∙ ap (with_words (words_at words next)) q) w k t
 
   -- a small end
@@ -72,7 +71,7 @@ module _ (N : Network) (eps : Float) (cutoff : ℕ) (a : List Pair) (leaves word
       go : CutBy N leaves eps words at leaves' left next → Unsplit N a leaves words next kids₀ kids top → Halves N eps cutoff a leaves words at kids₀ kids top next
       go (is_exhausted l part ep s same) (is_dry e t) =
           is_off (omega (arith, e))
-          (halved_exhausted N eps cutoff leaves a (words_at words at) h part (words_at words next) ep s ∙ ap (λ (k : ℕ). refused (refusal_at k)) (sym e))
+          (halved_exhausted N eps cutoff leaves a (words_at words at) h part (words_at words next) ep s ∙ ap (λ (k : ℕ). Err (refusal_at k)) (sym e))
       go (is_exhausted l part ep s same) (is_greedy t g) = clash s t
       go (is_whole l part ep s q same) (is_dry e t) = clash t s
       go (is_whole l part ep s q same) (is_greedy t g) =
@@ -178,7 +177,7 @@ module _ (N : Network) (eps : Float) (cutoff : ℕ) (a : List Pair) (n made : �
               both (is_off v y) (is_right s e) =
                   is_off (omega (arith, e))
                   (right_refused N eps cutoff leaves a (words_at words at) h P.part (words_at words next) P.is P.going P.some P.few hx q (refusal_at top₂) y
-                  ∙ ap (λ (i : ℕ). refused (refusal_at i)) (sym e))
+                  ∙ ap (λ (i : ℕ). Err (refusal_at i)) (sym e))
               both (is_off v y) (is_node s e₃ e₄ e₅) = absurd (omega arith)
               both (is_tree v d y wy ky zy) (is_right s e) = absurd (omega arith)
               both (is_tree v d y wy ky zy) (is_node s e₃ e₄ e₅) =
@@ -193,7 +192,7 @@ module _ (N : Network) (eps : Float) (cutoff : ℕ) (a : List Pair) (n made : �
                   is_tree (omega (arith, e₃)) (record { pairs = plus d.pairs tx ty; tops = joined N d.pairs tx ty ∷ [] })
                   (both_done N eps cutoff leaves a (words_at words at) h P.part (words_at words next) P.is P.going P.some P.few hx q
                   (record { built = d; words = words_at words at₂ }) y
-                  ∙ ap₂ (λ (o : Built) (i : ℕ). done (record { built = o; words = words_at words i })) built (sym e₄))
+                  ∙ ap₂ (λ (o : Built) (i : ℕ). Ok (record { built = o; words = words_at words i })) built (sym e₄))
                   (put_node kids₀ kids₂ kids₃ d.pairs tx ty c₂ top₁ top₂ wd ec nx ny e₅)
                   (one_more (length (plus d.pairs tx ty)) (length d.pairs) (length a) (length leaves)
                   (length-append d.pairs (record { left = number tx; right = number ty } ∷ [])) (sym ec ∙ e₂ ∙ ap (λ (i : ℕ). i + (length leaves - 2)) asks.array) two)

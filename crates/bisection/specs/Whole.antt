@@ -1,5 +1,5 @@
 -- Bisection of all leaves of a network, from bisection of a list of leaves. Assumes nothing.
-use Rattle.std.specs.Prelude.{Bool, ◌≡◌, refl, ℕ, ◌+◌, ◌-◌, ◌≤◌, ◌<◌, min, Float, length, take, drop}
+use Rattle.std.specs.Prelude.{Bool, ◌≡◌, refl, ℕ, ◌+◌, ◌-◌, ◌≤◌, ◌<◌, min, Float, length, take, drop, Result, Err, Ok}
 use Rattle.std.proofs.Math.Path.{sym, ap, subst}
 use Rattle.std.proofs.Common.{◌∙◌, ap₂, arith, length-drop, length-take-le, le-ltb}
 use mathlib.Core.List.{List, []}
@@ -9,7 +9,8 @@ use Rattle.spec.specs.Memory.{over, copied}
 use Rattle.spec.specs.Layout.{network_of}
 use Rattle.spec.specs.Network.{Network, leaf_count}
 use Rattle.spec.specs.Tree.{Pair, flat_of}
-use Rattle.spec.specs.Refusal.{Result, refused, done, and_then}
+use Rattle.spec.specs.Refusal.{and_then}
+use Rattle.spec.specs.declared.Refusal.{Refusal}
 use Rattle.spec.specs.Draws.{lent_words}
 use Rattle.spec.specs.Bisection.{Halved, imbalance, bisect_rec, bisected_from, bisection}
 use Rattle.spec.specs.Calls.{bisection_words}
@@ -32,8 +33,8 @@ use Rattle.bisect.specs.Cases.{halved, refusal_at, Halves, is_off, is_tree}
 
 -- what bisection of all leaves answers: from 65536 on it is refused; else the children of the array stand at the front of `kids`
 pub data Whole (N : Network) (i cutoff : ℕ) (words kids₀ kids : List ℕ) (top next : ℕ) : Type 0 where
-  is_refused : 65536 ≤ top → bisection N i cutoff words ≡ refused (refusal_at top) → Whole N i cutoff words kids₀ kids top next
-  is_plan : top < 65536 → (a : List Pair) → bisection N i cutoff words ≡ done (record { pairs = a; taken = min next (length words) })
+  is_refused : 65536 ≤ top → bisection N i cutoff words ≡ Err (refusal_at top) → Whole N i cutoff words kids₀ kids top next
+  is_plan : top < 65536 → (a : List Pair) → bisection N i cutoff words ≡ Ok (record { pairs = a; taken = min next (length words) })
       → kids ≡ over kids₀ (flat_of a) → length a ≡ leaf_count N - 1 → Whole N i cutoff words kids₀ kids top next
 
 -- the children are copied out
@@ -97,10 +98,10 @@ module _ (m n o : ℕ) (weights counts cells outputs : List ℕ) (lent : Lent we
 
     -- the definition starts with all leaves, as many as there is fuel, and with the words from the cursor 0 on
     from_all : (i cutoff : ℕ) (words : List ℕ)
-        → bisection N i cutoff words ≡ and_then (halved N (imbalance i) cutoff leaves [] (words_at words 0)) (λ h. done (bisected_from words h))
+        → bisection N i cutoff words ≡ and_then (halved N (imbalance i) cutoff leaves [] (words_at words 0)) (λ h. Ok (bisected_from words h))
     unfolding bisection halved
     from_all i cutoff words =
-        ap (λ (x : Result Halved). and_then x (λ h. done (bisected_from words h)))
+        ap (λ (x : Result Halved Refusal). and_then x (λ h. Ok (bisected_from words h)))
         (ap₂ (λ (k : ℕ) (l : List ℕ). bisect_rec N (imbalance i) cutoff k l [] (lent_words words)) (count_is ∙ sym leaves_many) (ap range count_is ∙ sym all_leaves)
         ∙ ap (λ (b : Bool). bisect_rec N (imbalance i) cutoff (length leaves) leaves [] (record { left = words; exhausted = b })) (sym (le-ltb (length words) 0 (omega arith))))
       where
@@ -115,10 +116,10 @@ module _ (m n o : ℕ) (weights counts cells outputs : List ℕ) (lent : Lent we
         go (subst (λ (x : Float). Halves N x cutoff [] leaves words 0 kids₀ kids top next) ee (f N [] (asks kids₀)))
       where
         go : Halves N (imbalance i) cutoff [] leaves words 0 kids₀ kids top next → Whole N i cutoff words kids₀ kids top next
-        go (is_off h q) = is_refused h (from_all i cutoff words ∙ ap (λ (x : Result Halved). and_then x (λ h. done (bisected_from words h))) q)
+        go (is_off h q) = is_refused h (from_all i cutoff words ∙ ap (λ (x : Result Halved Refusal). and_then x (λ h. Ok (bisected_from words h))) q)
         go (is_tree h b q w k t) =
             is_plan h b.pairs
             (from_all i cutoff words
-            ∙ ap (λ (x : Result Halved). and_then x (λ h. done (bisected_from words h))) q
-            ∙ ap (λ (k : ℕ). done (record { pairs = b.pairs; taken = k })) (taken_is words next))
+            ∙ ap (λ (x : Result Halved Refusal). and_then x (λ h. Ok (bisected_from words h))) q
+            ∙ ap (λ (k : ℕ). Ok (record { pairs = b.pairs; taken = k })) (taken_is words next))
             w (omega (arith, k, leaves_many, layout_leaf_count m n o weights counts cells outputs))

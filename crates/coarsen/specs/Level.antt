@@ -1,10 +1,9 @@
 -- The coarser hypergraph in slots. Assumes nothing.
-use Rattle.std.specs.Prelude.{Bool, true, false, cond, ◌≡◌, refl, List, [], ◌∷◌, map, ℕ, ◌+◌, ◌*◌, ◌≤◌, ◌<◌, eqb, Float, length, get_or, take}
+use Rattle.std.specs.Prelude.{Bool, true, false, cond, ◌≡◌, refl, List, [], ◌∷◌, map, ℕ, ◌+◌, ◌*◌, ◌≤◌, ◌<◌, eqb, Float, length, get_or, take, Option, None, Some}
 use Rattle.std.proofs.Math.Bool.{not}
 use Rattle.std.proofs.Common.{sym, ◌∙◌, subst, arith, length-take-le, eqb-true}
 use Rattle.std.proofs.Math.Path.{ap}
 use Rattle.std.proofs.lemmas.Simd.{map-map}
-use Rattle.std.proofs.Math.Option.{Option, none, some}
 use Rattle.std.specs.Float.{binary64}
 use Rattle.std.specs.Float.Ieee.{mul, lt}
 use Rattle.std.proofs.Math.Decide.{dec_le}
@@ -137,7 +136,7 @@ unfoldable pub enough : ℕ → ℕ → Bool
 enough n left = lt (mul binary64 (decimal 95 100) (whole_float n)) (whole_float left)
 
 abbrev pub level_if : Bool → Level → Option Level
-level_if found l = cond found (some l) none
+level_if found l = cond found (Some l) None
 
 module _ (ws : List ℕ) (nets : ℕ) (weights : List ℕ) (m : ℕ) (vw : List Float) (maxw : Float) (words mates : List ℕ) (at at' : ℕ)
     (e : drawn mates (words_at words at') ≡ matching (graph_in ws nets weights m vw) maxw (words_at words at)) where
@@ -163,6 +162,6 @@ module _ (ws : List ℕ) (nets : ℕ) (weights : List ℕ) (m : ℕ) (vw : List 
       l : Level
       l = level_in ws' nets₂ weights' m' vw' n' places' (length vw)
 
-      either : (b : Bool) → level_if (not b) l ≡ cond b none (some l)
+      either : (b : Bool) → level_if (not b) l ≡ cond b None (Some l)
       either true = refl
       either false = refl

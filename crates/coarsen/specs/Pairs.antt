@@ -1,7 +1,6 @@
 -- A matching is mutual: the mate of a vertex's mate is the vertex. Assumes nothing.
-use Rattle.std.specs.Prelude.{Bool, true, not, ◌&&◌, cond, ◌≡◌, refl, List, [], ◌∷◌, ◌++◌, ℕ, zero, suc, ◌-◌, ◌≤◌, ◌<◌, max, eqb, leb, Float, length, get_or, set, replicate}
+use Rattle.std.specs.Prelude.{Bool, true, not, ◌&&◌, cond, ◌≡◌, refl, List, [], ◌∷◌, ◌++◌, ℕ, zero, suc, ◌-◌, ◌≤◌, ◌<◌, max, eqb, leb, Float, length, get_or, set, replicate, Option, None, Some}
 use Rattle.std.proofs.Common.{sym, ap, ◌∙◌, subst, arith, length-set, get_or-set_same, get_or-set_other, eqb-true, eq-eqb}
-use Rattle.std.proofs.Math.Option.{Option, none, some}
 use Rattle.std.proofs.Math.Decide.{ℕ_discrete, dec_le}
 use Rattle.std.specs.Float.{binary64}
 use Rattle.std.specs.Float.Ieee.{add, mul, div, lt, le, eq}
@@ -137,14 +136,14 @@ module _ (G : Hypergraph) (maxw : Float) where
 
     -- the mate chosen, if there is one
     abbrev Chosen : Option ℕ → Type 0
-    Chosen none = Unit {0}
-    Chosen (some u) = Open u
+    Chosen None = Unit {0}
+    Chosen (Some u) = Open u
 
     chosen_look : (u : ℕ) (c : Choice) → Open u → Chosen c.mate → Chosen (looked_at G maxw v u c).mate
     chosen_look u c o h =
         by_cases better
-        (λ e. subst (λ b. Chosen (cond b (some u) c.mate)) (sym e) o)
-        (λ e. subst (λ b. Chosen (cond b (some u) c.mate)) (sym e) h)
+        (λ e. subst (λ b. Chosen (cond b (Some u) c.mate)) (sym e) o)
+        (λ e. subst (λ b. Chosen (cond b (Some u) c.mate)) (sym e) h)
       where
         better : Bool
         better =
@@ -165,8 +164,8 @@ module _ (G : Hypergraph) (maxw : Float) where
         ]
 
     mutual_mated : (o : Option ℕ) → Chosen o → v < n → get_or mates v 0 ≡ n → Mutual n mates → Mutual n (mated G maxw v o mates)
-    mutual_mated none k lv e h = mutual_alone n mates h v lv e
-    mutual_mated (some u) k lv e h = mutual_pair n mates h v u lv (below_count u k.1 lv h.same) e k.1 k.0
+    mutual_mated None k lv e h = mutual_alone n mates h v lv e
+    mutual_mated (Some u) k lv e h = mutual_pair n mates h v u lv (below_count u k.1 lv h.same) e k.1 k.0
 
   mutual_matched : (v : ℕ) (d : Drawn (List ℕ)) → v < n → Mutual n d.value → Mutual n (matched G maxw v d).value
   mutual_matched v d lv h =

@@ -1,14 +1,15 @@
 -- Pricing's checks one after the other, and what each answer leaves. Assumes nothing.
-use Rattle.std.specs.Prelude.{Bool, true, false, not, ◌≡◌, refl, ℕ, ◌+◌, ◌-◌, ◌*◌, ◌≤◌, ◌<◌, ltb, length, take, drop}
+use Rattle.std.specs.Prelude.{Bool, true, false, not, ◌≡◌, refl, ℕ, ◌+◌, ◌-◌, ◌*◌, ◌≤◌, ◌<◌, ltb, length, take, drop, None, Result, Err, Ok}
 use Rattle.std.proofs.Math.Bool.{or-false}
 use mathlib.Core.List.{List, [], ◌∷◌}
-use Rattle.std.proofs.Math.Option.{none}
+use Rattle.spec.specs.declared.Refusal.{Refusal}
+use Rattle.spec.specs.declared.Refusal.TheVariants.{InvalidTree, InvalidFlags}
 use Rattle.std.proofs.Math.Path.{sym, ap, subst}
 use Rattle.std.proofs.Common.{◌∙◌, arith, take_at}
 use borrow.Author.Tests.{lt-ltb, le-ltb, ltb-false}
 use Rattle.spec.specs.Lists.{anyb}
 use Rattle.spec.specs.Memory.{over, cleared}
-use Rattle.spec.specs.Refusal.{Refusal, invalid_tree, invalid_flags, number_of, code_of, Check, check, Result, refused, done, checked}
+use Rattle.spec.specs.Refusal.{number_of, code_of, Check, check, checked}
 use Rattle.spec.specs.Network.{Network, leaf_count, index_count, refusal_of}
 use Rattle.spec.specs.Tree.{pairs_of, step_order}
 use Rattle.spec.specs.Price as price
@@ -93,25 +94,25 @@ few_flags m flags h = sym (rw (le-ltb m (length flags) h))
 -- ---- the calls ----
 
 module _ (N : Network) (flags kids : List ℕ) where
-  pub rest_tree : (n : ℕ) → leaf_count N ≡ n → wrong_tree n kids ≡ true → rest_call N flags kids ≡ refused invalid_tree
+  pub rest_tree : (n : ℕ) → leaf_count N ≡ n → wrong_tree n kids ≡ true → rest_call N flags kids ≡ Err InvalidTree
   unfolding rest_call
-  rest_tree n q h = holds_first (tree_check N kids) (flags_check N flags ∷ []) (done (price_of N (flag_at flags) (pairs_of kids))) (rw q h)
+  rest_tree n q h = holds_first (tree_check N kids) (flags_check N flags ∷ []) (Ok (price_of N (flag_at flags) (pairs_of kids))) (rw q h)
 
   module _ (n m : ℕ) (qn : leaf_count N ≡ n) (qm : index_count N ≡ m) (right : wrong_tree n kids ≡ false) where
-    pub rest_flags : wrong_flags m flags ≡ true → rest_call N flags kids ≡ refused invalid_flags
+    pub rest_flags : wrong_flags m flags ≡ true → rest_call N flags kids ≡ Err InvalidFlags
     unfolding rest_call wrong_flags
     rest_flags h =
-        passes_first (tree_check N kids) (flags_check N flags ∷ []) (done (price_of N (flag_at flags) (pairs_of kids))) (rw qn right)
-        ∙ holds_first (flags_check N flags) [] (done (price_of N (flag_at flags) (pairs_of kids))) (rw qm h)
+        passes_first (tree_check N kids) (flags_check N flags ∷ []) (Ok (price_of N (flag_at flags) (pairs_of kids))) (rw qn right)
+        ∙ holds_first (flags_check N flags) [] (Ok (price_of N (flag_at flags) (pairs_of kids))) (rw qm h)
 
-    pub rest_done : wrong_flags m flags ≡ false → rest_call N flags kids ≡ done (price_of N (flag_at flags) (pairs_of kids))
+    pub rest_done : wrong_flags m flags ≡ false → rest_call N flags kids ≡ Ok (price_of N (flag_at flags) (pairs_of kids))
     unfolding rest_call wrong_flags
     rest_done h =
-        passes_first (tree_check N kids) (flags_check N flags ∷ []) (done (price_of N (flag_at flags) (pairs_of kids))) (rw qn right)
-        ∙ passes_first (flags_check N flags) [] (done (price_of N (flag_at flags) (pairs_of kids))) (rw qm h)
+        passes_first (tree_check N kids) (flags_check N flags ∷ []) (Ok (price_of N (flag_at flags) (pairs_of kids))) (rw qn right)
+        ∙ passes_first (flags_check N flags) [] (Ok (price_of N (flag_at flags) (pairs_of kids))) (rw qm h)
 
   module _ (words sets sizes works steps : ℕ) where
-    abbrev call : Result price.Prices
+    abbrev call : Result price.Prices Refusal
     call = price_call N words (room sets sizes works steps) flags kids
 
     abbrev lents : List calls.Lent
@@ -128,20 +129,20 @@ module _ (N : Network) (flags kids : List ℕ) where
 
     pub call_refused : (k : ℕ) → k ≡ code_of (refusal_of N) → (k ≡ 0 → ⊥) → Untouched k call
     unfolding price_call
-    call_refused k e z = by_network N (length_check lents ∷ rest) (done (price_of N (flag_at flags) (pairs_of kids))) k e z
+    call_refused k e z = by_network N (length_check lents ∷ rest) (Ok (price_of N (flag_at flags) (pairs_of kids))) k e z
 
-    module _ (n : ℕ) (q : leaf_count N ≡ n) (ok : refusal_of N ≡ none) where
+    module _ (n : ℕ) (q : leaf_count N ≡ n) (ok : refusal_of N ≡ None) where
       pub call_few : too_few n words sets sizes works steps ≡ true → Untouched 7 call
       unfolding price_call too_few
       call_few h =
-          subst (Untouched 7) (sym (past_network N (length_check lents ∷ rest) (done (price_of N (flag_at flags) (pairs_of kids))) ok))
-          (by_length lents rest (done (price_of N (flag_at flags) (pairs_of kids))) (rw q h))
+          subst (Untouched 7) (sym (past_network N (length_check lents ∷ rest) (Ok (price_of N (flag_at flags) (pairs_of kids))) ok))
+          (by_length lents rest (Ok (price_of N (flag_at flags) (pairs_of kids))) (rw q h))
 
       pub call_rest : too_few n words sets sizes works steps ≡ false → call ≡ rest_call N flags kids
       unfolding price_call too_few rest_call
       call_rest h =
-          past_network N (length_check lents ∷ rest) (done (price_of N (flag_at flags) (pairs_of kids))) ok
-          ∙ past_length lents rest (done (price_of N (flag_at flags) (pairs_of kids))) (rw q h)
+          past_network N (length_check lents ∷ rest) (Ok (price_of N (flag_at flags) (pairs_of kids))) ok
+          ∙ past_length lents rest (Ok (price_of N (flag_at flags) (pairs_of kids))) (rw q h)
 
 -- the tree check's answer
 pub tree_wrong : (b w : Bool) → b ≡ not w → not b ≡ true → w ≡ true
@@ -154,8 +155,8 @@ tree_right b false e f = refl
 
 -- ---- what an answer leaves ----
 
-module _ (N : Network) (flags kids sets₀ sizes₀ works₀ steps₀ : List ℕ) (c : Result price.Prices) where
-  pub answered_refused : (r : Refusal) (k : ℕ) → c ≡ refused r → k ≡ number_of r
+module _ (N : Network) (flags kids sets₀ sizes₀ works₀ steps₀ : List ℕ) (c : Result price.Prices Refusal) where
+  pub answered_refused : (r : Refusal) (k : ℕ) → c ≡ Err r → k ≡ number_of r
       → Answered N flags kids c sets₀ sizes₀ works₀ steps₀ sets₀ sizes₀ works₀ steps₀ (Refused k)
   answered_refused r k e q =
       record {
@@ -167,7 +168,7 @@ module _ (N : Network) (flags kids sets₀ sizes₀ works₀ steps₀ : List ℕ
         sound = λ p f. not_done r p (sym e ∙ f);
       }
 
-  pub answered_done : (sets sizes works steps : List ℕ) (x : Prices) → c ≡ done (price_of N (flag_at flags) (pairs_of kids))
+  pub answered_done : (sets sizes works steps : List ℕ) (x : Prices) → c ≡ Ok (price_of N (flag_at flags) (pairs_of kids))
       → Pricing 4 N (flag_at flags) (pairs_of kids) sets₀ sizes₀ works₀ steps₀ sets sizes works steps x
       → Answered N flags kids c sets₀ sizes₀ works₀ steps₀ sets sizes works steps (Done x)
   answered_done sets sizes works steps x e p =
@@ -239,13 +240,13 @@ part_words e l =
     record { for_words = e; for_sets = l.for_sets; for_sizes = l.for_sizes; for_works = l.for_works; for_steps = l.for_steps }
 
 after_either : (x y : Bool) (p : price.Prices) (ws : List ℕ)
-    → cleared ws plain_words ≡ workspace_after plain_words (checked (check x invalid_tree ∷ check y invalid_flags ∷ []) (done p)) ws
+    → cleared ws plain_words ≡ workspace_after plain_words (checked (check x InvalidTree ∷ check y InvalidFlags ∷ []) (Ok p)) ws
 after_either true y p ws = refl
 after_either false true p ws = refl
 after_either false false p ws = refl
 
 module _ (N : Network) (flags kids ws₀ sets₀ sizes₀ works₀ steps₀ : List ℕ) where
-  abbrev whole : Result price.Prices
+  abbrev whole : Result price.Prices Refusal
   whole = price_call N (length ws₀) (room (length sets₀) (length sizes₀) (length works₀) (length steps₀)) flags kids
 
   -- a call that is refused with nothing touched

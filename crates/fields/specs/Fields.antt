@@ -1,7 +1,8 @@
 -- One field read into the lists that are lent: what a scan says then. Assumes nothing.
-use Rattle.std.specs.Prelude.{Bool, true, false, ◌||◌, cond, ◌≡◌, ℕ, zero, suc, ◌+◌, ◌-◌, ◌*◌, ◌≤◌, ◌<◌, ltb, set, drop}
+use Rattle.std.specs.Prelude.{Bool, true, false, ◌||◌, cond, ◌≡◌, ℕ, zero, suc, ◌+◌, ◌-◌, ◌*◌, ◌≤◌, ◌<◌, ltb, set, drop, Option, None, Some, Result, Ok}
 use mathlib.Core.List.{List, [], ◌∷◌, ◌++◌}
-use Rattle.std.proofs.Math.Option.{Option, none, some}
+use Rattle.spec.specs.declared.Refusal.{Refusal}
+use Rattle.spec.specs.declared.Refusal.TheVariants.{TooLarge}
 use Rattle.std.proofs.Math.Path.{refl, ap, ap₂}
 use Rattle.std.proofs.Common.{sym, ◌∙◌, length-drop, drop-cons, length-take-le, get_or-set_same, get_or-set_other}
 use native.Mathlib.Omega.{arith}
@@ -10,7 +11,7 @@ use Rattle.std.proofs.Math.Dec.{leb}
 use Rattle.std.proofs.Math.ListN.{length, get_or, take}
 use borrow.Author.Tests.{ltb-false, leb-false}
 use Rattle.spec.specs.Memory.{placed}
-use Rattle.spec.specs.Refusal.{Refusal, too_large, code_of, Result, done, decide}
+use Rattle.spec.specs.Refusal.{code_of, decide}
 use Rattle.spec.specs.Network.{Network, leaf_count, index_count}
 use Rattle.spec.specs.Layout.{network_of, firsts}
 use Rattle.spec.specs.File.{plain, flagged, Due, leaves_due, tree_due, ask_due, end_due, Reading, take_weights, take_leaf, take_outputs, take_tree, take_flags, take_target}
@@ -31,14 +32,14 @@ pub record Sound (file : List ℕ) (s : Scan) (l : Lists) : Type 0 where
   pub ask : s.ask_at + s.ask_len ≤ length file
 
 -- a field that ends at `end` has been read, as R says
-pub record Taken (file : List ℕ) (end : ℕ) (r : Scan) (l : Lists) (R : Result Reading) : Type 0 where
+pub record Taken (file : List ℕ) (end : ℕ) (r : Scan) (l : Lists) (R : Result Reading Refusal) : Type 0 where
   pub says : unless r.refusal (value (reading_in file r l)) ≡ coded R
   pub sound : Sound file r l
   pub next : r.refusal ≡ 0 → r.at ≡ end
 
 module _ (file : List ℕ) (end : ℕ) (l : Lists) where
   -- a refusal, by its number
-  pub taken_not : (code : ℕ) (o : Option Refusal) (y : Reading) (R : Result Reading) → (code ≡ 0 → ⊥) → code ≡ code_of o → R ≡ decide o (done y)
+  pub taken_not : (code : ℕ) (o : Option Refusal) (y : Reading) (R : Result Reading Refusal) → (code ≡ 0 → ⊥) → code ≡ code_of o → R ≡ decide o (Ok y)
       → Taken file end (stopped code) l R
   taken_not zero o y R n e q = absurd (n refl)
   taken_not (suc k) o y R n e q =
@@ -49,8 +50,8 @@ module _ (file : List ℕ) (end : ℕ) (l : Lists) where
       }
 
   -- and where none has been found
-  pub taken_yes : (r : Scan) (o : Option Refusal) (y : Reading) (R : Result Reading) → r.refusal ≡ 0 → r.at ≡ end → Sound file r l → 0 ≡ code_of o
-      → R ≡ decide o (done y) → reading_in file r l ≡ y → Taken file end r l R
+  pub taken_yes : (r : Scan) (o : Option Refusal) (y : Reading) (R : Result Reading Refusal) → r.refusal ≡ 0 → r.at ≡ end → Sound file r l → 0 ≡ code_of o
+      → R ≡ decide o (Ok y) → reading_in file r l ≡ y → Taken file end r l R
   taken_yes r o y R z p h e q i =
       record {
         says = ap (λ k. unless k (value (reading_in file r l))) z ∙ decided_yes o (reading_in file r l) y e i ∙ ap coded (sym q);
@@ -67,10 +68,10 @@ whole file at n = let z : at + n - at ≡ n = omega arith in ap (part file at) z
 
 -- a network, and nothing more
 abbrev after : Due → Network → Reading
-after d N = record { due = d; read = record { network = N; tree = none; ask = plain } }
+after d N = record { due = d; read = record { network = N; tree = None; ask = plain } }
 
 -- a refusal by the first of two checks, or none at all
-cond_none : (b : Bool) (r : Refusal) (o : Option Refusal) → cond b (some r) o ≡ none → b ≡ false
+cond_none : (b : Bool) (r : Refusal) (o : Option Refusal) → cond b (Some r) o ≡ None → b ≡ false
 cond_none true r o e = absurd (let w : ◌≡◌ {A = ℕ} 0 1 = cc in omega arith)
 cond_none false r o e = refl
 
@@ -86,51 +87,51 @@ module _ (s : Scan) (l : Lists) where
 -- ---- what each field's checks decide, by the network's counts ----
 
 module _ (p : List ℕ) where
-  pub weights_decide : take_weights p ≡ decide (weights_refusal p) (done (after leaves_due (record { leaves = []; outputs = []; weights = p })))
+  pub weights_decide : take_weights p ≡ decide (weights_refusal p) (Ok (after leaves_due (record { leaves = []; outputs = []; weights = p })))
   unfolding weights_refusal
   weights_decide = refl
 
   pub weights_fit : 0 ≡ code_of (weights_refusal p) → length p ≤ 256
   unfolding weights_refusal
-  weights_fit e = ltb-false 256 (length p) (cond_none (ltb 256 (length p)) too_large _ (code_zero (weights_refusal p) e))
+  weights_fit e = ltb-false 256 (length p) (cond_none (ltb 256 (length p)) TooLarge _ (code_zero (weights_refusal p) e))
 
   pub leaf_decide : (N : Network) (m k : ℕ) → index_count N ≡ m → leaf_count N ≡ k
-      → take_leaf N p ≡ decide (leaf_refusal m k p) (done (after leaves_due (record { leaves = N.leaves ++ (p ∷ []); outputs = []; weights = N.weights })))
+      → take_leaf N p ≡ decide (leaf_refusal m k p) (Ok (after leaves_due (record { leaves = N.leaves ++ (p ∷ []); outputs = []; weights = N.weights })))
   unfolding leaf_refusal
   leaf_decide N m k a b =
-      let y = done (after leaves_due (record { leaves = N.leaves ++ (p ∷ []); outputs = []; weights = N.weights })) in
+      let y = Ok (after leaves_due (record { leaves = N.leaves ++ (p ∷ []); outputs = []; weights = N.weights })) in
       ap₂ (λ i j. decide (leaf_refusal i j p) y) a b
 
   pub leaf_fits : (m k : ℕ) → 0 ≡ code_of (leaf_refusal m k p) → (length p ≤ 32) × (k < 128)
   unfolding leaf_refusal
   leaf_fits m k e =
-      let (a, b) = or_none (ltb 32 (length p)) (leb 128 k) (cond_none (ltb 32 (length p) || leb 128 k) too_large _ (code_zero (leaf_refusal m k p) e)) in
+      let (a, b) = or_none (ltb 32 (length p)) (leb 128 k) (cond_none (ltb 32 (length p) || leb 128 k) TooLarge _ (code_zero (leaf_refusal m k p) e)) in
       (ltb-false 32 (length p) a, leb-false 128 k b)
 
   pub outputs_decide : (N : Network) (m : ℕ) → index_count N ≡ m
-      → take_outputs N p ≡ decide (outputs_refusal m p) (done (after tree_due (record { leaves = N.leaves; outputs = p; weights = N.weights })))
+      → take_outputs N p ≡ decide (outputs_refusal m p) (Ok (after tree_due (record { leaves = N.leaves; outputs = p; weights = N.weights })))
   unfolding outputs_refusal
   outputs_decide N m a =
-      let y = done (after tree_due (record { leaves = N.leaves; outputs = p; weights = N.weights })) in
+      let y = Ok (after tree_due (record { leaves = N.leaves; outputs = p; weights = N.weights })) in
       ap (λ i. decide (outputs_refusal i p) y) a
 
   pub outputs_fit : (m : ℕ) → 0 ≡ code_of (outputs_refusal m p) → length p ≤ 32
   unfolding outputs_refusal
-  outputs_fit m e = ltb-false 32 (length p) (cond_none (ltb 32 (length p)) too_large _ (code_zero (outputs_refusal m p) e))
+  outputs_fit m e = ltb-false 32 (length p) (cond_none (ltb 32 (length p)) TooLarge _ (code_zero (outputs_refusal m p) e))
 
   pub tree_decide : (N : Network) (k : ℕ) → leaf_count N ≡ k
-      → take_tree N p ≡ decide (tree_refusal k p) (done (record { due = ask_due; read = record { network = N; tree = some p; ask = plain } }))
+      → take_tree N p ≡ decide (tree_refusal k p) (Ok (record { due = ask_due; read = record { network = N; tree = Some p; ask = plain } }))
   unfolding tree_refusal
-  tree_decide N k a = ap (λ i. decide (tree_refusal i p) (done (record { due = ask_due; read = record { network = N; tree = some p; ask = plain } }))) a
+  tree_decide N k a = ap (λ i. decide (tree_refusal i p) (Ok (record { due = ask_due; read = record { network = N; tree = Some p; ask = plain } }))) a
 
   pub flags_decide : (N : Network) (tree : Option (List ℕ)) (m : ℕ) → index_count N ≡ m
-      → take_flags N tree p ≡ decide (flags_refusal m p) (done (record { due = end_due; read = record { network = N; tree = tree; ask = flagged p } }))
+      → take_flags N tree p ≡ decide (flags_refusal m p) (Ok (record { due = end_due; read = record { network = N; tree = tree; ask = flagged p } }))
   unfolding flags_refusal
   flags_decide N tree m a =
-      ap (λ i. decide (flags_refusal i p) (done (record { due = end_due; read = record { network = N; tree = tree; ask = flagged p } }))) a
+      ap (λ i. decide (flags_refusal i p) (Ok (record { due = end_due; read = record { network = N; tree = tree; ask = flagged p } }))) a
 
 -- a target field not of one byte
-pub target_not : (N : Network) (tree : Option (List ℕ)) (p : List ℕ) (y : Reading) → (length p ≡ 1 → ⊥) → take_target N tree p ≡ decide (some too_large) (done y)
+pub target_not : (N : Network) (tree : Option (List ℕ)) (p : List ℕ) (y : Reading) → (length p ≡ 1 → ⊥) → take_target N tree p ≡ decide (Some TooLarge) (Ok y)
 target_not N tree [] y n = refl
 target_not N tree (w ∷ []) y n = absurd (n refl)
 target_not N tree (w ∷ v ∷ p) y n = refl
@@ -222,6 +223,6 @@ module _ (file : List ℕ) (at n : ℕ) (h : at + n ≤ length file) where
     unfolding net_in
     target_taken e =
         let q : part file at n ≡ get_or file at 0 ∷ [] = ap₂ take e (drop-cons file at 0 (omega arith)) in
-        taken_yes file (at + n) l (asking s 2 at n (at + n)) none (reading_in file (asking s 2 at n (at + n)) l) _ refl refl
+        taken_yes file (at + n) l (asking s 2 at n (at + n)) None (reading_in file (asking s 2 at n (at + n)) l) _ refl refl
         (record { leaves = t.leaves; few = t.few; tree = t.tree; ask = h }) refl
         (ap (take_target (net_in s l) (tree_in file s.has_tree s.tree_at s.tree_len)) q) refl

@@ -1,6 +1,5 @@
 -- What a scan stands for. Assumes nothing.
-use Rattle.std.specs.Prelude.{Bool, true, false, cond, List, ◌≡◌, refl, ℕ, zero, suc, ◌≤◌, get_or}
-use Rattle.std.proofs.Math.Option.{Option, none, some}
+use Rattle.std.specs.Prelude.{Bool, true, false, cond, List, ◌≡◌, refl, ℕ, zero, suc, ◌≤◌, get_or, Option, None, Some}
 use Rattle.std.proofs.Common.{arith}
 use Rattle.spec.specs.Network.{Network}
 use Rattle.spec.specs.Layout.{network_of}
@@ -88,7 +87,7 @@ due_of (suc (suc (suc zero))) = ask_due
 due_of (suc (suc (suc (suc k)))) = end_due
 
 abbrev pub tree_in : List ℕ → Bool → ℕ → ℕ → Option (List ℕ)
-tree_in file has at n = cond has (some (part file at n)) none
+tree_in file has at n = cond has (Some (part file at n)) None
 
 abbrev pub ask_in : List ℕ → ℕ → ℕ → ℕ → Ask
 ask_in file zero at n = plain

@@ -1,21 +1,23 @@
 -- Reading from a place of the file on: no bytes left, part of a header, and a whole field. Assumes nothing.
-use Rattle.std.specs.Prelude.{true, false, not, cond, List, [], ◌∷◌, ◌≡◌, refl, ℕ, suc, ◌+◌, ◌*◌, ◌-◌, ◌<◌, ◌≤◌, ltb, length, get_or, take, drop}
+use Rattle.std.specs.Prelude.{true, false, not, cond, List, [], ◌∷◌, ◌≡◌, refl, ℕ, suc, ◌+◌, ◌*◌, ◌-◌, ◌<◌, ◌≤◌, ltb, length, get_or, take, drop, Result, Err, Ok}
 use Rattle.std.proofs.Common.{sym, ap, ◌∙◌, arith, length-drop, drop-cons, drop-drop, lt-ltb, le-ltb}
-use Rattle.spec.specs.Refusal.{truncated, wrong_tag, check, Result, refused, done, and_then, checked}
+use Rattle.spec.specs.Refusal.{check, and_then, checked}
+use Rattle.spec.specs.declared.Refusal.TheVariants.{Truncated, WrongTag}
+use Rattle.spec.specs.declared.Refusal.{Refusal}
 use Rattle.spec.specs.File.{Contents, Reading, allowed, may_end, take_field, read_fields}
 use Rattle.laws.specs.Results.{then_same}
 use Rattle.laws.specs.FileDecisions.{fuel}
 use Rattle.fields.specs.Coded.{Coded, number, value, coded, unless, followed}
 
 -- reading bytes to their end
-unfoldable pub read_all : Reading → List ℕ → Result Contents
+unfoldable pub read_all : Reading → List ℕ → Result Contents Refusal
 read_all s bytes = read_fields (suc (length bytes)) s bytes
 
-pub read_end : (s : Reading) → read_all s [] ≡ cond (may_end s.due) (done s.read) (refused truncated)
+pub read_end : (s : Reading) → read_all s [] ≡ cond (may_end s.due) (Ok s.read) (Err Truncated)
 unfolding read_all
 read_end s = refl
 
-read_header : (s : Reading) (bytes : List ℕ) → 0 < length bytes → length bytes < 3 → read_all s bytes ≡ refused truncated
+read_header : (s : Reading) (bytes : List ℕ) → 0 < length bytes → length bytes < 3 → read_all s bytes ≡ Err Truncated
 unfolding read_all
 read_header s [] h k = absurd (omega arith)
 read_header s (t ∷ []) h k = refl
@@ -24,13 +26,13 @@ read_header s (t ∷ high ∷ low ∷ bytes) h k = absurd (omega arith)
 
 read_field : (s : Reading) (t high low n : ℕ) (bytes : List ℕ) → n ≡ high * 256 + low
     → read_all s (t ∷ high ∷ low ∷ bytes)
-    ≡ checked (check (not (allowed s.due t)) wrong_tag ∷ check (ltb (length bytes) n) truncated ∷ [])
+    ≡ checked (check (not (allowed s.due t)) WrongTag ∷ check (ltb (length bytes) n) Truncated ∷ [])
     (and_then (take_field s t (take n bytes)) λ s'. read_all s' (drop n bytes))
 unfolding read_all
 read_field s t high low n bytes e =
-    ap (λ k. checked (check (not (allowed s.due t)) wrong_tag ∷ check (ltb (length bytes) k) truncated ∷ [])
+    ap (λ k. checked (check (not (allowed s.due t)) WrongTag ∷ check (ltb (length bytes) k) Truncated ∷ [])
     (and_then (take_field s t (take k bytes)) λ s'. read_fields (suc (suc (suc (length bytes)))) s' (drop k bytes))) (sym e)
-    ∙ ap (checked (check (not (allowed s.due t)) wrong_tag ∷ check (ltb (length bytes) n) truncated ∷ []))
+    ∙ ap (checked (check (not (allowed s.due t)) WrongTag ∷ check (ltb (length bytes) n) Truncated ∷ []))
     (then_same (take_field s t (take n bytes)) (λ s'. read_fields (suc (suc (suc (length bytes)))) s' (drop n bytes)) (λ s'. read_all s' (drop n bytes))
     (λ s'. fuel (suc (suc (suc (length bytes)))) (suc (length (drop n bytes))) s' (drop n bytes) (omega (arith, length-drop n bytes)) (omega arith)))
 
@@ -60,7 +62,7 @@ module _ (file : List ℕ) (s : Reading) (at : ℕ) where
         ∙ ap (λ k. get_or file at 0 ∷ get_or file (at + 1) 0 ∷ get_or file (at + 2) 0 ∷ drop k file) c
 
     field : read_all s (drop at file)
-        ≡ checked (check (not (allowed s.due (get_or file at 0))) wrong_tag ∷ check (ltb (length (drop (at + 3) file)) n) truncated ∷ [])
+        ≡ checked (check (not (allowed s.due (get_or file at 0))) WrongTag ∷ check (ltb (length (drop (at + 3) file)) n) Truncated ∷ [])
         (and_then (take_field s (get_or file at 0) (part file (at + 3) n)) λ s'. read_all s' (drop n (drop (at + 3) file)))
     field = ap (read_all s) three ∙ read_field s (get_or file at 0) (get_or file (at + 1) 0) (get_or file (at + 2) 0) n (drop (at + 3) file) size
 

@@ -1,8 +1,8 @@
 -- Field after field to the file's end. Assumes nothing.
-use Rattle.std.specs.Prelude.{true, false, cond, List, ◌≡◌, refl, ℕ, zero, suc, ◌+◌, ◌-◌, ◌*◌, ◌≤◌, ◌<◌, length, get_or, drop}
+use Rattle.std.specs.Prelude.{true, false, cond, List, ◌≡◌, refl, ℕ, zero, suc, ◌+◌, ◌-◌, ◌*◌, ◌≤◌, ◌<◌, length, get_or, drop, Err, Ok}
 use Rattle.std.proofs.Common.{sym, ◌∙◌, arith, drop_of_length-le}
 use Rattle.std.proofs.Math.Path.{ap}
-use Rattle.spec.specs.Refusal.{truncated, refused, done}
+use Rattle.spec.specs.declared.Refusal.TheVariants.{Truncated}
 use Rattle.spec.specs.File.{allowed, may_end, take_field, nothing_read}
 use Rattle.network.specs.Layouts.{layout_empty}
 use Rattle.fields.specs.Coded.{number, value, coded, unless}
@@ -100,7 +100,7 @@ module _ (file : List ℕ) where
         early (suc c) q = refl
 
     module _ (h : length file ≤ s.at) where
-      at_end : coded (read_all nothing_read file) ≡ coded (cond (may_end (due_of s.due)) (done (read_in file s l)) (refused truncated))
+      at_end : coded (read_all nothing_read file) ≡ coded (cond (may_end (due_of s.due)) (Ok (read_in file s l)) (Err Truncated))
       at_end = a.same ∙ ap (λ b. coded (read_all (reading_in file s l) b)) (drop_of_length-le file h) ∙ ap coded (read_end (reading_in file s l))
 
       may_not : (d : ℕ) → d < 2 → may_end (due_of d) ≡ false

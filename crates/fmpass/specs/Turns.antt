@@ -1,7 +1,6 @@
 -- A turn of a pass: the first entry comes off, and its vertex moves if the other side can take it. Turn after turn. Assumes nothing.
-use Rattle.std.specs.Prelude.{Bool, true, false, not, ◌&&◌, ◌||◌, ◌≡◌, refl, List, [], ◌∷◌, ℕ, ◌+◌, ◌*◌, ◌≤◌, ◌<◌, eqb, Float, length, get_or, set}
+use Rattle.std.specs.Prelude.{Bool, true, false, not, ◌&&◌, ◌||◌, ◌≡◌, refl, List, [], ◌∷◌, ℕ, ◌+◌, ◌*◌, ◌≤◌, ◌<◌, eqb, Float, length, get_or, set, Option, None, Some}
 use Rattle.std.proofs.Math.Bool.{cond}
-use Rattle.std.proofs.Math.Option.{Option, none, some}
 use Rattle.std.proofs.Common.{sym, ◌∙◌, subst, arith, mul-le-mul_right, add-one, ne_eqb, length-set, get_or-set_same, get_or-set_other}
 use Rattle.std.proofs.Math.Path.{ap}
 use Rattle.std.proofs.Math.Decide.{ℕ_discrete}
@@ -23,12 +22,12 @@ use Rattle.fmpass.specs.Until.{Left, left_all, left_next, left_stop, left_none}
 -- ---- the first entry is one ----
 
 abbrev Waits : Queue → Option Entry → Type 0
-Waits q none = ◌≡◌ {A = ℕ} 0 0
-Waits q (some e) = waits q e.vertex ≡ true
+Waits q None = ◌≡◌ {A = ℕ} 0 0
+Waits q (Some e) = waits q e.vertex ≡ true
 
 offered_waits : (q : Queue) (v : ℕ) (o : Option Entry) → Waits q o → Waits q (offered q v o)
-offered_waits q v none h = by_cases (waits q v) (λ e. rw e e) (λ e. rw e h)
-offered_waits q v (some b) h =
+offered_waits q v None h = by_cases (waits q v) (λ e. rw e e) (λ e. rw e h)
+offered_waits q v (Some b) h =
     by_cases (waits q v)
     (λ e. rw e (by_cases (above (entry_of q v) b) (λ a. rw a e) (λ a. rw a h)))
     (λ e. rw e h)
@@ -37,8 +36,8 @@ fold_waits : (q : Queue) (l : List ℕ) (o : Option Entry) → Waits q o → Wai
 fold_waits q [] o h = h
 fold_waits q (v ∷ l) o h = fold_waits q l (offered q v o) (offered_waits q v o h)
 
-at_vertex : (n v : ℕ) (q : Queue) → (v ≡ n → ⊥) → entry_at n q v ≡ some (entry_of q v)
-at_vertex n v q f = ap (λ t. cond t none (some (entry_of q v))) (ne_eqb v n f)
+at_vertex : (n v : ℕ) (q : Queue) → (v ≡ n → ⊥) → entry_at n q v ≡ Some (entry_of q v)
+at_vertex n v q f = ap (λ t. cond t None (Some (entry_of q v))) (ne_eqb v n f)
 
 -- ---- a turn ----
 
@@ -84,7 +83,7 @@ module _ (nets vertices sides m : ℕ) (vw : List Float) (M : Lists) (R : Run) (
       pub taken_waits : eqb (get_or M.waiting v 0) 1 ≡ true
       taken_waits =
           subst (Waits (queue_of M.keys M.stamps M.waiting no_words)) (sym e ∙ at_vertex (length vw) v (queue_of M.keys M.stamps M.waiting no_words) f)
-          (fold_waits (queue_of M.keys M.stamps M.waiting no_words) (range (length vw)) none refl)
+          (fold_waits (queue_of M.keys M.stamps M.waiting no_words) (range (length vw)) None refl)
 
       pub taken_free : memb v (moves_in M R) ≡ false
       taken_free = h.fresh v taken_waits

@@ -1,7 +1,6 @@
 -- The lists of numbers stand for the frontier of a tree: its members, and its opened nodes, the latest first. Assumes nothing.
-use Rattle.std.specs.Prelude.{Bool, cond, ◌≡◌, eqb, ltb, set}
+use Rattle.std.specs.Prelude.{Bool, cond, ◌≡◌, eqb, ltb, set, Option, None, Some}
 use mathlib.Core.List.{List, [], ◌∷◌, map}
-use Rattle.std.proofs.Math.Option.{Option, none, some}
 use Rattle.std.proofs.Math.Path.{refl, sym, ap, ap₂, subst}
 use Rattle.std.proofs.Common.{◌∙◌, get_or-set_same, get_or-set_other, get_or-take, eq-eqb, ne_eqb, ltb-true, ltb-false}
 use Prim.Native.Nat.{ℕ, zero, suc, ◌+◌, ◌-◌, ◌^◌, ◌≤◌, ◌<◌}
@@ -34,21 +33,21 @@ module _ (N : Network) (flag : ℕ → Bool) (kids works : List ℕ) (n : ℕ) w
 
   -- a place and a rank stand for a member's place and work bits
   abbrev Means : Most → Option MostWork → Type 0
-  Means s none = s.rank ≡ 0
-  Means s (some q) = (s.place ≡ q.place) × (s.rank ≡ q.work_bits + 1)
+  Means s None = s.rank ≡ 0
+  Means s (Some q) = (s.place ≡ q.place) × (s.rank ≡ q.work_bits + 1)
 
   more_means : (t : Tree) (s : Most) (o : Option MostWork) (p : ℕ) → Read t → Means s o → Means (more_rank n works s p (number t)) (more_work N flag o p t)
   more_means (leaf i) s o p d h = subst (λ x. Means x o) (more_leaf n works s p i d) h
-  more_means (node v l r) s none p d h =
-      subst (λ x. Means x (some (record { place = p; work_bits = work_of N flag (node v l r) })))
+  more_means (node v l r) s None p d h =
+      subst (λ x. Means x (Some (record { place = p; work_bits = work_of N flag (node v l r) })))
       (more_than n works s p v (work_of N flag (node v l r)) d.0 (sym d.3) (omega arith)) (refl, refl)
-  more_means (node v l r) s (some q) p d h =
+  more_means (node v l r) s (Some q) p d h =
       by_cases (ltb q.work_bits (work_of N flag (node v l r)))
       (λ e. rw e
-      (subst (λ x. Means x (some (record { place = p; work_bits = work_of N flag (node v l r) })))
+      (subst (λ x. Means x (Some (record { place = p; work_bits = work_of N flag (node v l r) })))
       (more_than n works s p v (work_of N flag (node v l r)) d.0 (sym d.3) (omega (arith, h.1, ltb-true q.work_bits (work_of N flag (node v l r)) e))) (refl, refl)))
       (λ e. rw e
-      (subst (λ x. Means x (some q))
+      (subst (λ x. Means x (Some q))
       (more_not n works s p v (work_of N flag (node v l r)) d.0 (sym d.3) (omega (arith, h.1, ltb-false q.work_bits (work_of N flag (node v l r)) e))) h))
 
   ranks_mean : (ts : List Tree) (s : Most) (o : Option MostWork) (p : ℕ) → All Read ts → Means s o
@@ -63,13 +62,13 @@ module _ (N : Network) (flag : ℕ → Bool) (kids works : List ℕ) (n : ℕ) w
 
   module _ (all : List Tree) where
     abbrev Inside : Option MostWork → Type 0
-    Inside none = Unit {0}
-    Inside (some q) = (q.place < length all) × IsNode (member all q.place)
+    Inside None = Unit {0}
+    Inside (Some q) = (q.place < length all) × IsNode (member all q.place)
 
     more_inside : (t : Tree) (o : Option MostWork) (p : ℕ) → p < length all → member all p ≡ t → Inside o → Inside (more_work N flag o p t)
     more_inside (leaf i) o p b e h = h
-    more_inside (node v l r) none p b e h = (b, subst IsNode (sym e) tt)
-    more_inside (node v l r) (some q) p b e h =
+    more_inside (node v l r) None p b e h = (b, subst IsNode (sym e) tt)
+    more_inside (node v l r) (Some q) p b e h =
         by_cases (ltb q.work_bits (work_of N flag (node v l r))) (λ z. rw z (b, subst IsNode (sym e) tt)) (λ z. rw z h)
 
     most_inside : (ts : List Tree) (o : Option MostWork) (p : ℕ) → p + length ts ≡ length all → ((i : ℕ) → member all (p + i) ≡ member ts i)
@@ -133,19 +132,19 @@ module _ (N : Network) (flag : ℕ → Bool) (kids works : List ℕ) (n : ℕ) w
 
   -- the member of most work opened
   most_fronts : (s : State) (fr : Front) → Fronts s fr → s.count < length s.members → s.count ≤ length s.opened
-      → Fronts (open_most kids works n s) (spec.open_at fr (most_work N flag none 0 fr.members))
+      → Fronts (open_most kids works n s) (spec.open_at fr (most_work N flag None 0 fr.members))
   unfolding open_most
   most_fronts s fr f a b =
-      go (most_work N flag none 0 fr.members) (ranks_mean fr.members nothing none 0 f.read refl)
-      (most_inside fr.members fr.members none 0 (omega arith) (λ i. ap (member fr.members) (let z : 0 + i ≡ i = omega arith in z)) tt)
+      go (most_work N flag None 0 fr.members) (ranks_mean fr.members nothing None 0 f.read refl)
+      (most_inside fr.members fr.members None 0 (omega arith) (λ i. ap (member fr.members) (let z : 0 + i ≡ i = omega arith in z)) tt)
     where
       same : ranks n works nothing 0 (map number fr.members) ≡ ranks n works nothing 0 (take s.count s.members)
       same = ap (ranks n works nothing 0) (sym f.members)
 
       go : (o : Option MostWork) → Means (ranks n works nothing 0 (map number fr.members)) o → Inside fr.members o
           → Fronts (cond (eqb (ranks n works nothing 0 (take s.count s.members)).rank 0) s (open_at kids n (ranks n works nothing 0 (take s.count s.members)).place s)) (spec.open_at fr o)
-      go none h k = rw (eq-eqb (ranks n works nothing 0 (take s.count s.members)).rank 0 (sym (ap (λ (x : Most). x.rank) same) ∙ h)) f
-      go (some m) h k =
+      go None h k = rw (eq-eqb (ranks n works nothing 0 (take s.count s.members)).rank 0 (sym (ap (λ (x : Most). x.rank) same) ∙ h)) f
+      go (Some m) h k =
           let e : (ranks n works nothing 0 (take s.count s.members)).place ≡ m.place = sym (ap (λ (x : Most). x.place) same) ∙ h.0 in
           rw (ne_eqb (ranks n works nothing 0 (take s.count s.members)).rank 0 (λ z. omega (arith, ap (λ (x : Most). x.rank) same, h.1)))
           (rw e
@@ -164,9 +163,9 @@ module _ (N : Network) (flag : ℕ → Bool) (kids works : List ℕ) (n : ℕ) w
       by_cases (eqb (ranks n works nothing 0 (take s.count s.members)).rank 0) (λ z. rw z) (λ z. rw z (open_at_opened kids n _ s))
 
   expand_last : (times : ℕ) (fr : Front)
-      → expand N flag (suc times) fr ≡ spec.open_at (expand N flag times fr) (most_work N flag none 0 (expand N flag times fr).members)
+      → expand N flag (suc times) fr ≡ spec.open_at (expand N flag times fr) (most_work N flag None 0 (expand N flag times fr).members)
   expand_last zero fr = refl
-  expand_last (suc times) fr = expand_last times (spec.open_at fr (most_work N flag none 0 fr.members))
+  expand_last (suc times) fr = expand_last times (spec.open_at fr (most_work N flag None 0 fr.members))
 
   module _ (s : State) (fr : Front) (k : ℕ) (first : s.count ≡ 1) (room : k ≤ length s.members) (room_opened : k ≤ suc (length s.opened)) (f : Fronts s fr) where
     pub record Opened (i : ℕ) : Type 0 where

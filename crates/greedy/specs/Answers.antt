@@ -1,13 +1,14 @@
 -- What the entry answers: number and values of each case; the call once the network is accepted; laws of both. Assumes nothing.
-use Rattle.std.specs.Prelude.{◌≡◌, refl, ℕ, ◌≤◌, ◌<◌, length}
+use Rattle.std.specs.Prelude.{◌≡◌, refl, ℕ, ◌≤◌, ◌<◌, length, None, Result, Err, Ok}
 use Rattle.std.proofs.Common.{sym, ◌∙◌, ap, arith}
 use mathlib.Core.List.{List, [], ◌∷◌}
-use Rattle.std.proofs.Math.Option.{none}
+use Rattle.spec.specs.declared.Refusal.{Refusal}
+use Rattle.spec.specs.declared.Refusal.TheVariants.{TableTooWide}
 use borrow.Author.Tests.{lt-ltb, le-ltb}
 use Rattle.spec.specs.Memory.{cleared}
 use Rattle.spec.specs.Network.{Network, refusal_of}
 use Rattle.spec.specs.Tree.{Pair, flat_of}
-use Rattle.spec.specs.Refusal.{Refusal, table_too_wide, number_of, code_of, Result, refused, done, checked}
+use Rattle.spec.specs.Refusal.{number_of, code_of, checked}
 use Rattle.spec.specs.Calls.{Lent, lent, length_check, plain_words, tree_places, greedy_call, workspace_after, greedy_tree}
 use Rattle.spec.specs.Greedy.{greedy}
 use Rattle.walk.specs.Entry.{Untouched, answers, same_words, same_list, done_words, refused_words, by_network, past_network, by_length, past_length}
@@ -15,12 +16,12 @@ use Rattle.greedy.specs.Whole.{Grown, is_left, is_grown}
 use Rattle.greedy.specs.declared.Planned.{Planned}
 
 -- refused by number, or done
-abbrev pub planned_of : Result (List Pair) → Planned
-planned_of (refused r) = Planned.Refused (number_of r)
-planned_of (done a) = Planned.Done
+abbrev pub planned_of : Result (List Pair) Refusal → Planned
+planned_of (Err r) = Planned.Refused (number_of r)
+planned_of (Ok a) = Planned.Done
 
 -- the call, the network's own checks aside
-unfoldable pub greedy_in : Network → ℕ → ℕ → Result (List Pair)
+unfoldable pub greedy_in : Network → ℕ → ℕ → Result (List Pair) Refusal
 greedy_in N words places = checked (length_check (lent words plain_words ∷ lent places (tree_places N) ∷ []) ∷ []) (greedy N)
 
 module _ (N : Network) (words places : ℕ) where
@@ -44,7 +45,7 @@ module _ (N : Network) (words places : ℕ) where
   unfolding greedy_call
   greedy_refused k e z = by_network N (length_check lents ∷ []) (greedy N) k e z
 
-  pub greedy_accepted : refusal_of N ≡ none → greedy_call N words places ≡ greedy_in N words places
+  pub greedy_accepted : refusal_of N ≡ None → greedy_call N words places ≡ greedy_in N words places
   unfolding greedy_call greedy_in
   greedy_accepted e = past_network N (length_check lents ∷ []) (greedy N) e
 
@@ -57,7 +58,7 @@ pub record Answers (N : Network) (tree tree' ws ws' : List ℕ) (r : Planned) : 
   pub workspace : ws' ≡ workspace_after plain_words (greedy_in N (length ws) (length tree)) ws
 
 module _ (N : Network) (tree ws : List ℕ) where
-  abbrev call : Result (List Pair)
+  abbrev call : Result (List Pair) Refusal
   call = greedy_in N (length ws) (length tree)
 
   quiet : Untouched 7 call → Answers N tree tree ws ws (Planned.Refused 7)
@@ -84,11 +85,11 @@ module _ (N : Network) (tree ws : List ℕ) where
         where
           go : Grown N tree y r → Answers N tree y ws ws' (Planned.Refused 12)
           go (is_left z g w) =
-              let c : call ≡ refused table_too_wide = greedy_runs N (length ws) (length tree) h q ∙ g in
+              let c : call ≡ Err TableTooWide = greedy_runs N (length ws) (length tree) h q ∙ g in
               record {
                 answer = sym (ap planned_of c);
-                plan = w ∙ sym (ap (λ (x : Result (List Pair)). greedy_tree x tree) c);
-                workspace = refused_words plain_words ws ws' ew call table_too_wide refl c;
+                plan = w ∙ sym (ap (λ (x : Result (List Pair) Refusal). greedy_tree x tree) c);
+                workspace = refused_words plain_words ws ws' ew call TableTooWide refl c;
               }
           go (is_grown z a g w l) = absurd (omega arith)
 
@@ -98,9 +99,9 @@ module _ (N : Network) (tree ws : List ℕ) where
           go : Grown N tree y r → Answers N tree y ws ws' Planned.Done
           go (is_left z g w) = absurd (n z)
           go (is_grown z a g w l) =
-              let c : call ≡ done a = greedy_runs N (length ws) (length tree) h q ∙ g in
+              let c : call ≡ Ok a = greedy_runs N (length ws) (length tree) h q ∙ g in
               record {
                 answer = sym (ap planned_of c);
-                plan = w ∙ sym (ap (λ (x : Result (List Pair)). greedy_tree x tree) c);
+                plan = w ∙ sym (ap (λ (x : Result (List Pair) Refusal). greedy_tree x tree) c);
                 workspace = done_words plain_words ws ws' ew call a c;
               }

@@ -1,5 +1,5 @@
 -- Greedy over all leaves of a network, from greedy over a list of leaves. Assumes nothing.
-use Rattle.std.specs.Prelude.{◌≡◌, refl, ℕ, ◌-◌, ◌*◌, ◌≤◌, ◌<◌, length, take}
+use Rattle.std.specs.Prelude.{◌≡◌, refl, ℕ, ◌-◌, ◌*◌, ◌≤◌, ◌<◌, length, take, Err, Ok}
 use Rattle.std.proofs.Math.Path.{sym, ap, subst}
 use Rattle.std.proofs.Common.{◌∙◌, arith, length-take-le}
 use mathlib.Core.List.{List, []}
@@ -8,7 +8,7 @@ use Rattle.spec.specs.Memory.{over}
 use Rattle.spec.specs.Layout.{network_of}
 use Rattle.spec.specs.Network.{Network, leaf_count}
 use Rattle.spec.specs.Tree.{Pair, flat_of}
-use Rattle.spec.specs.Refusal.{table_too_wide, refused, done}
+use Rattle.spec.specs.declared.Refusal.TheVariants.{TableTooWide}
 use Rattle.spec.specs.Greedy.{array_of, leaves_of, greedy_from, greedy}
 use Rattle.laws.specs.ListLaws.{from_memb, range_length}
 use Rattle.laws.specs.GreedyForest.{leaves_single}
@@ -30,13 +30,13 @@ use Rattle.cells.specs.Cells.{over-nil}
 
 -- what greedy over all leaves answers: 65536 if it is refused; else the children of the array stand at the front of `kids`
 pub data Whole (N : Network) (kids₀ kids : List ℕ) (r : ℕ) : Type 0 where
-  is_too_wide : r ≡ 65536 → greedy N ≡ refused table_too_wide → Whole N kids₀ kids r
-  is_plan : r < 65536 → (a : List Pair) → greedy N ≡ done a → kids ≡ over kids₀ (flat_of a) → length a ≡ leaf_count N - 1 → Whole N kids₀ kids r
+  is_too_wide : r ≡ 65536 → greedy N ≡ Err TableTooWide → Whole N kids₀ kids r
+  is_plan : r < 65536 → (a : List Pair) → greedy N ≡ Ok a → kids ≡ over kids₀ (flat_of a) → length a ≡ leaf_count N - 1 → Whole N kids₀ kids r
 
 -- the same, with what stands in the list where it is refused
 pub data Grown (N : Network) (tree₀ tree : List ℕ) (r : ℕ) : Type 0 where
-  is_left : r ≡ 65536 → greedy N ≡ refused table_too_wide → tree ≡ tree₀ → Grown N tree₀ tree r
-  is_grown : r < 65536 → (a : List Pair) → greedy N ≡ done a → tree ≡ over tree₀ (flat_of a) → length a ≡ leaf_count N - 1 → Grown N tree₀ tree r
+  is_left : r ≡ 65536 → greedy N ≡ Err TableTooWide → tree ≡ tree₀ → Grown N tree₀ tree r
+  is_grown : r < 65536 → (a : List Pair) → greedy N ≡ Ok a → tree ≡ over tree₀ (flat_of a) → length a ≡ leaf_count N - 1 → Grown N tree₀ tree r
 
 -- they stand where greedy wants its leaves
 pub leaves_counted : (ws y : List ℕ) (n : ℕ) → 2320 ≤ length ws → n ≤ 128 → length y ≡ length (part 1040 256 ws)

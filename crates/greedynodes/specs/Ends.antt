@@ -1,5 +1,5 @@
 -- From the merging and the rest to greedy's answer. Assumes nothing.
-use Rattle.std.specs.Prelude.{◌≡◌, refl, List, [], ◌∷◌, ℕ, ◌+◌, ◌-◌, ◌*◌, ◌≤◌, ◌<◌, length}
+use Rattle.std.specs.Prelude.{◌≡◌, refl, List, [], ◌∷◌, ℕ, ◌+◌, ◌-◌, ◌*◌, ◌≤◌, ◌<◌, length, Err, Ok}
 use Rattle.std.proofs.Common.{sym, ◌∙◌, ap, arith}
 use Rattle.std.proofs.Math.Path.{ap₂}
 use Rattle.std.proofs.Math.Decide.{dec_le}
@@ -7,7 +7,7 @@ use Rattle.std.proofs.lemmas.List.{length-map}
 use Rattle.spec.specs.Memory.{over}
 use Rattle.spec.specs.Network.{Network}
 use Rattle.spec.specs.Tree.{Tree, leaf, number, Pair, flat_of}
-use Rattle.spec.specs.Refusal.{table_too_wide, refused, done}
+use Rattle.spec.specs.declared.Refusal.TheVariants.{TableTooWide}
 use Rattle.spec.specs.Greedy.{State, connect, Built, finish, leaves_of, greedy_from}
 use Rattle.laws.specs.GreedyMerging.{connect_some}
 use Rattle.laws.specs.ListLaws.{range_length}
@@ -19,8 +19,8 @@ use Rattle.greedynodes.specs.Begin.{Asks, given, ghost, state_is}
 -- what greedy over a list of leaves answers: 65536 if it is refused, and else the number of the tree that is built; the array's children
 -- stand at the front of `kids`
 pub data Greedied (N : Network) (a : List Pair) (leaves kids₀ kids : List ℕ) (r : ℕ) : Type 0 where
-  is_refused : r ≡ 65536 → greedy_from N a (leaves_of leaves) ≡ refused table_too_wide → Greedied N a leaves kids₀ kids r
-  is_built : r < 65536 → (b : Built) → greedy_from N a (leaves_of leaves) ≡ done b → kids ≡ over kids₀ (flat_of b.pairs)
+  is_refused : r ≡ 65536 → greedy_from N a (leaves_of leaves) ≡ Err TableTooWide → Greedied N a leaves kids₀ kids r
+  is_built : r < 65536 → (b : Built) → greedy_from N a (leaves_of leaves) ≡ Ok b → kids ≡ over kids₀ (flat_of b.pairs)
       → length b.pairs ≡ length a + (length leaves - 1) → (0 < length leaves → (t : Tree) × (b.tops ≡ t ∷ []) × (r ≡ number t))
       → Greedied N a leaves kids₀ kids r
 

@@ -1,10 +1,9 @@
 -- One turn of a growth, by the slots. Assumes nothing.
-use Rattle.std.specs.Prelude.{Bool, true, ◌≡◌, refl, ℕ, zero, suc, ◌+◌, ◌-◌, ◌≤◌, ◌<◌, Float, length, get_or, set, take}
+use Rattle.std.specs.Prelude.{Bool, true, ◌≡◌, refl, ℕ, zero, suc, ◌+◌, ◌-◌, ◌≤◌, ◌<◌, Float, length, get_or, set, take, Option, None, Some}
 use Rattle.std.proofs.Math.Bool.{false, cond}
 use Rattle.std.proofs.Math.Path.{sym, ap}
 use Rattle.std.proofs.Common.{◌∙◌, arith, add-one}
 use mathlib.Core.List.{List}
-use Rattle.std.proofs.Math.Option.{Option, none, some}
 use Rattle.std.specs.Float.Ieee.{binary64, add, le}
 use Rattle.std.proofs.Math.ListN.{replicate}
 use Rattle.spec.specs.Floats.{zero_float}
@@ -38,21 +37,21 @@ module _ (ws : List ℕ) (nets vertices m n : ℕ) (weights : List ℕ) (vw : Li
     new p y = grown_on G p y (fold_over (linked_by G) (nets_at G v) links) (strongest G p (fold_over (linked_by G) (nets_at G v) links) (words_at words at))
 
     turned : (b : Bool) → le goal x ≡ b
-        → growth_turn G (some v) (growth_of part w links (some v) (words_at words at)) ≡ cond b (growth_of part' x links none (words_at words at)) (new part' x)
+        → growth_turn G (Some v) (growth_of part w links (Some v) (words_at words at)) ≡ cond b (growth_of part' x links None (words_at words at)) (new part' x)
     unfolding graph_in
     turned b e =
         let y : add binary64 w (get_or vw v zero_float) ≡ x = ap (add binary64 w) (sym eg) ∙ sym ex in
-        (λ i. cond (le (half G) (y i)) (growth_of (set part v 1) (y i) links none (words_at words at)) (new (set part v 1) (y i)))
-        ∙ (λ i. cond (le (half G) x) (growth_of (sym ep i) x links none (words_at words at)) (new (sym ep i) x))
-        ∙ ap (λ (t : Bool). cond t (growth_of part' x links none (words_at words at)) (new part' x)) (ap (λ (f : Float). le f x) (sym eh) ∙ e)
+        (λ i. cond (le (half G) (y i)) (growth_of (set part v 1) (y i) links None (words_at words at)) (new (set part v 1) (y i)))
+        ∙ (λ i. cond (le (half G) x) (growth_of (sym ep i) x links None (words_at words at)) (new (sym ep i) x))
+        ∙ ap (λ (t : Bool). cond t (growth_of part' x links None (words_at words at)) (new part' x)) (ap (λ (f : Float). le f x) (sym eh) ∙ e)
 
-    pub turned_end : le goal x ≡ true → growth_of part' x links none (words_at words at) ≡ growth_turn G (some v) (growth_of part w links (some v) (words_at words at))
+    pub turned_end : le goal x ≡ true → growth_of part' x links None (words_at words at) ≡ growth_turn G (Some v) (growth_of part w links (Some v) (words_at words at))
     turned_end e = sym (turned true e)
 
     pub turned_on : (links' : List Float) (list : List ℕ) (len at' u : ℕ) (found : Bool) (link : Float) → v < n → length vw ≡ n → length links' ≡ n → le goal x ≡ false
         → take len list ≡ rising_of ws 4 (vertices + v) → links' ≡ linked_nets ws nets weights (take len list) links
         → strong_in link (mate_if found u) (words_at words at') ≡ strongest_in part' links' (length links') (words_at words at)
-        → growth_of part' x links' (mate_if found u) (words_at words at') ≡ growth_turn G (some v) (growth_of part w links (some v) (words_at words at))
+        → growth_of part' x links' (mate_if found u) (words_at words at') ≡ growth_turn G (Some v) (growth_of part w links (Some v) (words_at words at))
     unfolding graph_in
     turned_on links' list len at' u found link b ev el e f z s =
         let k : links' ≡ fold_over (linked_by G) (nets_at G v) links = z ∙ ap (λ l. linked_nets ws nets weights l links) f ∙ sym (links_laid v links b) in
@@ -66,13 +65,13 @@ module _ (G : Hypergraph) where
   abbrev pub grown_from : ℕ → Growth → Growth
   grown_from k g = until k (λ x. ended G x.next) (λ x. growth_turn G x.next x) g
 
-  stopped : (k : ℕ) (g : Growth) → g.next ≡ none → grown_from k g ≡ g
+  stopped : (k : ℕ) (g : Growth) → g.next ≡ None → grown_from k g ≡ g
   stopped zero g e = refl
   stopped (suc k) g e = ap (λ (o : Option ℕ). cond (ended G o) g (grown_from k (growth_turn G o g))) e
 
   one_more : (k : ℕ) (g : Growth) (o : Option ℕ) → g.next ≡ o → grown_from (suc k) g ≡ grown_from k (growth_turn G o g)
-  one_more k g none e = stopped (suc k) g e ∙ sym (stopped k g e)
-  one_more k g (some v) e = ap (λ (o : Option ℕ). cond (ended G o) g (grown_from k (growth_turn G o g))) e
+  one_more k g None e = stopped (suc k) g e ∙ sym (stopped k g e)
+  one_more k g (Some v) e = ap (λ (o : Option ℕ). cond (ended G o) g (grown_from k (growth_turn G o g))) e
 
   -- one turn more
   pub grown_next : (n k : ℕ) (s g r : Growth) → k < n → grown_from n s ≡ grown_from (n - k) g → r ≡ growth_turn G g.next g → grown_from n s ≡ grown_from (n - (k + 1)) r
@@ -92,10 +91,10 @@ module _ (ws : List ℕ) (nets m : ℕ) (weights : List ℕ) (vw : List Float) w
   pub grown_is : (words part part' part'' : List ℕ) (links links' : List Float) (at at' at'' v : ℕ) (w : Float) (next : Option ℕ)
       → length part ≡ length vw → part' ≡ filled (length part) 0 → links ≡ filled (length vw) zero_float
       → v ≡ (index_draw (length vw) (words_at words at)).value → words_at words at' ≡ (draw (words_at words at)).words
-      → growth_of part'' w links' next (words_at words at'') ≡ grown_from (graph_in ws nets weights m vw) (length vw + 1) (growth_of part' zero_float links (some v) (words_at words at'))
+      → growth_of part'' w links' next (words_at words at'') ≡ grown_from (graph_in ws nets weights m vw) (length vw + 1) (growth_of part' zero_float links (Some v) (words_at words at'))
       → drawn part'' (words_at words at'') ≡ part_grown (graph_in ws nets weights m vw) (words_at words at)
   unfolding graph_in filled
   grown_is words part part' part'' links links' at at' at'' v w next ep e₁ e₂ ev ew e =
       let p : part' ≡ replicate (length vw) 0 = e₁ ∙ ap (λ (k : ℕ). replicate k 0) ep in
       ap (λ (g : Growth). drawn g.part g.words)
-      (e ∙ (λ i. grown_from (graph_in ws nets weights m vw) (add-one (length vw) i) (growth_of (p i) zero_float (e₂ i) (some (ev i)) (ew i))))
+      (e ∙ (λ i. grown_from (graph_in ws nets weights m vw) (add-one (length vw) i) (growth_of (p i) zero_float (e₂ i) (Some (ev i)) (ew i))))

@@ -1,7 +1,6 @@
 -- How strongly vertices are connected to the side that grows, in lent lists. Assumes nothing.
-use Rattle.std.specs.Prelude.{Bool, true, false, cond, ◌≡◌, refl, List, [], ◌∷◌, ℕ, ◌+◌, eqb, Float, length, get_or, set}
+use Rattle.std.specs.Prelude.{Bool, true, false, cond, ◌≡◌, refl, List, [], ◌∷◌, ℕ, ◌+◌, eqb, Float, length, get_or, set, Option, None, Some}
 use Rattle.std.proofs.Common.{sym, ap, ◌∙◌, length-set, eq-eqb, ne_eqb}
-use Rattle.std.proofs.Math.Option.{Option, none, some}
 use Rattle.std.specs.Float.{binary64}
 use Rattle.std.specs.Float.Ieee.{add, mul, neg, lt}
 use Rattle.spec.specs.Lists.{range}
@@ -21,11 +20,11 @@ offered_in part links u c =
     let d = unit_draw c.words in
     let link = add binary64 (get_or links u zero_float) (mul binary64 micro d.value) in
     let better = lt c.link link in
-    let new : Strongest = record { link = cond better link c.link; vertex = cond better (some u) c.vertex; words = d.words } in
+    let new : Strongest = record { link = cond better link c.link; vertex = cond better (Some u) c.vertex; words = d.words } in
     cond (eqb (get_or part u 0) 0) new c
 
 abbrev pub strongest_in : List ℕ → List Float → ℕ → Words → Strongest
-strongest_in part links n ws = fold_over (offered_in part links) (range n) (strong_in (neg (whole_float 1)) none ws)
+strongest_in part links n ws = fold_over (offered_in part links) (range n) (strong_in (neg (whole_float 1)) None ws)
 
 -- ---- one vertex, by the lists ----
 
@@ -36,7 +35,7 @@ module _ (part : List ℕ) (links : List Float) (words : List ℕ) (u at next : 
   noisy x d = add binary64 x (mul binary64 micro d)
 
   abbrev chosen : Float → Bool → Words → Strongest
-  chosen x b ws = strong_in (cond b x best) (cond b (some u) vertex) ws
+  chosen x b ws = strong_in (cond b x best) (cond b (Some u) vertex) ws
 
   offered_by : (b : Bool) → lt best (noisy g noise) ≡ b → get_or part u 0 ≡ 0
       → chosen (noisy g noise) b (words_at words next) ≡ offered_in part links u (strong_in best vertex (words_at words at))
@@ -46,8 +45,8 @@ module _ (part : List ℕ) (links : List Float) (words : List ℕ) (u at next : 
       ∙ sym (ap (λ t. cond t (chosen (noisy (get_or links u zero_float) (unit_draw (words_at words at)).value) (lt best (noisy (get_or links u zero_float) (unit_draw (words_at words at)).value)) (draw (words_at words at)).words) (strong_in best vertex (words_at words at))) (eq-eqb (get_or part u 0) 0 z))
 
   pub offered_better : (x : Float) → x ≡ noisy g noise → lt best x ≡ true → get_or part u 0 ≡ 0
-      → strong_in x (some u) (words_at words next) ≡ offered_in part links u (strong_in best vertex (words_at words at))
-  offered_better x ex p z = ap (λ x. strong_in x (some u) (words_at words next)) ex ∙ offered_by true (ap (lt best) (sym ex) ∙ p) z
+      → strong_in x (Some u) (words_at words next) ≡ offered_in part links u (strong_in best vertex (words_at words at))
+  offered_better x ex p z = ap (λ x. strong_in x (Some u) (words_at words next)) ex ∙ offered_by true (ap (lt best) (sym ex) ∙ p) z
 
   pub offered_weak : (x : Float) → x ≡ noisy g noise → lt best x ≡ false → get_or part u 0 ≡ 0
       → strong_in best vertex (words_at words next) ≡ offered_in part links u (strong_in best vertex (words_at words at))

@@ -1,10 +1,9 @@
 #![tactic(auto)]
 // A side that grows along its nets: how strongly the other vertices are connected to it.
-ghost use Rattle.std.specs.Prelude.{◌≡◌, ◌+◌, ◌<◌, ◌≤◌, length, take};
+ghost use Rattle.std.specs.Prelude.{◌≡◌, ◌+◌, ◌<◌, ◌≤◌, length, take, Some};
 ghost use Rattle.spec.specs.Floats.{whole_float};
 ghost use Rattle.spec.specs.Draws.{drawn};
 ghost use Rattle.draws.specs.Cursor.{words_at};
-ghost use Rattle.std.proofs.Math.Option.{some};
 ghost use Rattle.spec.specs.Bisection.{half, growth_turn};
 ghost use Rattle.partition.specs.Layout.{graph_in};
 ghost use Rattle.matching.specs.Choices.{mate_if};
@@ -147,7 +146,7 @@ fn grow(
     growth: Growth,
 ) -> Growth
     requires { (nets < 32768) × (vertices < 32768) × (growth.next < length vw.now) × (length links.old ≡ length vw.now) × Meshed graph.now nets vertices m (length vw.now) × (goal ≡ half (graph_in graph.now nets weights.now m vw.now)) }
-    ensures { (growth_of part.new result.weight links.new (mate_if result.found result.next) (words_at words.now result.at) ≡ growth_turn (graph_in graph.now nets weights.now m vw.now) (some growth.next) (growth_of part.old growth.weight links.old (some growth.next) (words_at words.now growth.at))) × (result.next < length vw.now) × (length part.new ≡ length part.old) × (length links.new ≡ length links.old) }
+    ensures { (growth_of part.new result.weight links.new (mate_if result.found result.next) (words_at words.now result.at) ≡ growth_turn (graph_in graph.now nets weights.now m vw.now) (Some growth.next) (growth_of part.old growth.weight links.old (Some growth.next) (words_at words.now growth.at))) × (result.next < length vw.now) × (length part.new ≡ length part.old) × (length links.new ≡ length links.old) }
 {
     let v = growth.next;
     cells::put8(part, v, 1);

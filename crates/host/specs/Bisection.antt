@@ -1,12 +1,13 @@
 -- What bisection of a network in memory promises: the number, the tree, the workspace, the answer. Assumes nothing.
-use Rattle.std.specs.Prelude.{◌≡◌, Bool, cond, ℕ, ◌≤◌, ◌<◌, ltb, length, set}
+use Rattle.std.specs.Prelude.{◌≡◌, Bool, cond, ℕ, ◌≤◌, ◌<◌, ltb, length, set, Option, None, Some, Result, Err, Ok}
 use Rattle.std.proofs.Math.Path.{refl, sym, ap}
 use Rattle.std.proofs.Common.{◌∙◌, arith, lt-ltb, le-ltb}
 use Rattle.std.proofs.Math.Bool.{true, false}
 use mathlib.Core.List.{List, [], ◌∷◌, ◌++◌}
-use Rattle.std.proofs.Math.Option.{Option, none, some}
+use Rattle.spec.specs.declared.Refusal.{Refusal}
+use Rattle.spec.specs.declared.Refusal.TheVariants.{TooLarge, ShortBuffer}
 use Rattle.spec.specs.Memory.{cleared, over}
-use Rattle.spec.specs.Refusal.{Refusal, too_large, short_buffer, number_of, code_of, Check, Result, refused, done, decide, checked}
+use Rattle.spec.specs.Refusal.{number_of, code_of, Check, decide, checked}
 use Rattle.spec.specs.FileClaims.{refusal_in}
 use Rattle.spec.specs.Network.{Network, leaf_count, network_checks, refusal_of}
 use Rattle.spec.specs.Tree.{valid}
@@ -23,12 +24,12 @@ use Rattle.bisection.specs.declared.Bisected.TheVariants.{Refused, Done}
 use Rattle.bisection.specs.Answers.{answer_of}
 
 -- every list follows the call c, and an answered tree is valid
-pub record Follows (N : Network) (c : Result spec.Bisected) (tree₀ ws₀ answer₀ tree ws answer : List ℕ) (r : ℕ) : Type 0 where
+pub record Follows (N : Network) (c : Result spec.Bisected Refusal) (tree₀ ws₀ answer₀ tree ws answer : List ℕ) (r : ℕ) : Type 0 where
   pub number : r ≡ code_of (refusal_in c)
   pub plan : tree ≡ bisected_tree c tree₀
   pub workspace : ws ≡ workspace_after bisection_words c ws₀
   pub answer_is : answer ≡ taken_after c answer₀
-  pub sound : (b : spec.Bisected) → c ≡ done b → valid (leaf_count N) b.pairs ≡ true
+  pub sound : (b : spec.Bisected) → c ≡ Ok b → valid (leaf_count N) b.pairs ≡ true
 
 -- the whole promise: the call is `memory_bisection_call`
 abbrev pub MemoryBisects : (N : Network) (i cutoff : ℕ) (draws tree₀ ws₀ answer₀ tree ws answer : List ℕ) (r : ℕ) → Type 0
@@ -45,51 +46,51 @@ one_over (x ∷ y ∷ l) a = refl
 
 -- ---- what bisection's answer comes from ----
 
-of_refused : (x : Result spec.Bisected) {k : ℕ} → Refused k ≡ answer_of x → (r : Refusal) × (x ≡ refused r) × (k ≡ number_of r)
-of_refused (refused r) {k} e = let w : k ≡ number_of r = cc in (r, refl, w)
-of_refused (done b) {k} e = absurd (let w : ◌≡◌ {A = ℕ} 0 1 = cc in omega arith)
+of_refused : (x : Result spec.Bisected Refusal) {k : ℕ} → Refused k ≡ answer_of x → (r : Refusal) × (x ≡ Err r) × (k ≡ number_of r)
+of_refused (Err r) {k} e = let w : k ≡ number_of r = cc in (r, refl, w)
+of_refused (Ok b) {k} e = absurd (let w : ◌≡◌ {A = ℕ} 0 1 = cc in omega arith)
 
-of_done : (x : Result spec.Bisected) {k : ℕ} → Done k ≡ answer_of x → (b : spec.Bisected) × (x ≡ done b) × (k ≡ b.taken)
-of_done (refused r) {k} e = absurd (let w : ◌≡◌ {A = ℕ} 0 1 = cc in omega arith)
-of_done (done b) {k} e = let w : k ≡ b.taken = cc in (b, refl, w)
+of_done : (x : Result spec.Bisected Refusal) {k : ℕ} → Done k ≡ answer_of x → (b : spec.Bisected) × (x ≡ Ok b) × (k ≡ b.taken)
+of_done (Err r) {k} e = absurd (let w : ◌≡◌ {A = ℕ} 0 1 = cc in omega arith)
+of_done (Ok b) {k} e = let w : k ≡ b.taken = cc in (b, refl, w)
 
 -- ---- the call ----
 
 module _ (N : Network) (i cutoff : ℕ) (draws tree₀ ws₀ answer₀ : List ℕ) where
-  abbrev own : Result spec.Bisected
+  abbrev own : Result spec.Bisected Refusal
   own = memory_bisection_call (length answer₀) N i cutoff draws (length ws₀) (length tree₀)
 
-  abbrev bisecting : Result spec.Bisected
+  abbrev bisecting : Result spec.Bisected Refusal
   bisecting = bisection_call N i cutoff draws (length ws₀) (length tree₀)
 
   abbrev short : List Check
   short = length_check (lent (length answer₀) 1 ∷ []) ∷ []
 
-  sound_of : (b : spec.Bisected) → own ≡ done b → valid (leaf_count N) b.pairs ≡ true
+  sound_of : (b : spec.Bisected) → own ≡ Ok b → valid (leaf_count N) b.pairs ≡ true
   unfolding memory_bisection_call bisection_call
   sound_of b e =
-      let q : bisecting ≡ done b = (checked_done (network_checks (ltb 1000 i) N ++ short) bisecting b e).1 in
+      let q : bisecting ≡ Ok b = (checked_done (network_checks (ltb 1000 i) N ++ short) bisecting b e).1 in
       bisection_valid N i cutoff draws b (checked_done (bisection_checks N i (length ws₀) (length tree₀)) (bisection N i cutoff draws) b q).1
 
   -- a refusal by 3 to 7 leaves every list as it was
-  stays : (x : Refusal) {r : ℕ} → own ≡ refused x → touches x ≡ false → r ≡ number_of x
+  stays : (x : Refusal) {r : ℕ} → own ≡ Err x → touches x ≡ false → r ≡ number_of x
       → MemoryBisects N i cutoff draws tree₀ ws₀ answer₀ tree₀ ws₀ answer₀ r
   stays x e t q =
       record {
-        number = q ∙ sym (ap (λ (c : Result spec.Bisected). code_of (refusal_in c)) e);
-        plan = sym (ap (λ (c : Result spec.Bisected). bisected_tree c tree₀) e);
+        number = q ∙ sym (ap (λ (c : Result spec.Bisected Refusal). code_of (refusal_in c)) e);
+        plan = sym (ap (λ (c : Result spec.Bisected Refusal). bisected_tree c tree₀) e);
         workspace =
-            sym (ap (λ (c : Result spec.Bisected). workspace_after bisection_words c ws₀) e ∙ ap (λ (b : Bool). cond b (cleared ws₀ bisection_words) ws₀) t);
-        answer_is = sym (ap (λ (c : Result spec.Bisected). taken_after c answer₀) e);
+            sym (ap (λ (c : Result spec.Bisected Refusal). workspace_after bisection_words c ws₀) e ∙ ap (λ (b : Bool). cond b (cleared ws₀ bisection_words) ws₀) t);
+        answer_is = sym (ap (λ (c : Result spec.Bisected Refusal). taken_after c answer₀) e);
         sound = sound_of;
       }
 
   -- too much imbalance
   pub too_uneven : 1000 < i → MemoryBisects N i cutoff draws tree₀ ws₀ answer₀ tree₀ ws₀ answer₀ 3
   unfolding memory_bisection_call
-  too_uneven h = stays too_large (large (ltb 1000 i) (lt-ltb 1000 i h)) refl refl
+  too_uneven h = stays TooLarge (large (ltb 1000 i) (lt-ltb 1000 i h)) refl refl
     where
-      large : (b : Bool) → b ≡ true → checked (network_checks b N ++ short) bisecting ≡ refused too_large
+      large : (b : Bool) → b ≡ true → checked (network_checks b N ++ short) bisecting ≡ Err TooLarge
       large b e = rw e
 
   module _ (few : i ≤ 1000) where
@@ -98,10 +99,10 @@ module _ (N : Network) (i cutoff : ℕ) (draws tree₀ ws₀ answer₀ : List �
     in_parts =
         ap (λ (b : Bool). checked (network_checks b N ++ short) bisecting) (le-ltb 1000 i few) ∙ checked-append (network_checks false N) short bisecting
 
-    as_refused : (x : Refusal) → refusal_of N ≡ some x → own ≡ refused x
+    as_refused : (x : Refusal) → refusal_of N ≡ Some x → own ≡ Err x
     as_refused x e = in_parts ∙ ap (λ (o : Option Refusal). decide o (checked short bisecting)) e
 
-    as_short : refusal_of N ≡ none → length answer₀ < 1 → own ≡ refused short_buffer
+    as_short : refusal_of N ≡ None → length answer₀ < 1 → own ≡ Err ShortBuffer
     as_short e h = in_parts ∙ ap (λ (o : Option Refusal). decide o (checked short bisecting)) e ∙ rw (lt-ltb (length answer₀) 1 h)
 
     -- with room for the answer the call is bisection's
@@ -119,13 +120,13 @@ module _ (N : Network) (i cutoff : ℕ) (draws tree₀ ws₀ answer₀ : List �
         ∙ sym split
 
     -- a count above its limit
-    pub large_network : refusal_of N ≡ some too_large → MemoryBisects N i cutoff draws tree₀ ws₀ answer₀ tree₀ ws₀ answer₀ 3
-    large_network e = stays too_large (as_refused too_large e) refl refl
+    pub large_network : refusal_of N ≡ Some TooLarge → MemoryBisects N i cutoff draws tree₀ ws₀ answer₀ tree₀ ws₀ answer₀ 3
+    large_network e = stays TooLarge (as_refused TooLarge e) refl refl
 
     short_cases : (o : Option Refusal) {r : ℕ} → refusal_of N ≡ o → length answer₀ < 1 → r ≡ or_short o
         → MemoryBisects N i cutoff draws tree₀ ws₀ answer₀ tree₀ ws₀ answer₀ r
-    short_cases none e h q = stays short_buffer (as_short e h) refl q
-    short_cases (some x) e h q = stays x (as_refused x e) (untouched N x e) q
+    short_cases None e h q = stays ShortBuffer (as_short e h) refl q
+    short_cases (Some x) e h q = stays x (as_refused x e) (untouched N x e) q
 
     pub short_answer : {M : Network} {r : ℕ} → M ≡ N → length answer₀ < 1 → r ≡ or_short (refusal_of M)
         → MemoryBisects N i cutoff draws tree₀ ws₀ answer₀ tree₀ ws₀ answer₀ r
@@ -145,8 +146,8 @@ module _ (N : Network) (i cutoff : ℕ) (draws tree₀ ws₀ answer₀ : List �
         follows q b =
             record {
               number = q;
-              plan = t ∙ ap (λ (c : Result spec.Bisected). bisected_tree c tree₀) same;
-              workspace = w ∙ ap (λ (c : Result spec.Bisected). workspace_after bisection_words c ws₀) same;
+              plan = t ∙ ap (λ (c : Result spec.Bisected Refusal). bisected_tree c tree₀) same;
+              workspace = w ∙ ap (λ (c : Result spec.Bisected Refusal). workspace_after bisection_words c ws₀) same;
               answer_is = b;
               sound = sound_of;
             }
@@ -154,11 +155,11 @@ module _ (N : Network) (i cutoff : ℕ) (draws tree₀ ws₀ answer₀ : List �
         pub bisect_refused : {r : ℕ} → x ≡ Refused r → MemoryBisects N i cutoff draws tree₀ ws₀ answer₀ tree ws answer₀ r
         bisect_refused e =
             let (y, z, q) = of_refused own (sym e ∙ a ∙ ap answer_of same) in
-            follows (q ∙ sym (ap (λ (c : Result spec.Bisected). code_of (refusal_in c)) z)) (sym (ap (λ (c : Result spec.Bisected). taken_after c answer₀) z))
+            follows (q ∙ sym (ap (λ (c : Result spec.Bisected Refusal). code_of (refusal_in c)) z)) (sym (ap (λ (c : Result spec.Bisected Refusal). taken_after c answer₀) z))
 
         pub bisect_done : {answer : List ℕ} {taken : ℕ} → x ≡ Done taken → answer ≡ set answer₀ 0 taken
             → MemoryBisects N i cutoff draws tree₀ ws₀ answer₀ tree ws answer 0
         bisect_done {answer} {taken} e b =
             let (y, z, q) = of_done own (sym e ∙ a ∙ ap answer_of same) in
-            follows (sym (ap (λ (c : Result spec.Bisected). code_of (refusal_in c)) z))
-            (b ∙ one_over answer₀ taken ∙ ap (λ (k : ℕ). over answer₀ (k ∷ [])) q ∙ sym (ap (λ (c : Result spec.Bisected). taken_after c answer₀) z))
+            follows (sym (ap (λ (c : Result spec.Bisected Refusal). code_of (refusal_in c)) z))
+            (b ∙ one_over answer₀ taken ∙ ap (λ (k : ℕ). over answer₀ (k ∷ [])) q ∙ sym (ap (λ (c : Result spec.Bisected Refusal). taken_after c answer₀) z))

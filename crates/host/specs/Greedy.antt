@@ -1,8 +1,9 @@
 -- What greedy on a network in memory promises: the number, the tree, the workspace. Assumes nothing.
-use Rattle.std.specs.Prelude.{◌≡◌, refl, true, List, ℕ, length}
+use Rattle.std.specs.Prelude.{◌≡◌, refl, true, List, ℕ, length, Some, Result, Err, Ok}
 use Rattle.std.proofs.Common.{sym, ap, ◌∙◌, arith}
-use Rattle.std.proofs.Math.Option.{some}
-use Rattle.spec.specs.Refusal.{too_large, code_of, Result, refused, done}
+use Rattle.spec.specs.declared.Refusal.TheVariants.{TooLarge}
+use Rattle.spec.specs.declared.Refusal.{Refusal}
+use Rattle.spec.specs.Refusal.{code_of}
 use Rattle.spec.specs.FileClaims.{refusal_in}
 use Rattle.spec.specs.Network.{Network, leaf_count, refusal_of}
 use Rattle.spec.specs.Tree.{Pair, flat_of, valid}
@@ -20,27 +21,27 @@ pub record MemoryGreedy (N : Network) (tree₀ ws₀ tree ws : List ℕ) (r : �
   pub number : r ≡ code_of (refusal_in (greedy_call N (length ws₀) (length tree₀)))
   pub plan : tree ≡ greedy_tree (greedy_call N (length ws₀) (length tree₀)) tree₀
   pub workspace : ws ≡ workspace_after plain_words (greedy_call N (length ws₀) (length tree₀)) ws₀
-  pub sound : (a : List Pair) → greedy_call N (length ws₀) (length tree₀) ≡ done a → valid (leaf_count N) a ≡ true
+  pub sound : (a : List Pair) → greedy_call N (length ws₀) (length tree₀) ≡ Ok a → valid (leaf_count N) a ≡ true
 
 -- the number that stands for greedy's answer
 abbrev pub planned_number : Planned → ℕ
 planned_number (Refused k) = k
 planned_number Done = 0
 
-number_of : (c : Result (List Pair)) → planned_number (planned_of c) ≡ code_of (refusal_in c)
-number_of (refused r) = refl
-number_of (done a) = refl
+number_of : (c : Result (List Pair) Refusal) → planned_number (planned_of c) ≡ code_of (refusal_in c)
+number_of (Err r) = refl
+number_of (Ok a) = refl
 
 module _ (N : Network) (tree₀ ws₀ : List ℕ) where
-  abbrev call : Result (List Pair)
+  abbrev call : Result (List Pair) Refusal
   call = greedy_call N (length ws₀) (length tree₀)
 
-  sound_of : (a : List Pair) → call ≡ done a → valid (leaf_count N) a ≡ true
+  sound_of : (a : List Pair) → call ≡ Ok a → valid (leaf_count N) a ≡ true
   unfolding greedy_call
   sound_of a e = greedy_valid N a (checked_done (greedy_checks N (length ws₀) (length tree₀)) (greedy N) a e).1
 
   -- a count above its limit
-  pub plan_large : refusal_of N ≡ some too_large → MemoryGreedy N tree₀ ws₀ tree₀ ws₀ 3
+  pub plan_large : refusal_of N ≡ Some TooLarge → MemoryGreedy N tree₀ ws₀ tree₀ ws₀ 3
   plan_large e =
       let u : Untouched 3 call = greedy_refused N (length ws₀) (length tree₀) 3 (sym (ap code_of e)) (λ z. omega arith) in
       record {

@@ -1,12 +1,13 @@
 -- What improvement on a network in memory promises: the number, the tree, the workspace, the answer. Assumes nothing.
-use Rattle.std.specs.Prelude.{◌≡◌, Bool, cond, ℕ, ◌≤◌, ◌<◌, ltb, length, set}
+use Rattle.std.specs.Prelude.{◌≡◌, Bool, cond, ℕ, ◌≤◌, ◌<◌, ltb, length, set, Option, None, Some, Result, Err, Ok}
 use Rattle.std.proofs.Math.Path.{refl, sym, ap}
 use Rattle.std.proofs.Common.{◌∙◌, subst, arith, lt-ltb, le-ltb}
 use Rattle.std.proofs.Math.Bool.{true, false}
 use mathlib.Core.List.{List, [], ◌∷◌, ◌++◌}
-use Rattle.std.proofs.Math.Option.{Option, none, some}
+use Rattle.spec.specs.declared.Refusal.{Refusal}
+use Rattle.spec.specs.declared.Refusal.TheVariants.{TooLarge, ShortBuffer}
 use Rattle.spec.specs.Memory.{cleared, over}
-use Rattle.spec.specs.Refusal.{Refusal, too_large, short_buffer, number_of, code_of, Check, Result, refused, done, decide, checked}
+use Rattle.spec.specs.Refusal.{number_of, code_of, Check, decide, checked}
 use Rattle.spec.specs.FileClaims.{refusal_in}
 use Rattle.spec.specs.Network.{Network, network_checks, refusal_of}
 use Rattle.spec.specs.Tree.{pairs_of}
@@ -22,7 +23,7 @@ use Rattle.reconfigure.specs.declared.Improved.TheVariants.{Refused, Done}
 use Rattle.reconfigure.specs.Answers.{answer_of, counts_of, Reconfigures}
 
 -- every list follows the call c
-pub record Follows (c : Result spec.Improved) (stated : ℕ) (kids₀ ws₀ answer₀ kids ws answer : List ℕ) (r : ℕ) : Type 0 where
+pub record Follows (c : Result spec.Improved Refusal) (stated : ℕ) (kids₀ ws₀ answer₀ kids ws answer : List ℕ) (r : ℕ) : Type 0 where
   pub number : r ≡ code_of (refusal_in c)
   pub tree : kids ≡ improved_tree c kids₀
   pub workspace : ws ≡ workspace_after stated c ws₀
@@ -35,11 +36,11 @@ MemoryReconfigures N k passes limit flags kids₀ ws₀ answer₀ kids ws answer
 
 -- ---- the limit, and two numbers over the front of a list ----
 
-pub limit_bits : (x y : ℕ) → x < 65536 → y ≡ x → some y ≡ limit_number x
-limit_bits x y h e = ap some e ∙ sym (ap (λ (b : Bool). cond b (some x) none) (lt-ltb x 65536 h))
+pub limit_bits : (x y : ℕ) → x < 65536 → y ≡ x → Some y ≡ limit_number x
+limit_bits x y h e = ap Some e ∙ sym (ap (λ (b : Bool). cond b (Some x) None) (lt-ltb x 65536 h))
 
-pub limit_none : (x : ℕ) → 65536 ≤ x → none ≡ limit_number x
-limit_none x h = sym (ap (λ (b : Bool). cond b (some x) none) (le-ltb x 65536 h))
+pub limit_none : (x : ℕ) → 65536 ≤ x → None ≡ limit_number x
+limit_none x h = sym (ap (λ (b : Bool). cond b (Some x) None) (le-ltb x 65536 h))
 
 two_over : (l : List ℕ) (a b : ℕ) → set (set l 0 a) 1 b ≡ over l (a ∷ b ∷ [])
 unfolding over
@@ -53,44 +54,44 @@ counts_put l a b p q = q ∙ ap (λ (t : List ℕ). set t 1 b) p ∙ two_over l 
 
 -- ---- what improvement's answer comes from ----
 
-of_refused : (x : Result spec.Improved) {k : ℕ} → Refused k ≡ answer_of x → (r : Refusal) × (x ≡ refused r) × (k ≡ number_of r)
-of_refused (refused r) {k} e = let w : k ≡ number_of r = cc in (r, refl, w)
-of_refused (done d) {k} e = absurd (let w : ◌≡◌ {A = ℕ} 0 1 = cc in omega arith)
+of_refused : (x : Result spec.Improved Refusal) {k : ℕ} → Refused k ≡ answer_of x → (r : Refusal) × (x ≡ Err r) × (k ≡ number_of r)
+of_refused (Err r) {k} e = let w : k ≡ number_of r = cc in (r, refl, w)
+of_refused (Ok d) {k} e = absurd (let w : ◌≡◌ {A = ℕ} 0 1 = cc in omega arith)
 
-of_done : (x : Result spec.Improved) {h : Visited} → Done h ≡ answer_of x → (d : spec.Improved) × (x ≡ done d) × (h ≡ counts_of d)
-of_done (refused r) {h} e = absurd (let w : ◌≡◌ {A = ℕ} 0 1 = cc in omega arith)
-of_done (done d) {h} e = let w : h ≡ counts_of d = cc in (d, refl, w)
+of_done : (x : Result spec.Improved Refusal) {h : Visited} → Done h ≡ answer_of x → (d : spec.Improved) × (x ≡ Ok d) × (h ≡ counts_of d)
+of_done (Err r) {h} e = absurd (let w : ◌≡◌ {A = ℕ} 0 1 = cc in omega arith)
+of_done (Ok d) {h} e = let w : h ≡ counts_of d = cc in (d, refl, w)
 
 -- ---- the call ----
 
 module _ (N : Network) (k passes : ℕ) (limit : Option ℕ) (flags kids₀ ws₀ answer₀ : List ℕ) where
-  abbrev own : Result spec.Improved
+  abbrev own : Result spec.Improved Refusal
   own = memory_improve_call (length answer₀) N k passes limit (length ws₀) flags kids₀
 
-  abbrev improving : Result spec.Improved
+  abbrev improving : Result spec.Improved Refusal
   improving = improve_call N k passes limit (length ws₀) flags kids₀
 
   abbrev short : List Check
   short = length_check (lent (length answer₀) 2 ∷ []) ∷ []
 
   -- a refusal by 3 to 7 leaves every list as it was
-  stays : (x : Refusal) {r : ℕ} → own ≡ refused x → touches x ≡ false → r ≡ number_of x
+  stays : (x : Refusal) {r : ℕ} → own ≡ Err x → touches x ≡ false → r ≡ number_of x
       → MemoryReconfigures N k passes limit flags kids₀ ws₀ answer₀ kids₀ ws₀ answer₀ r
   stays x e t q =
       record {
-        number = q ∙ sym (ap (λ (c : Result spec.Improved). code_of (refusal_in c)) e);
-        tree = sym (ap (λ (c : Result spec.Improved). improved_tree c kids₀) e);
+        number = q ∙ sym (ap (λ (c : Result spec.Improved Refusal). code_of (refusal_in c)) e);
+        tree = sym (ap (λ (c : Result spec.Improved Refusal). improved_tree c kids₀) e);
         workspace =
-            sym (ap (λ (c : Result spec.Improved). workspace_after (improve_words k) c ws₀) e ∙ ap (λ (b : Bool). cond b (cleared ws₀ (improve_words k)) ws₀) t);
-        answer_is = sym (ap (λ (c : Result spec.Improved). improve_after c answer₀) e);
+            sym (ap (λ (c : Result spec.Improved Refusal). workspace_after (improve_words k) c ws₀) e ∙ ap (λ (b : Bool). cond b (cleared ws₀ (improve_words k)) ws₀) t);
+        answer_is = sym (ap (λ (c : Result spec.Improved Refusal). improve_after c answer₀) e);
       }
 
   -- too many passes
   pub many_passes : 255 < passes → MemoryReconfigures N k passes limit flags kids₀ ws₀ answer₀ kids₀ ws₀ answer₀ 3
   unfolding memory_improve_call
-  many_passes h = stays too_large (large (ltb 255 passes) (lt-ltb 255 passes h)) refl refl
+  many_passes h = stays TooLarge (large (ltb 255 passes) (lt-ltb 255 passes h)) refl refl
     where
-      large : (b : Bool) → b ≡ true → checked (network_checks b N ++ short) improving ≡ refused too_large
+      large : (b : Bool) → b ≡ true → checked (network_checks b N ++ short) improving ≡ Err TooLarge
       large b e = rw e
 
   module _ (few : passes ≤ 255) where
@@ -99,10 +100,10 @@ module _ (N : Network) (k passes : ℕ) (limit : Option ℕ) (flags kids₀ ws�
     in_parts =
         ap (λ (b : Bool). checked (network_checks b N ++ short) improving) (le-ltb 255 passes few) ∙ checked-append (network_checks false N) short improving
 
-    as_refused : (x : Refusal) → refusal_of N ≡ some x → own ≡ refused x
+    as_refused : (x : Refusal) → refusal_of N ≡ Some x → own ≡ Err x
     as_refused x e = in_parts ∙ ap (λ (o : Option Refusal). decide o (checked short improving)) e
 
-    as_short : refusal_of N ≡ none → length answer₀ < 2 → own ≡ refused short_buffer
+    as_short : refusal_of N ≡ None → length answer₀ < 2 → own ≡ Err ShortBuffer
     as_short e h = in_parts ∙ ap (λ (o : Option Refusal). decide o (checked short improving)) e ∙ rw (lt-ltb (length answer₀) 2 h)
 
     -- with room for the answer the call is improvement's
@@ -116,7 +117,7 @@ module _ (N : Network) (k passes : ℕ) (limit : Option ℕ) (flags kids₀ ws�
         ∷ beyond_check N (flag_at flags) (pairs_of kids₀)
         ∷ dangling_check N
         ∷ [] in
-        let p : Result spec.Improved = done (improve N k passes limit (flag_at flags) (pairs_of kids₀)) in
+        let p : Result spec.Improved Refusal = Ok (improve N k passes limit (flag_at flags) (pairs_of kids₀)) in
         let split : improving ≡ decide (refusal_of N) (checked rest p) =
         ap (λ (b : Bool). checked (network_checks b N ++ rest) p) (le-ltb 255 passes few) ∙ checked-append (network_checks false N) rest p in
         in_parts
@@ -126,13 +127,13 @@ module _ (N : Network) (k passes : ℕ) (limit : Option ℕ) (flags kids₀ ws�
         ∙ sym split
 
     -- a count above its limit
-    pub large_network : refusal_of N ≡ some too_large → MemoryReconfigures N k passes limit flags kids₀ ws₀ answer₀ kids₀ ws₀ answer₀ 3
-    large_network e = stays too_large (as_refused too_large e) refl refl
+    pub large_network : refusal_of N ≡ Some TooLarge → MemoryReconfigures N k passes limit flags kids₀ ws₀ answer₀ kids₀ ws₀ answer₀ 3
+    large_network e = stays TooLarge (as_refused TooLarge e) refl refl
 
     short_cases : (o : Option Refusal) {r : ℕ} → refusal_of N ≡ o → length answer₀ < 2 → r ≡ or_short o
         → MemoryReconfigures N k passes limit flags kids₀ ws₀ answer₀ kids₀ ws₀ answer₀ r
-    short_cases none e h q = stays short_buffer (as_short e h) refl q
-    short_cases (some x) e h q = stays x (as_refused x e) (untouched N x e) q
+    short_cases None e h q = stays ShortBuffer (as_short e h) refl q
+    short_cases (Some x) e h q = stays x (as_refused x e) (untouched N x e) q
 
     pub short_answer : {M : Network} {r : ℕ} → M ≡ N → length answer₀ < 2 → r ≡ or_short (refusal_of M)
         → MemoryReconfigures N k passes limit flags kids₀ ws₀ answer₀ kids₀ ws₀ answer₀ r
@@ -145,10 +146,10 @@ module _ (N : Network) (k passes : ℕ) (limit : Option ℕ) (flags kids₀ ws�
       follows t q a =
           let s : own ≡ improving = as_improving h in
           record {
-            number = q ∙ sym (ap (λ (c : Result spec.Improved). code_of (refusal_in c)) s);
-            tree = t.answered.tree ∙ sym (ap (λ (c : Result spec.Improved). improved_tree c kids₀) s);
-            workspace = t.workspace ∙ sym (ap (λ (c : Result spec.Improved). workspace_after (improve_words k) c ws₀) s);
-            answer_is = a ∙ sym (ap (λ (c : Result spec.Improved). improve_after c answer₀) s);
+            number = q ∙ sym (ap (λ (c : Result spec.Improved Refusal). code_of (refusal_in c)) s);
+            tree = t.answered.tree ∙ sym (ap (λ (c : Result spec.Improved Refusal). improved_tree c kids₀) s);
+            workspace = t.workspace ∙ sym (ap (λ (c : Result spec.Improved Refusal). workspace_after (improve_words k) c ws₀) s);
+            answer_is = a ∙ sym (ap (λ (c : Result spec.Improved Refusal). improve_after c answer₀) s);
           }
 
       same : {M : Network} {l : Option ℕ} {kids ws : List ℕ} {x : Improved} → M ≡ N → l ≡ limit → Reconfigures M k passes l flags kids₀ ws₀ kids ws x
@@ -163,7 +164,7 @@ module _ (N : Network) (k passes : ℕ) (limit : Option ℕ) (flags kids₀ ws�
       improve_refused m l e t =
           let u = same m l t in
           let (y, z, q) = of_refused improving (sym e ∙ u.answered.answer) in
-          follows u (q ∙ sym (ap (λ (c : Result spec.Improved). code_of (refusal_in c)) z)) (sym (ap (λ (c : Result spec.Improved). improve_after c answer₀) z))
+          follows u (q ∙ sym (ap (λ (c : Result spec.Improved Refusal). code_of (refusal_in c)) z)) (sym (ap (λ (c : Result spec.Improved Refusal). improve_after c answer₀) z))
 
       pub improve_done : {M : Network} {l : Option ℕ} {kids ws answer : List ℕ} {x : Improved} {v : Visited} → M ≡ N → l ≡ limit → x ≡ Done v
           → Reconfigures M k passes l flags kids₀ ws₀ kids ws x → answer ≡ over answer₀ (v.rebuilt ∷ v.tried ∷ [])
@@ -171,5 +172,5 @@ module _ (N : Network) (k passes : ℕ) (limit : Option ℕ) (flags kids₀ ws�
       improve_done m l e t a =
           let u = same m l t in
           let (d, z, q) = of_done improving (sym e ∙ u.answered.answer) in
-          follows u (sym (ap (λ (c : Result spec.Improved). code_of (refusal_in c)) z))
-          (a ∙ ap (λ (v : Visited). over answer₀ (v.rebuilt ∷ v.tried ∷ [])) q ∙ sym (ap (λ (c : Result spec.Improved). improve_after c answer₀) z))
+          follows u (sym (ap (λ (c : Result spec.Improved Refusal). code_of (refusal_in c)) z))
+          (a ∙ ap (λ (v : Visited). over answer₀ (v.rebuilt ∷ v.tried ∷ [])) q ∙ sym (ap (λ (c : Result spec.Improved Refusal). improve_after c answer₀) z))

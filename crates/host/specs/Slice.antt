@@ -1,12 +1,13 @@
 -- What slicing of a network in memory promises: the number, the tree, the flags, the workspace, the answer. Assumes nothing.
-use Rattle.std.specs.Prelude.{◌≡◌, refl, Bool, cond, ℕ, ◌≤◌, ◌<◌, length}
+use Rattle.std.specs.Prelude.{◌≡◌, refl, Bool, cond, ℕ, ◌≤◌, ◌<◌, length, Option, None, Some, Result, Err, Ok}
 use Rattle.std.proofs.Math.Path.{sym, ap}
 use Rattle.std.proofs.Common.{◌∙◌, arith, lt-ltb, le-ltb}
 use Rattle.std.proofs.Math.Bool.{false}
 use mathlib.Core.List.{List, [], ◌∷◌}
-use Rattle.std.proofs.Math.Option.{Option, none, some}
+use Rattle.spec.specs.declared.Refusal.{Refusal}
+use Rattle.spec.specs.declared.Refusal.TheVariants.{TooLarge, ShortBuffer}
 use Rattle.spec.specs.Memory.{cleared, over}
-use Rattle.spec.specs.Refusal.{Refusal, too_large, short_buffer, number_of, code_of, Check, Result, refused, done, decide, checked}
+use Rattle.spec.specs.Refusal.{number_of, code_of, Check, decide, checked}
 use Rattle.spec.specs.FileClaims.{refusal_in}
 use Rattle.spec.specs.Network.{Network, index_count, network_checks, refusal_of}
 use Rattle.spec.specs.Tree.{pairs_of}
@@ -20,7 +21,7 @@ use Rattle.slicetree.specs.declared.Sliced.TheVariants.{Refused, Done}
 use Rattle.slicetree.specs.Answers.{sliced_of}
 
 -- every list follows the call c
-pub record Follows (N : Network) (c : Result Plan) (stated : ℕ) (kids₀ flags₀ ws₀ answer₀ kids flags ws answer : List ℕ) (r : ℕ) : Type 0 where
+pub record Follows (N : Network) (c : Result Plan Refusal) (stated : ℕ) (kids₀ flags₀ ws₀ answer₀ kids flags ws answer : List ℕ) (r : ℕ) : Type 0 where
   pub number : r ≡ code_of (refusal_in c)
   pub tree : kids ≡ sliced_tree c kids₀
   pub flags_are : flags ≡ sliced_flags N c flags₀
@@ -35,47 +36,47 @@ MemorySlices N improving target kids₀ flags₀ ws₀ answer₀ kids flags ws a
 
 -- ---- what slicing's answer comes from ----
 
-of_refused : (x : Result Plan) {k : ℕ} → Refused k ≡ sliced_of x → (r : Refusal) × (x ≡ refused r) × (k ≡ number_of r)
-of_refused (refused r) {k} e = let w : k ≡ number_of r = cc in (r, refl, w)
-of_refused (done p) {k} e = absurd (let w : ◌≡◌ {A = ℕ} 0 1 = cc in omega arith)
+of_refused : (x : Result Plan Refusal) {k : ℕ} → Refused k ≡ sliced_of x → (r : Refusal) × (x ≡ Err r) × (k ≡ number_of r)
+of_refused (Err r) {k} e = let w : k ≡ number_of r = cc in (r, refl, w)
+of_refused (Ok p) {k} e = absurd (let w : ◌≡◌ {A = ℕ} 0 1 = cc in omega arith)
 
-of_done : (x : Result Plan) {a b : ℕ} → Done a b ≡ sliced_of x → (p : Plan) × (x ≡ done p) × (a ≡ p.rebuilt) × (b ≡ p.tried)
-of_done (refused r) {a} {b} e = absurd (let w : ◌≡◌ {A = ℕ} 0 1 = cc in omega arith)
-of_done (done p) {a} {b} e = let w : a ≡ p.rebuilt = cc in let v : b ≡ p.tried = cc in (p, refl, w, v)
+of_done : (x : Result Plan Refusal) {a b : ℕ} → Done a b ≡ sliced_of x → (p : Plan) × (x ≡ Ok p) × (a ≡ p.rebuilt) × (b ≡ p.tried)
+of_done (Err r) {a} {b} e = absurd (let w : ◌≡◌ {A = ℕ} 0 1 = cc in omega arith)
+of_done (Ok p) {a} {b} e = let w : a ≡ p.rebuilt = cc in let v : b ≡ p.tried = cc in (p, refl, w, v)
 
 -- ---- the call ----
 
 module _ (N : Network) (improving : Bool) (target : ℕ) (kids₀ flags₀ ws₀ answer₀ : List ℕ) where
-  abbrev own : Result Plan
+  abbrev own : Result Plan Refusal
   own = memory_slice_call (length answer₀) N improving target (length ws₀) (length flags₀) kids₀
 
-  abbrev slicing : Result Plan
+  abbrev slicing : Result Plan Refusal
   slicing = slice_call N improving target (length ws₀) (length flags₀) kids₀
 
   abbrev short : List Check
   short = length_check (lent (length answer₀) 2 ∷ []) ∷ []
 
   -- a refusal by 3 to 7 leaves every list as it was
-  stays : (x : Refusal) {r : ℕ} → own ≡ refused x → touches x ≡ false → r ≡ number_of x
+  stays : (x : Refusal) {r : ℕ} → own ≡ Err x → touches x ≡ false → r ≡ number_of x
       → MemorySlices N improving target kids₀ flags₀ ws₀ answer₀ kids₀ flags₀ ws₀ answer₀ r
   stays x e t q =
       record {
-        number = q ∙ sym (ap (λ (c : Result Plan). code_of (refusal_in c)) e);
-        tree = sym (ap (λ (c : Result Plan). sliced_tree c kids₀) e);
-        flags_are = sym (ap (λ (c : Result Plan). sliced_flags N c flags₀) e);
+        number = q ∙ sym (ap (λ (c : Result Plan Refusal). code_of (refusal_in c)) e);
+        tree = sym (ap (λ (c : Result Plan Refusal). sliced_tree c kids₀) e);
+        flags_are = sym (ap (λ (c : Result Plan Refusal). sliced_flags N c flags₀) e);
         workspace =
-            sym (ap (λ (c : Result Plan). workspace_after (slice_words improving) c ws₀) e ∙ ap (λ (b : Bool). cond b (cleared ws₀ (slice_words improving)) ws₀) t);
-        answer_is = sym (ap (λ (c : Result Plan). slice_after c answer₀) e);
+            sym (ap (λ (c : Result Plan Refusal). workspace_after (slice_words improving) c ws₀) e ∙ ap (λ (b : Bool). cond b (cleared ws₀ (slice_words improving)) ws₀) t);
+        answer_is = sym (ap (λ (c : Result Plan Refusal). slice_after c answer₀) e);
       }
 
   in_parts : own ≡ decide (refusal_of N) (checked short slicing)
   unfolding memory_slice_call
   in_parts = checked-append (network_checks false N) short slicing
 
-  as_refused : (x : Refusal) → refusal_of N ≡ some x → own ≡ refused x
+  as_refused : (x : Refusal) → refusal_of N ≡ Some x → own ≡ Err x
   as_refused x e = in_parts ∙ ap (λ (o : Option Refusal). decide o (checked short slicing)) e
 
-  as_short : refusal_of N ≡ none → length answer₀ < 2 → own ≡ refused short_buffer
+  as_short : refusal_of N ≡ None → length answer₀ < 2 → own ≡ Err ShortBuffer
   as_short e h = in_parts ∙ ap (λ (o : Option Refusal). decide o (checked short slicing)) e ∙ rw (lt-ltb (length answer₀) 2 h)
 
   -- with room for the answer the call is slicing's
@@ -87,7 +88,7 @@ module _ (N : Network) (improving : Bool) (target : ℕ) (kids₀ flags₀ ws₀
       ∷ tree_check N kids₀
       ∷ beyond_check N (λ j. false) (pairs_of kids₀)
       ∷ dangling_if N improving in
-      let p : Result Plan = done (slice N target (follow_up N improving) (pairs_of kids₀)) in
+      let p : Result Plan Refusal = Ok (slice N target (follow_up N improving) (pairs_of kids₀)) in
       let split : slicing ≡ decide (refusal_of N) (checked rest p) = checked-append (network_checks false N) rest p in
       in_parts
       ∙ ap (decide (refusal_of N)) (rw (le-ltb (length answer₀) 2 h))
@@ -96,13 +97,13 @@ module _ (N : Network) (improving : Bool) (target : ℕ) (kids₀ flags₀ ws₀
       ∙ sym split
 
   -- a count above its limit
-  pub large_network : refusal_of N ≡ some too_large → MemorySlices N improving target kids₀ flags₀ ws₀ answer₀ kids₀ flags₀ ws₀ answer₀ 3
-  large_network e = stays too_large (as_refused too_large e) refl refl
+  pub large_network : refusal_of N ≡ Some TooLarge → MemorySlices N improving target kids₀ flags₀ ws₀ answer₀ kids₀ flags₀ ws₀ answer₀ 3
+  large_network e = stays TooLarge (as_refused TooLarge e) refl refl
 
   short_cases : (o : Option Refusal) {r : ℕ} → refusal_of N ≡ o → length answer₀ < 2 → r ≡ or_short o
       → MemorySlices N improving target kids₀ flags₀ ws₀ answer₀ kids₀ flags₀ ws₀ answer₀ r
-  short_cases none e h q = stays short_buffer (as_short e h) refl q
-  short_cases (some x) e h q = stays x (as_refused x e) (untouched N x e) q
+  short_cases None e h q = stays ShortBuffer (as_short e h) refl q
+  short_cases (Some x) e h q = stays x (as_refused x e) (untouched N x e) q
 
   pub short_answer : {M : Network} {r : ℕ} → M ≡ N → length answer₀ < 2 → r ≡ or_short (refusal_of M)
       → MemorySlices N improving target kids₀ flags₀ ws₀ answer₀ kids₀ flags₀ ws₀ answer₀ r
@@ -122,21 +123,21 @@ module _ (N : Network) (improving : Bool) (target : ℕ) (kids₀ flags₀ ws₀
     follows q b =
         record {
           number = q;
-          tree = t ∙ ap (λ (c : Result Plan). sliced_tree c kids₀) same;
+          tree = t ∙ ap (λ (c : Result Plan Refusal). sliced_tree c kids₀) same;
           flags_are = f ∙ ap (λ (L : Network). sliced_flags L (slice_call M improving target (length ws₀) (length flags₀) kids₀) flags₀) m
-              ∙ ap (λ (c : Result Plan). sliced_flags N c flags₀) same;
-          workspace = w ∙ ap (λ (c : Result Plan). workspace_after (slice_words improving) c ws₀) same;
+              ∙ ap (λ (c : Result Plan Refusal). sliced_flags N c flags₀) same;
+          workspace = w ∙ ap (λ (c : Result Plan Refusal). workspace_after (slice_words improving) c ws₀) same;
           answer_is = b;
         }
 
     pub slice_refused : {r : ℕ} → x ≡ Refused r → MemorySlices N improving target kids₀ flags₀ ws₀ answer₀ kids flags ws answer₀ r
     slice_refused e =
         let (y, z, q) = of_refused own (sym e ∙ a ∙ ap sliced_of same) in
-        follows (q ∙ sym (ap (λ (c : Result Plan). code_of (refusal_in c)) z)) (sym (ap (λ (c : Result Plan). slice_after c answer₀) z))
+        follows (q ∙ sym (ap (λ (c : Result Plan Refusal). code_of (refusal_in c)) z)) (sym (ap (λ (c : Result Plan Refusal). slice_after c answer₀) z))
 
     pub slice_done : {answer : List ℕ} {rebuilt tried : ℕ} → x ≡ Done rebuilt tried → answer ≡ over answer₀ (rebuilt ∷ tried ∷ [])
         → MemorySlices N improving target kids₀ flags₀ ws₀ answer₀ kids flags ws answer 0
     slice_done {answer} {rebuilt} {tried} e b =
         let (p, z, u, v) = of_done own (sym e ∙ a ∙ ap sliced_of same) in
-        follows (sym (ap (λ (c : Result Plan). code_of (refusal_in c)) z))
-        (b ∙ ap (λ (k : ℕ). over answer₀ (k ∷ tried ∷ [])) u ∙ ap (λ (k : ℕ). over answer₀ (p.rebuilt ∷ k ∷ [])) v ∙ sym (ap (λ (c : Result Plan). slice_after c answer₀) z))
+        follows (sym (ap (λ (c : Result Plan Refusal). code_of (refusal_in c)) z))
+        (b ∙ ap (λ (k : ℕ). over answer₀ (k ∷ tried ∷ [])) u ∙ ap (λ (k : ℕ). over answer₀ (p.rebuilt ∷ k ∷ [])) v ∙ sym (ap (λ (c : Result Plan Refusal). slice_after c answer₀) z))

@@ -1,6 +1,5 @@
 -- One try: a growth, refined, and the weight of its cut nets. Assumes nothing.
-use Rattle.std.proofs.Math.Option.{Option, none, some}
-use Rattle.std.specs.Prelude.{◌≡◌, List, ℕ, suc, ◌*◌, Float, length, set}
+use Rattle.std.specs.Prelude.{◌≡◌, List, ℕ, suc, ◌*◌, Float, length, set, Option, None, Some}
 use Rattle.std.proofs.Common.{sym, ap, ◌∙◌, subst, arith, length-set, get_or-set_same, get_or-set_other}
 use Rattle.std.proofs.Math.Decide.{ℕ_discrete, dec_le}
 use Rattle.std.specs.Float.{binary64}
@@ -38,8 +37,8 @@ bits_set part v h u =
 
 module _ (G : Hypergraph) where
   turn_bits : (o : Option ℕ) (g : Growth) → Bits g.part → Bits (growth_turn G o g).part
-  turn_bits none g h = h
-  turn_bits (some v) g h = cond_has (λ (x : Growth). Bits x.part) (le (half G) (add binary64 g.weight (vertex_weight G v))) _ _ (bits_set g.part v h) (bits_set g.part v h)
+  turn_bits None g h = h
+  turn_bits (Some v) g h = cond_has (λ (x : Growth). Bits x.part) (le (half G) (add binary64 g.weight (vertex_weight G v))) _ _ (bits_set g.part v h) (bits_set g.part v h)
 
   grown_bits : (ws : Words) → Bits (grown G ws).part
   unfolding filled
@@ -49,7 +48,7 @@ module _ (G : Hypergraph) where
         part = replicate (vertex_count G) 0;
         weight = zero_float;
         links = replicate (vertex_count G) zero_float;
-        next = some (index_draw (vertex_count G) ws).value;
+        next = Some (index_draw (vertex_count G) ws).value;
         words = (index_draw (vertex_count G) ws).words;
       })
       (λ u. omega (arith, zero_filled (vertex_count G) u))

@@ -1,7 +1,6 @@
 #![tactic(auto)]
 // A first partition: the best of eight growths, each refined.
-ghost use Rattle.std.specs.Prelude.{true, ◌≡◌, ◌<◌, length};
-ghost use Rattle.std.proofs.Math.Option.{some};
+ghost use Rattle.std.specs.Prelude.{true, ◌≡◌, ◌<◌, length, Some};
 ghost use Rattle.spec.specs.Bisection.{half, better};
 ghost use Rattle.partition.specs.Layout.{graph_in};
 ghost use Rattle.queue.specs.Enters.{place};
@@ -52,7 +51,7 @@ fn try_once(
 // Of the best try so far and a new one, the one of the lesser cut, and the first of two that are equal.
 fn keep_better(part: &mut [u8], trial: &[u8], best: Best, cut: f64, at: usize) -> Best
     requires { length part.old ≡ length trial.now }
-    ensures { (best_of result.found result.cut part.new ≡ some (better (best_of best.found best.cut part.old) (candidate_as cut trial.now))) × (result.found ≡ true) × (result.at ≡ at) }
+    ensures { (best_of result.found result.cut part.new ≡ Some (better (best_of best.found best.cut part.old) (candidate_as cut trial.now))) × (result.found ≡ true) × (result.at ≡ at) }
 {
     let n = trial.len();
     if best.found {

@@ -1,11 +1,12 @@
 -- Acceptance: the test tells the statement; refusals have numbers of their own. Assumes nothing.
-use Rattle.std.specs.Prelude.{◌≡◌, refl, Bool, true, false, ◌||◌, cond, List, [], ◌∷◌, ℕ, zero, suc, ◌-◌, ◌≤◌, ◌<◌, eqb, ltb, leb, length, get_or}
+use Rattle.std.specs.Prelude.{◌≡◌, refl, Bool, true, false, ◌||◌, cond, List, [], ◌∷◌, ℕ, zero, suc, ◌-◌, ◌≤◌, ◌<◌, eqb, ltb, leb, length, get_or, None, Some}
 use Rattle.std.proofs.Common.{sym, ap, ◌∙◌, arith, eqb-true, ltb-true, ltb-false, le-ltb, leb-false}
-use Rattle.std.proofs.Math.Option.{none, some}
+use Rattle.spec.specs.declared.Refusal.{Refusal}
+use Rattle.spec.specs.declared.Refusal.TheVariants.{Truncated, WrongTag, TooLarge, Overweight, OutOfRange, Repeated, ShortBuffer, InvalidTree, InvalidFlags, TotalBeyond, DanglingIndex, TableTooWide, DrawsExhausted}
 use Rattle.std.proofs.Math.ListN.{get_or-eq_default}
 use Rattle.std.proofs.lemmas.Bool.{lt-leb}
 use Rattle.spec.specs.Lists.{memb, anyb, count}
-use Rattle.spec.specs.Refusal.{Refusal, truncated, wrong_tag, too_large, overweight, out_of_range, repeated, short_buffer, invalid_tree, invalid_flags, total_beyond, dangling_index, table_too_wide, draws_exhausted, number_of, passes}
+use Rattle.spec.specs.Refusal.{number_of, passes}
 use Rattle.spec.specs.Network.{Network, leaf_count, index_count, weight, legs, max_leaves, max_indices, max_legs, max_outputs, max_weight, repeats, any_out_of_range, accepted}
 use Rattle.spec.specs.NetworkClaims.{DistinctNumbers, Accepted, AcceptedMeans}
 use Rattle.laws.specs.ListLaws.{any_intro, count_memb, count_not_memb}
@@ -16,38 +17,38 @@ use Rattle.laws.specs.Booleans.{by_cases, or_introl, or_intror, or_none, clash, 
 -- the refusals by their numbers
 abbrev pub by_number : List Refusal
 by_number =
-    truncated
-    ∷ wrong_tag
-    ∷ too_large
-    ∷ overweight
-    ∷ out_of_range
-    ∷ repeated
-    ∷ short_buffer
-    ∷ invalid_tree
-    ∷ invalid_flags
-    ∷ total_beyond
-    ∷ dangling_index
-    ∷ table_too_wide
-    ∷ draws_exhausted
+    Truncated
+    ∷ WrongTag
+    ∷ TooLarge
+    ∷ Overweight
+    ∷ OutOfRange
+    ∷ Repeated
+    ∷ ShortBuffer
+    ∷ InvalidTree
+    ∷ InvalidFlags
+    ∷ TotalBeyond
+    ∷ DanglingIndex
+    ∷ TableTooWide
+    ∷ DrawsExhausted
     ∷ []
 
 abbrev of_number : ℕ → Refusal
-of_number n = get_or by_number (n - 1) truncated
+of_number n = get_or by_number (n - 1) Truncated
 
 back : (r : Refusal) → of_number (number_of r) ≡ r
-back truncated = refl
-back wrong_tag = refl
-back too_large = refl
-back overweight = refl
-back out_of_range = refl
-back repeated = refl
-back short_buffer = refl
-back invalid_tree = refl
-back invalid_flags = refl
-back total_beyond = refl
-back dangling_index = refl
-back table_too_wide = refl
-back draws_exhausted = refl
+back Truncated = refl
+back WrongTag = refl
+back TooLarge = refl
+back Overweight = refl
+back OutOfRange = refl
+back Repeated = refl
+back ShortBuffer = refl
+back InvalidTree = refl
+back InvalidFlags = refl
+back TotalBeyond = refl
+back DanglingIndex = refl
+back TableTooWide = refl
+back DrawsExhausted = refl
 
 pub numbers_tell : DistinctNumbers
 numbers_tell r s e = sym (back r) ∙ ap of_number e ∙ back s
@@ -93,7 +94,7 @@ no_repeats (k ∷ l) h =
 
 -- no check holds: four tests fail
 four_fail : (a b c d : Bool) (p q r s : Refusal)
-    → passes (cond a (some p) (cond b (some q) (cond c (some r) (cond d (some s) none)))) ≡ true
+    → passes (cond a (Some p) (cond b (Some q) (cond c (Some r) (cond d (Some s) None)))) ≡ true
     → (a ≡ false) × (b ≡ false) × (c ≡ false) × (d ≡ false)
 four_fail true b c d p q r s e = clash e refl
 four_fail false true c d p q r s e = clash e refl
@@ -110,7 +111,7 @@ or_four a b c d e =
 
 means : (N : Network) → accepted N ≡ true → Accepted N
 means N e =
-    let (large, heavy, beyond, again) = four_fail _ _ _ _ too_large overweight out_of_range repeated e in
+    let (large, heavy, beyond, again) = four_fail _ _ _ _ TooLarge Overweight OutOfRange Repeated e in
     let (l, i, g, o) = or_four (ltb max_leaves (leaf_count N)) (ltb max_indices (index_count N)) _ (ltb max_outputs (length N.outputs)) large in
     let (sl, so) = or_none (anyb (any_out_of_range (index_count N)) N.leaves) (any_out_of_range (index_count N) N.outputs) beyond in
     let (rl, ro) = or_none (anyb repeats N.leaves) (repeats N.outputs) again in

@@ -1,12 +1,14 @@
 -- LAW B2: halves shrink, and so the number of leaves is fuel enough for bisection. Assumes nothing.
-use Rattle.std.specs.Prelude.{◌≡◌, refl, Bool, not, ◌||◌, cond, List, [], ◌∷◌, ℕ, zero, suc, ◌+◌, ◌<◌, ◌≤◌, max, eqb, leb, Float, length}
+use Rattle.std.specs.Prelude.{◌≡◌, refl, Bool, not, ◌||◌, cond, List, [], ◌∷◌, ℕ, zero, suc, ◌+◌, ◌<◌, ◌≤◌, max, eqb, leb, Float, length, Result, Err, Ok}
 use Rattle.std.proofs.Common.{ap, ◌∙◌, arith, le-leb}
 use Rattle.std.proofs.lemmas.Bool.{eqb-false}
 use Rattle.spec.specs.Lists.{count}
 use Rattle.spec.specs.Members.{All}
 use Rattle.spec.specs.Network.{Network}
 use Rattle.spec.specs.Tree.{Pair}
-use Rattle.spec.specs.Refusal.{draws_exhausted, Result, refused, done, and_then}
+use Rattle.spec.specs.Refusal.{and_then}
+use Rattle.spec.specs.declared.Refusal.TheVariants.{DrawsExhausted}
+use Rattle.spec.specs.declared.Refusal.{Refusal}
 use Rattle.spec.specs.Draws.{Words, Drawn}
 use Rattle.spec.specs.Hypergraph.{side_of, hypergraph_of}
 use Rattle.spec.specs.Bisection.{Halved, members_at, left_half, right_half, small_end, join_halves, halves, split, bisect, bisect_rec}
@@ -58,20 +60,20 @@ halves_shrink part leaves l r =
 
 module _ (N : Network) (eps : Float) (cutoff : ℕ) where
   abbrev Go : Type 0
-  Go = List ℕ → List Pair → Words → Result Halved
+  Go = List ℕ → List Pair → Words → Result Halved Refusal
 
   halves_same : (f g : Go) (left right : List ℕ) (a : List Pair) (ws : Words)
       → ((b : List Pair) (w : Words) → f left b w ≡ g left b w) → ((b : List Pair) (w : Words) → f right b w ≡ g right b w)
       → halves N eps cutoff f left right a ws ≡ halves N eps cutoff g left right a ws
   halves_same f g left right a ws p q =
-      ap (λ r. and_then r (λ x. and_then (f right x.built.pairs x.words) (λ y. done (join_halves N eps cutoff x y)))) (p a ws)
-      ∙ then_same (g left a ws) _ _ (λ x. ap (λ r. and_then r (λ y. done (join_halves N eps cutoff x y))) (q x.built.pairs x.words))
+      ap (λ r. and_then r (λ x. and_then (f right x.built.pairs x.words) (λ y. Ok (join_halves N eps cutoff x y)))) (p a ws)
+      ∙ then_same (g left a ws) _ _ (λ x. ap (λ r. and_then r (λ y. Ok (join_halves N eps cutoff x y))) (q x.built.pairs x.words))
 
   split_same : (f g : Go) (leaves : List ℕ) (a : List Pair) (d : Drawn (List ℕ))
       → ((l : List ℕ) → length l < length leaves → (b : List Pair) (w : Words) → f l b w ≡ g l b w)
       → split N eps cutoff f leaves a d ≡ split N eps cutoff g leaves a d
   split_same f g leaves a d h =
-      ap (λ answer. cond d.words.exhausted (refused draws_exhausted) answer)
+      ap (λ answer. cond d.words.exhausted (Err DrawsExhausted) answer)
       (by_cases (eqb (length (left_half d.value leaves)) 0 || eqb (length (right_half d.value leaves)) 0)
       (λ q. rw q)
       (λ q. rw q

@@ -1,5 +1,5 @@
 -- LAW B1: bisection's answer is a valid array. Each half makes one tree, over an array that grows at its end. Assumes nothing.
-use Rattle.std.specs.Prelude.{◌≡◌, refl, Bool, true, false, ◌||◌, cond, List, [], ◌∷◌, ◌++◌, ℕ, zero, suc, ◌+◌, ◌-◌, ◌≤◌, ◌<◌, max, eqb, ltb, leb, Float, length}
+use Rattle.std.specs.Prelude.{◌≡◌, refl, Bool, true, false, ◌||◌, cond, List, [], ◌∷◌, ◌++◌, ℕ, zero, suc, ◌+◌, ◌-◌, ◌≤◌, ◌<◌, max, eqb, ltb, leb, Float, length, Err, Ok}
 use Rattle.std.proofs.Common.{sym, ap, ◌∙◌, subst, arith, lt_of_not-le, length-append, eqb-true, eq-eqb, lt-ltb, ltb-true, ltb-false}
 use Rattle.std.proofs.lemmas.List.{length-map}
 use Rattle.std.proofs.lemmas.Bool.{eqb-false}
@@ -7,7 +7,7 @@ use Rattle.spec.specs.Lists.{count, range, from, sum_of}
 use Rattle.spec.specs.Members.{All}
 use Rattle.spec.specs.Network.{Network, leaf_count}
 use Rattle.spec.specs.Tree.{Tree, leaf, numbers, Pair, Describes, valid, ValidTree}
-use Rattle.spec.specs.Refusal.{draws_exhausted, refused, done}
+use Rattle.spec.specs.declared.Refusal.TheVariants.{DrawsExhausted}
 use Rattle.spec.specs.Draws.{Words, Drawn, lent_words}
 use Rattle.spec.specs.Greedy.{joined, Built, join_all, leaves_of, start_of, greedy_from}
 use Rattle.spec.specs.Hypergraph.{hypergraph_of}
@@ -28,7 +28,7 @@ use Rattle.laws.specs.GreedyLists.{Extends, extends_trans, finish_extends}
 grows_length : (a b : List Pair) → Extends a b → length a ≤ length b
 grows_length a b (m, p) = omega (arith, ap length p, length-append a m)
 
-greedy_grows : (N : Network) (a : List Pair) (ts : List Tree) (b : Built) → greedy_from N a ts ≡ done b → Extends a b.pairs
+greedy_grows : (N : Network) (a : List Pair) (ts : List Tree) (b : Built) → greedy_from N a ts ≡ Ok b → Extends a b.pairs
 unfolding greedy_from
 greedy_grows N a ts b e = finish_extends N (length ts) (length ts) (start_of a ts) b e
 
@@ -101,9 +101,9 @@ half_inners n l a b u h s =
 
 module _ (N : Network) (eps : Float) (cutoff : ℕ) where
   small_half : (leaves : List ℕ) (a : List Pair) (ws : Words) (h : Halved) → Below (leaf_count N) leaves → 1 ≤ length leaves
-      → small_end N eps cutoff leaves a ws ≡ done h → Half N leaves a h
+      → small_end N eps cutoff leaves a ws ≡ Ok h → Half N leaves a h
   small_half leaves a ws h low some e =
-      and_then_lem (greedy_from N a (leaves_of leaves)) (λ b. done (record { built = b; words = ws })) h e λ b p q.
+      and_then_lem (greedy_from N a (leaves_of leaves)) (λ b. Ok (record { built = b; words = ws })) h e λ b p q.
       let (u, w, s) = greedy_builds N (λ v. count v leaves) (leaf_count N + length a) (length a + length leaves) a (leaves_of leaves) b p
       (part_forest (leaf_count N) a leaves low) (omega (arith, length-map leaves (λ i. leaf i))) in
       subst (Half N leaves a) (done_same _ h q)
@@ -160,11 +160,11 @@ module _ (N : Network) (eps : Float) (cutoff : ℕ) where
 
   abbrev Rec : ℕ → Type 0
   Rec fuel = (leaves : List ℕ) (a : List Pair) (ws : Words) (h : Halved) → Below (leaf_count N) leaves → 1 ≤ length leaves
-      → bisect_rec N eps cutoff fuel leaves a ws ≡ done h → Half N leaves a h
+      → bisect_rec N eps cutoff fuel leaves a ws ≡ Ok h → Half N leaves a h
 
   -- what an answer of a split comes from, by the tests in it
   split_half : (fuel : ℕ) → Rec fuel → (leaves : List ℕ) (a : List Pair) (d : Drawn (List ℕ)) (h : Halved) → Below (leaf_count N) leaves → 1 ≤ length leaves
-      → split N eps cutoff (λ l b w. bisect_rec N eps cutoff fuel l b w) leaves a d ≡ done h → Half N leaves a h
+      → split N eps cutoff (λ l b w. bisect_rec N eps cutoff fuel l b w) leaves a d ≡ Ok h → Half N leaves a h
   split_half fuel rec leaves a d h low some e = go d.words.exhausted (eqb (length left) 0 || eqb (length right) 0) refl e
     where
       left : List ℕ
@@ -174,10 +174,10 @@ module _ (N : Network) (eps : Float) (cutoff : ℕ) where
       right = right_half d.value leaves
 
       go : (s t : Bool) → (eqb (length (left_half d.value leaves)) 0 || eqb (length (right_half d.value leaves)) 0) ≡ t
-          → cond s (refused draws_exhausted) (cond t (small_end N eps cutoff leaves a d.words)
-          (halves N eps cutoff (λ l b w. bisect_rec N eps cutoff fuel l b w) (left_half d.value leaves) (right_half d.value leaves) a d.words)) ≡ done h
+          → cond s (Err DrawsExhausted) (cond t (small_end N eps cutoff leaves a d.words)
+          (halves N eps cutoff (λ l b w. bisect_rec N eps cutoff fuel l b w) (left_half d.value leaves) (right_half d.value leaves) a d.words)) ≡ Ok h
           → Half N leaves a h
-      go true t q e = not_done draws_exhausted h e
+      go true t q e = not_done DrawsExhausted h e
       go false true q e = small_half leaves a d.words h low some e
       go false false q e =
           let (l, r) = or_none _ _ q in
@@ -207,7 +207,7 @@ range_below n k zero h = tt
 range_below n k (suc m) h = (omega arith, range_below n (suc k) m (omega arith))
 
 bisection_tree : (N : Network) (eps : Float) (cutoff : ℕ) (ws : Words) (h : Halved) → 1 ≤ leaf_count N
-    → bisect_rec N eps cutoff (leaf_count N) (range (leaf_count N)) [] ws ≡ done h → (u : Tree) × ValidTree (leaf_count N) h.built.pairs u
+    → bisect_rec N eps cutoff (leaf_count N) (range (leaf_count N)) [] ws ≡ Ok h → (u : Tree) × ValidTree (leaf_count N) h.built.pairs u
 bisection_tree N eps cutoff ws h some e =
     let n = leaf_count N in
     let r = range_length 0 n in
@@ -221,7 +221,7 @@ bisection_tree N eps cutoff ws h some e =
     )
 
 -- without leaves nothing is built
-none_built : (N : Network) (eps : Float) (cutoff n : ℕ) (ws : Words) (h : Halved) → n ≡ 0 → bisect_rec N eps cutoff n (range n) [] ws ≡ done h → h.built.pairs ≡ []
+none_built : (N : Network) (eps : Float) (cutoff n : ℕ) (ws : Words) (h : Halved) → n ≡ 0 → bisect_rec N eps cutoff n (range n) [] ws ≡ Ok h → h.built.pairs ≡ []
 unfolding greedy_from
 none_built N eps cutoff zero ws h z e = sym (ap (λ (x : Halved). x.built.pairs) (done_same (record { built = record { pairs = []; tops = [] }; words = ws }) h e))
 none_built N eps cutoff (suc n) ws h z e = absurd (omega arith)
@@ -230,7 +230,7 @@ none_built N eps cutoff (suc n) ws h z e = absurd (omega arith)
 pub bisection_valid : BisectionValid
 unfolding bisection valid
 bisection_valid N i cutoff words b e =
-    and_then_lem (bisect_rec N (imbalance i) cutoff (leaf_count N) (range (leaf_count N)) [] (lent_words words)) (λ h. done (bisected_from words h)) b e λ h p q.
+    and_then_lem (bisect_rec N (imbalance i) cutoff (leaf_count N) (range (leaf_count N)) [] (lent_words words)) (λ h. Ok (bisected_from words h)) b e λ h p q.
     let same : h.built.pairs ≡ b.pairs = ap (λ (z : Bisected). z.pairs) (done_same _ b q) in
     subst (λ (z : List Pair). valid (leaf_count N) z ≡ true) same
     (by_cases (eqb (leaf_count N) 0)

@@ -1,8 +1,7 @@
 -- The words that a bisection takes: each part of it goes alike with other words after those that it takes (WordLaws). Assumes nothing.
-use Rattle.std.specs.Prelude.{refl, true, false, ℕ, zero, suc, ◌-◌, ◌*◌, eqb, leb, ltb, length, get_or, set, replicate, Float}
+use Rattle.std.specs.Prelude.{refl, true, false, ℕ, zero, suc, ◌-◌, ◌*◌, eqb, leb, ltb, length, get_or, set, replicate, Float, Option, None, Some}
 use Rattle.std.proofs.Math.Bool.{not}
 use mathlib.Core.List.{List, [], map}
-use Rattle.std.proofs.Math.Option.{Option, none, some}
 use Rattle.std.specs.Float.{binary64}
 use Rattle.std.specs.Float.Ieee.{add, div, neg, le}
 use Rattle.spec.specs.Lists.{memb, range}
@@ -99,7 +98,7 @@ module _ (G : Hypergraph) (maxw : Float) where
       let t = ratings G maxw d.value v in
       either part_held (unmatched G maxw d.value v)
       (after choice_held part_held (λ c. drawn (mated G maxw v c.mate d.value) c.words)
-      (over choice_held (looked_at G maxw v) (looked_goes v) t.touched (record { best = zero_float; mate = none; rating = t.rating; words = lent_words [] }))
+      (over choice_held (looked_at G maxw v) (looked_goes v) t.touched (record { best = zero_float; mate = None; rating = t.rating; words = lent_words [] }))
       (λ c. still part_held (λ ws ws'. refl)))
       (stays part_held d)
 
@@ -132,8 +131,8 @@ module _ (G : Hypergraph) (maxw : Float) where
       (λ q'. still pass_held (λ ws ws'. refl))
 
   turn_goes : (o : Option Entry) (p : Pass) → Goes pass_held (λ ws. turn_of G maxw o (pass_held.put ws p))
-  turn_goes none p = still pass_held (λ ws ws'. refl)
-  turn_goes (some e) p =
+  turn_goes None p = still pass_held (λ ws ws'. refl)
+  turn_goes (Some e) p =
       either pass_held (fits_in G maxw e.vertex p.sides)
       (move_goes e.vertex (taken_out e.vertex p.queue) (moved G e.vertex p.sides) (counted e.vertex e.key p.gains))
       (still pass_held (λ ws ws'. refl))
@@ -175,19 +174,19 @@ module _ (G : Hypergraph) where
       let links = fold_over (linked_by G) (nets_at G v) g.links in
       either growth_held (le (half G) w) (still growth_held (λ ws ws'. refl))
       (after strongest_held growth_held (grown_on G part w links)
-      (over strongest_held (offered G part links) (offered_goes part links) (range (vertex_count G)) (record { link = neg (whole_float 1); vertex = none; words = lent_words [] }))
+      (over strongest_held (offered G part links) (offered_goes part links) (range (vertex_count G)) (record { link = neg (whole_float 1); vertex = None; words = lent_words [] }))
       (λ s. still growth_held (λ ws ws'. refl)))
 
   growth_goes : (o : Option ℕ) (g : Growth) → Goes growth_held (λ ws. growth_turn G o (growth_held.put ws g))
-  growth_goes none g = stays growth_held g
-  growth_goes (some v) g = grown_by_goes (set g.part v 1) (add binary64 g.weight (vertex_weight G v)) v g
+  growth_goes None g = stays growth_held g
+  growth_goes (Some v) g = grown_by_goes (set g.part v 1) (add binary64 g.weight (vertex_weight G v)) v g
 
   grown_goes : Goes growth_held (grown G)
   grown_goes =
       let n = vertex_count G in
       let run : Growth → Growth = λ g. until (suc n) (λ g. ended G g.next) (λ g. growth_turn G g.next g) g in
       let begin : Drawn ℕ → Growth = λ seed.
-      record { part = replicate n 0; weight = zero_float; links = replicate n zero_float; next = some seed.value; words = seed.words } in
+      record { part = replicate n 0; weight = zero_float; links = replicate n zero_float; next = Some seed.value; words = seed.words } in
       after (drawn_held ℕ) growth_held (λ seed. run (begin seed)) (drawing (drawn_held ℕ) (λ ws ws' e. rw e))
       (λ seed. turns_go growth_held (suc n) (λ g. ended G g.next) (λ g. growth_turn G g.next g) (λ ws g. refl) (λ g. growth_goes g.next g) (begin seed))
 
@@ -195,22 +194,22 @@ module _ (G : Hypergraph) (maxw : Float) where
   tries_goes : (k : ℕ) (best : Option Candidate) → Goes (drawn_held (Option Candidate)) (tries G maxw k best)
   tries_goes zero best = still (drawn_held (Option Candidate)) (λ ws ws'. refl)
   tries_goes (suc k) best =
-      after part_held (drawn_held (Option Candidate)) (λ c. tries G maxw k (some (better best (candidate_of G maxw c.value))) c.words)
+      after part_held (drawn_held (Option Candidate)) (λ c. tries G maxw k (Some (better best (candidate_of G maxw c.value))) c.words)
       (after growth_held part_held (λ g. fm G maxw 8 g.part g.words) (grown_goes G) (λ g. fm_goes G maxw 8 g.part))
-      (λ c. tries_goes k (some (better best (candidate_of G maxw c.value))))
+      (λ c. tries_goes k (Some (better best (candidate_of G maxw c.value))))
 
   initial_goes : Goes part_held (initial G maxw)
   unfolding initial
   initial_goes =
-      after (drawn_held (Option Candidate)) part_held (λ t. drawn (part_of G maxw t.value) t.words) (tries_goes 8 none)
+      after (drawn_held (Option Candidate)) part_held (λ t. drawn (part_of G maxw t.value) t.words) (tries_goes 8 None)
       (λ t. still part_held (λ ws ws'. refl))
 
 -- ---- through coarser hypergraphs and back ----
 
 through_goes : (G : Hypergraph) (maxw : Float) (o : Option Level) (go : Hypergraph → Words → Drawn (List ℕ)) → ((H : Hypergraph) → Goes part_held (go H))
     → Goes part_held (λ ws. through_level G maxw o ws go)
-through_goes G maxw none go h = initial_goes G maxw
-through_goes G maxw (some l) go h =
+through_goes G maxw None go h = initial_goes G maxw
+through_goes G maxw (Some l) go h =
     after part_held part_held (refined_from G maxw l) (h l.graph) (λ d. fm_goes G maxw 4 (map (side_of d.value) l.places))
 
 multilevel_goes : (fuel : ℕ) (maxw : Float) (G : Hypergraph) → Goes part_held (multilevel fuel maxw G)

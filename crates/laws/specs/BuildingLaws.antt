@@ -1,9 +1,9 @@
 -- Networks made step by step: an accepted network is made of accepted additions, and an addition is refused as the network would be. Assumes nothing.
-use Rattle.std.specs.Prelude.{◌≡◌, refl, Bool, true, false, ◌||◌, List, [], ◌∷◌, ◌++◌, ◌↔◌, ℕ, ltb, leb, length}
+use Rattle.std.specs.Prelude.{◌≡◌, refl, Bool, true, false, ◌||◌, List, [], ◌∷◌, ◌++◌, ◌↔◌, ℕ, ltb, leb, length, Option, None, Some, Result, Err, Ok}
 use Rattle.std.proofs.Common.{sym, ap, ◌∙◌, append_assoc, append-nil, arith, length-append, ltb-false, le-ltb}
-use Rattle.std.proofs.Math.Option.{Option, none, some}
+use Rattle.spec.specs.declared.Refusal.{Refusal}
 use Rattle.spec.specs.Lists.{memb, anyb}
-use Rattle.spec.specs.Refusal.{Refusal, Result, refused, done, decide, passes}
+use Rattle.spec.specs.Refusal.{decide, passes}
 use Rattle.spec.specs.Network.{Network, max_indices, max_legs, max_outputs, max_weight, repeats, refusal_of, accepted}
 use Rattle.spec.specs.Building.{if_accepted, add_weight, add_leaf, add_output}
 use Rattle.spec.specs.BuildingClaims.{add_all, built, BuiltJust, AdditionsRefused}
@@ -17,17 +17,17 @@ use Rattle.laws.specs.FileFields.{Fails, any_none, none_any, Named, Begun, accep
 -- ---- a network, if it is accepted ----
 
 module _ {A : Type 0} (x : A) where
-  decided : (o : Option Refusal) → passes o ≡ true → decide o (done x) ≡ done x
-  decided none e = refl
-  decided (some r) e = clash e refl
+  decided : (o : Option Refusal) → passes o ≡ true → decide o (Ok x) ≡ Ok x
+  decided None e = refl
+  decided (Some r) e = clash e refl
 
-  decided_done : (o : Option Refusal) (y : A) → decide o (done x) ≡ done y → (passes o ≡ true) × (x ≡ y)
-  decided_done none y e = (refl, done_same x y e)
-  decided_done (some r) y e = not_done r y e
+  decided_done : (o : Option Refusal) (y : A) → decide o (Ok x) ≡ Ok y → (passes o ≡ true) × (x ≡ y)
+  decided_done None y e = (refl, done_same x y e)
+  decided_done (Some r) y e = not_done r y e
 
-  decided_refused : (o : Option Refusal) (r : Refusal) → (decide o (done x) ≡ refused r) ↔ (o ≡ some r)
-  decided_refused none r = ((λ e. not_done r x (sym e)), (λ e. clash refl (ap passes e)))
-  decided_refused (some k) r = ((λ e. ap (λ (y : Refusal). some y) (refused_same k r e)), (λ e. ap (λ (o : Option Refusal). decide o (done x)) e))
+  decided_refused : (o : Option Refusal) (r : Refusal) → (decide o (Ok x) ≡ Err r) ↔ (o ≡ Some r)
+  decided_refused None r = ((λ e. not_done r x (sym e)), (λ e. clash refl (ap passes e)))
+  decided_refused (Some k) r = ((λ e. ap (λ (y : Refusal). Some y) (refused_same k r e)), (λ e. ap (λ (o : Option Refusal). decide o (Ok x)) e))
 
 pub additions_refused : AdditionsRefused
 additions_refused N r = record { weight = λ w. decided_refused _ _ r; leaf = λ l. decided_refused _ _ r; output = λ j. decided_refused _ _ r }
@@ -35,18 +35,18 @@ additions_refused N r = record { weight = λ w. decided_refused _ _ r; leaf = λ
 -- ---- one after another ----
 
 -- a network for each list, which an addition makes longer; and where one is accepted, so is each that begins it
-module _ {A : Type 0} (shape : List A → Network) (add : Network → A → Result Network)
+module _ {A : Type 0} (shape : List A → Network) (add : Network → A → Result Network Refusal)
     (adds : (l : List A) (x : A) → add (shape l) x ≡ if_accepted (shape (l ++ (x ∷ [])))) where
   all_added : ((a b : List A) → accepted (shape (a ++ b)) ≡ true → accepted (shape a) ≡ true)
-      → (before l : List A) → accepted (shape (before ++ l)) ≡ true → add_all add (shape before) l ≡ done (shape (before ++ l))
-  all_added begins before [] e = ap (λ (k : List A). done (shape k)) (sym (append-nil before))
+      → (before l : List A) → accepted (shape (before ++ l)) ≡ true → add_all add (shape before) l ≡ Ok (shape (before ++ l))
+  all_added begins before [] e = ap (λ (k : List A). Ok (shape k)) (sym (append-nil before))
   all_added begins before (x ∷ l) e =
       let q : (before ++ (x ∷ [])) ++ l ≡ before ++ (x ∷ l) = append_assoc before (x ∷ []) l in
       let f : accepted (shape ((before ++ (x ∷ [])) ++ l)) ≡ true = ap (λ (k : List A). accepted (shape k)) q ∙ e in
       rw (adds before x ∙ decided (shape (before ++ (x ∷ []))) (refusal_of (shape (before ++ (x ∷ [])))) (begins (before ++ (x ∷ [])) l f))
-      (all_added begins (before ++ (x ∷ [])) l f ∙ ap (λ (k : List A). done (shape k)) q)
+      (all_added begins (before ++ (x ∷ [])) l f ∙ ap (λ (k : List A). Ok (shape k)) q)
 
-  added_all : (before l : List A) (N : Network) → accepted (shape before) ≡ true → add_all add (shape before) l ≡ done N
+  added_all : (before l : List A) (N : Network) → accepted (shape before) ≡ true → add_all add (shape before) l ≡ Ok N
       → (accepted (shape (before ++ l)) ≡ true) × (shape (before ++ l) ≡ N)
   added_all before [] N a e =
       (ap (λ (k : List A). accepted (shape k)) (append-nil before) ∙ a, ap shape (append-nil before) ∙ done_same (shape before) N e)
@@ -105,14 +105,14 @@ fewer_outputs weights leaves a b e =
 -- ---- the whole network ----
 
 module _ (weights : List ℕ) (leaves : List (List ℕ)) (outputs : List ℕ) where
-  accepted_built : accepted (net weights leaves outputs) ≡ true → built weights leaves outputs ≡ done (net weights leaves outputs)
+  accepted_built : accepted (net weights leaves outputs) ≡ true → built weights leaves outputs ≡ Ok (net weights leaves outputs)
   accepted_built e =
       let b : Begun weights leaves = (accepted_parts (net weights leaves outputs) e).0 in
       rw (all_added (λ l. net l [] []) add_weight (λ l x. refl) fewer_weights [] weights (no_leaves weights b.weights))
       (rw (all_added (λ l. net weights l []) add_leaf (λ l x. refl) (fewer_leaves weights) [] leaves (no_outputs weights leaves b))
       (all_added (λ l. net weights leaves l) add_output (λ l x. refl) (fewer_outputs weights leaves) [] outputs e))
 
-  built_accepted : (N : Network) → built weights leaves outputs ≡ done N → (N ≡ net weights leaves outputs) × (accepted N ≡ true)
+  built_accepted : (N : Network) → built weights leaves outputs ≡ Ok N → (N ≡ net weights leaves outputs) × (accepted N ≡ true)
   built_accepted N e =
       and_then_lem (add_all add_weight (net [] [] []) weights) _ N e λ M p e₁.
       and_then_lem (add_all add_leaf M leaves) _ N e₁ λ L q e₂.
@@ -124,5 +124,5 @@ module _ (weights : List ℕ) (leaves : List (List ℕ)) (outputs : List ℕ) wh
 pub built_just : BuiltJust
 built_just weights leaves outputs N = (
   built_accepted weights leaves outputs N,
-  (λ (q, a). accepted_built weights leaves outputs (ap accepted (sym q) ∙ a) ∙ ap (λ (M : Network). done M) (sym q)),
+  (λ (q, a). accepted_built weights leaves outputs (ap accepted (sym q) ∙ a) ∙ ap (λ (M : Network). Ok M) (sym q)),
 )

@@ -1,14 +1,16 @@
 -- Samples of what calls have in common, and of draws, by computation. Assumes nothing.
-use Rattle.std.specs.Prelude.{true, false, List, [], ◌∷◌, map, ◌≡◌, refl, ℕ, ◌-◌, ◌^◌}
-use Rattle.std.proofs.Math.Option.{Option, none, some}
+use Rattle.std.specs.Prelude.{true, false, List, [], ◌∷◌, map, ◌≡◌, refl, ℕ, ◌-◌, ◌^◌, Option, None, Some, Result, Err, Ok}
+use Rattle.spec.specs.declared.Refusal.{Refusal}
+use Rattle.spec.specs.declared.Refusal.TheVariants.{TooLarge, Overweight, ShortBuffer, InvalidTree, InvalidFlags}
+use Rattle.spec.specs.declared.Total.TheVariants.{Exact}
 use Rattle.std.specs.Float.{binary64}
 use Rattle.std.specs.Float.Ieee.{round, mul, of_int, to_bits}
 use Rattle.spec.specs.Lists.{from, range}
 use Rattle.spec.specs.Memory.{filled, over, cleared}
-use Rattle.spec.specs.Refusal.{Refusal, too_large, overweight, short_buffer, invalid_tree, invalid_flags, number_of, word, first, Result, refused, done}
+use Rattle.spec.specs.Refusal.{number_of, word, first}
 use Rattle.spec.specs.Network.{Network, named, refusal_of}
 use Rattle.spec.specs.Tree.{valid, tree_at, pairs_of, flat_of, same_plan, step_order}
-use Rattle.spec.specs.Price.{kept, listing, flat_steps, exact}
+use Rattle.spec.specs.Price.{kept, listing, flat_steps}
 use Rattle.spec.specs.Greedy.{greedy_from, greedy}
 use Rattle.spec.specs.Slicing.{slice}
 use Rattle.spec.specs.Calls.{lent, length_check, tree_check, flags_check, improve_words, PriceRoom, valid_call, order_call, same_call, price_call, greedy_call, improve_call, slice_call, workspace_after, ordered_steps, greedy_tree, priced_steps, priced_sizes, priced_works}
@@ -34,31 +36,31 @@ units = refl
 
 -- ---- 7: one word short; the checks come in the order of their numbers ----
 
-one_too_few : first (length_check (lent 4096 4096 ∷ lent 3 4 ∷ []) ∷ []) ≡ some short_buffer
+one_too_few : first (length_check (lent 4096 4096 ∷ lent 3 4 ∷ []) ∷ []) ≡ Some ShortBuffer
 one_too_few = refl
 
-long_enough : first (length_check (lent 4096 4096 ∷ lent 4 4 ∷ []) ∷ []) ≡ none
+long_enough : first (length_check (lent 4096 4096 ∷ lent 4 4 ∷ []) ∷ []) ≡ None
 long_enough = refl
 
 -- ---- 8: an odd length, the tree of the even part being valid; a child above the root ----
 
-odd_length : first (tree_check sample (0 ∷ 1 ∷ 3 ∷ 2 ∷ 0 ∷ []) ∷ []) ≡ some invalid_tree
+odd_length : first (tree_check sample (0 ∷ 1 ∷ 3 ∷ 2 ∷ 0 ∷ []) ∷ []) ≡ Some InvalidTree
 unfolding valid tree_at pairs_of
 odd_length = refl
 
-above_root : first (tree_check sample (0 ∷ 1 ∷ 5 ∷ 2 ∷ []) ∷ []) ≡ some invalid_tree
+above_root : first (tree_check sample (0 ∷ 1 ∷ 5 ∷ 2 ∷ []) ∷ []) ≡ Some InvalidTree
 unfolding valid tree_at pairs_of
 above_root = refl
 
 -- ---- 9: a flag too many, a byte over 1; fewer flags are no fault ----
 
-flag_too_many : first (flags_check sample (0 ∷ 0 ∷ 0 ∷ 0 ∷ []) ∷ []) ≡ some invalid_flags
+flag_too_many : first (flags_check sample (0 ∷ 0 ∷ 0 ∷ 0 ∷ []) ∷ []) ≡ Some InvalidFlags
 flag_too_many = refl
 
-flag_over_1 : first (flags_check sample (0 ∷ 2 ∷ []) ∷ []) ≡ some invalid_flags
+flag_over_1 : first (flags_check sample (0 ∷ 2 ∷ []) ∷ []) ≡ Some InvalidFlags
 flag_over_1 = refl
 
-few_flags : first (flags_check sample (0 ∷ 1 ∷ []) ∷ []) ≡ none
+few_flags : first (flags_check sample (0 ∷ 1 ∷ []) ∷ []) ≡ None
 few_flags = refl
 
 -- ---- the order of the numbers: a weight of 9 and 256 passes are 3; k is clamped before the workspace is measured ----
@@ -66,19 +68,19 @@ few_flags = refl
 abbrev heavy : Network
 heavy = network [] [] (9 ∷ [])
 
-numbers_first : improve_call heavy 8 256 none 0 [] [] ≡ refused too_large
+numbers_first : improve_call heavy 8 256 None 0 [] [] ≡ Err TooLarge
 unfolding improve_call
 numbers_first = refl
 
-then_weights : improve_call heavy 8 255 none 0 [] [] ≡ refused overweight
+then_weights : improve_call heavy 8 255 None 0 [] [] ≡ Err Overweight
 unfolding improve_call
 then_weights = refl
 
-one_word_short : improve_call sample 0 4 none 4159 [] [] ≡ refused short_buffer
+one_word_short : improve_call sample 0 4 None 4159 [] [] ≡ Err ShortBuffer
 unfolding improve_call
 one_word_short = refl
 
-words_enough : improve_call sample 0 4 none 4160 [] [] ≡ refused invalid_tree
+words_enough : improve_call sample 0 4 None 4160 [] [] ≡ Err InvalidTree
 unfolding improve_call valid tree_at pairs_of
 words_enough = refl
 
@@ -88,8 +90,8 @@ abbrev number_for : Network → ℕ
 number_for N = of_option (refusal_of N)
   where
     of_option : Option Refusal → ℕ
-    of_option none = 0
-    of_option (some r) = number_of r
+    of_option None = 0
+    of_option (Some r) = number_of r
 
 limits : map number_for (
     network (filled 128 []) [] []
@@ -118,9 +120,9 @@ indices = refl
 
 -- ---- stated lengths: one word or place short of each, and enough ----
 
-abbrev of_result : {A : Type 0} → Result A → ℕ
-of_result (refused r) = number_of r
-of_result (done x) = 0
+abbrev of_result : {A : Type 0} → Result A Refusal → ℕ
+of_result (Err r) = number_of r
+of_result (Ok x) = 0
 
 abbrev room : ℕ → ℕ → ℕ → ℕ → PriceRoom
 room sets sizes works steps = record { sets = sets; sizes = sizes; works = works; steps = steps }
@@ -185,26 +187,26 @@ clamps = refl
 
 -- pricing goes by the flags, and sameness by the trees
 flags_count : price_call sample 4096 (room 20 5 5 10) (0 ∷ 1 ∷ []) (2 ∷ 1 ∷ 3 ∷ 0 ∷ [])
-    ≡ done (record { total = exact 4; widest = some 1; slice_bits = 2 })
+    ≡ Ok (record { total = Exact 4; widest = Some 1; slice_bits = 2 })
 unfolding price_call listing valid tree_at pairs_of kept named
 flags_count = refl
 
 -- slice bits count every flagged index: an output, and one that no leaf names
 output_flagged : price_call (network ((0 ∷ []) ∷ []) (0 ∷ []) (3 ∷ 5 ∷ [])) 4096 (room 4 1 1 0) (1 ∷ 1 ∷ []) []
-    ≡ done (record { total = exact 0; widest = some 0; slice_bits = 8 })
+    ≡ Ok (record { total = Exact 0; widest = Some 0; slice_bits = 8 })
 unfolding price_call listing valid tree_at pairs_of kept named
 output_flagged = refl
 
-sameness : (same_call sample 4096 kids (1 ∷ 0 ∷ 2 ∷ 3 ∷ []) ≡ done true) × (same_call sample 4096 kids (1 ∷ 2 ∷ 3 ∷ 0 ∷ []) ≡ done false)
+sameness : (same_call sample 4096 kids (1 ∷ 0 ∷ 2 ∷ 3 ∷ []) ≡ Ok true) × (same_call sample 4096 kids (1 ∷ 2 ∷ 3 ∷ 0 ∷ []) ≡ Ok false)
 unfolding same_call same_plan valid tree_at pairs_of
 sameness = (refl, refl)
 
 -- ---- the workspace of two words after 3, 7, 8, 9 and after an answer; lists of which more is lent than is written ----
 
-abbrev after : Result ℕ → List ℕ
+abbrev after : Result ℕ Refusal → List ℕ
 after r = workspace_after 2 r (7 ∷ 8 ∷ 9 ∷ [])
 
-workspace : map after (refused too_large ∷ refused short_buffer ∷ refused invalid_tree ∷ refused invalid_flags ∷ done 0 ∷ [])
+workspace : map after (Err TooLarge ∷ Err ShortBuffer ∷ Err InvalidTree ∷ Err InvalidFlags ∷ Ok 0 ∷ [])
     ≡ (7 ∷ 8 ∷ 9 ∷ []) ∷ (7 ∷ 8 ∷ 9 ∷ []) ∷ (0 ∷ 0 ∷ 9 ∷ []) ∷ (0 ∷ 0 ∷ 9 ∷ []) ∷ (0 ∷ 0 ∷ 9 ∷ []) ∷ []
 unfolding cleared over filled
 workspace = refl

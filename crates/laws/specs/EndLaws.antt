@@ -1,6 +1,6 @@
 -- LAW B8: bisection is refused 12 just if it comes to a small end that greedy refuses by 12; LAW B9: and 13 just if it comes to leaves in whose
 -- partition a draw is due past the words' end. Assumes nothing.
-use Rattle.std.specs.Prelude.{◌≡◌, refl, ◌⊎◌, Bool, true, false, ◌||◌, cond, ℕ, zero, suc, ◌+◌, ◌≤◌, ◌<◌, max, eqb, leb, Float, length}
+use Rattle.std.specs.Prelude.{◌≡◌, refl, ◌⊎◌, Bool, true, false, ◌||◌, cond, ℕ, zero, suc, ◌+◌, ◌≤◌, ◌<◌, max, eqb, leb, Float, length, Result, Err, Ok}
 use Rattle.std.proofs.Common.{sym, ◌∙◌, inl, inr, arith, eqb-true, eq-eqb, ne_eqb, le-leb, leb-true, leb-false}
 use Rattle.std.proofs.Math.Path.{ap}
 use mathlib.Core.List.{List, [], ◌∷◌}
@@ -9,7 +9,9 @@ use Rattle.spec.specs.Lists.{count, from, range}
 use Rattle.spec.specs.Members.{All}
 use Rattle.spec.specs.Network.{Network, leaf_count}
 use Rattle.spec.specs.Tree.{Pair}
-use Rattle.spec.specs.Refusal.{Refusal, table_too_wide, draws_exhausted, number_of, Result, refused, done, and_then}
+use Rattle.spec.specs.Refusal.{number_of, and_then}
+use Rattle.spec.specs.declared.Refusal.{Refusal}
+use Rattle.spec.specs.declared.Refusal.TheVariants.{TableTooWide, DrawsExhausted}
 use Rattle.spec.specs.Draws.{Words, Drawn, lent_words}
 use Rattle.spec.specs.Greedy.{leaves_of, greedy_from}
 use Rattle.spec.specs.Hypergraph.{hypergraph_of}
@@ -35,14 +37,14 @@ module _ (N : Network) (eps : Float) (cutoff : ℕ) where
   sided leaves d = eqb (length (left leaves d)) 0 || eqb (length (right leaves d)) 0
 
   -- bisection of a half
-  abbrev part : ℕ → List ℕ → List Pair → Words → Result Halved
+  abbrev part : ℕ → List ℕ → List Pair → Words → Result Halved Refusal
   part fuel l b w = bisect_rec N eps cutoff fuel l b w
 
   -- a refusal stands where it is met: at a small end, or at a partition
   abbrev Refused : Refusal → List ℕ → List Pair → Words → Type 0
   Refused k leaves a ws =
-      (SmallEnd N eps cutoff leaves ws × (greedy_from N a (leaves_of leaves) ≡ refused k))
-      ⊎ ((d : Drawn (List ℕ)) × Partitioned N eps cutoff leaves ws d true × (draws_exhausted ≡ k))
+      (SmallEnd N eps cutoff leaves ws × (greedy_from N a (leaves_of leaves) ≡ Err k))
+      ⊎ ((d : Drawn (List ℕ)) × Partitioned N eps cutoff leaves ws d true × (DrawsExhausted ≡ k))
 
   -- where bisection of some leaves comes to
   record Place (k : Refusal) (leaves : List ℕ) (a : List Pair) (ws : Words) : Type 0 where
@@ -58,8 +60,8 @@ module _ (N : Network) (eps : Float) (cutoff : ℕ) where
   at_itself k leaves a ws r =
       record { end = leaves; onto = a; rest = ws; comes = itself; there = r; low = λ n h. h; fewer = λ v. omega arith }
 
-  small_refused : (k : Refusal) (leaves : List ℕ) (a : List Pair) (ws : Words) → small_end N eps cutoff leaves a ws ≡ refused k
-      → greedy_from N a (leaves_of leaves) ≡ refused k
+  small_refused : (k : Refusal) (leaves : List ℕ) (a : List Pair) (ws : Words) → small_end N eps cutoff leaves a ws ≡ Err k
+      → greedy_from N a (leaves_of leaves) ≡ Err k
   small_refused k leaves a ws e = then_refused (greedy_from N a (leaves_of leaves)) _ k e (λ q. q) (λ x p q. not_refused _ k q)
 
   one_side : (leaves : List ℕ) (d : Drawn (List ℕ)) → sided leaves d ≡ true → (left leaves d ≡ []) ⊎ (right leaves d ≡ [])
@@ -76,12 +78,12 @@ module _ (N : Network) (eps : Float) (cutoff : ℕ) where
       record { left = omega (arith, z₁); right = omega (arith, w₁) }
 
   abbrev Rec : Refusal → ℕ → Type 0
-  Rec k fuel = (leaves : List ℕ) (a : List Pair) (ws : Words) → length leaves ≤ fuel → bisect_rec N eps cutoff fuel leaves a ws ≡ refused k
+  Rec k fuel = (leaves : List ℕ) (a : List Pair) (ws : Words) → length leaves ≤ fuel → bisect_rec N eps cutoff fuel leaves a ws ≡ Err k
       → Place k leaves a ws
 
   module _ (k : Refusal) (fuel : ℕ) (rec : Rec k fuel) (leaves : List ℕ) (a : List Pair) (ws : Words) (d : Drawn (List ℕ)) (bound : length leaves ≤ suc fuel) where
     in_halves : Partitioned N eps cutoff leaves ws d false → TwoHalves leaves d.value
-        → halves N eps cutoff (part fuel) (left leaves d) (right leaves d) a d.words ≡ refused k → Place k leaves a ws
+        → halves N eps cutoff (part fuel) (left leaves d) (right leaves d) a d.words ≡ Err k → Place k leaves a ws
     in_halves p t e =
         let len = halves_length d.value leaves in
         let lₗ : length (left leaves d) ≤ fuel = omega (arith, len, t.right) in
@@ -110,15 +112,15 @@ module _ (N : Network) (eps : Float) (cutoff : ℕ) where
         })
         (λ y r z. not_refused _ k z))
 
-    in_split : bisect (hypergraph_of N leaves) eps ws ≡ d → max cutoff 2 < length leaves → split N eps cutoff (part fuel) leaves a d ≡ refused k
+    in_split : bisect (hypergraph_of N leaves) eps ws ≡ d → max cutoff 2 < length leaves → split N eps cutoff (part fuel) leaves a d ≡ Err k
         → Place k leaves a ws
     in_split p m e = go d.words.exhausted (sided leaves d) refl refl e
       where
         go : (s t : Bool) → d.words.exhausted ≡ s → sided leaves d ≡ t
-            → cond s (refused draws_exhausted) (cond t (small_end N eps cutoff leaves a d.words)
-            (halves N eps cutoff (part fuel) (left leaves d) (right leaves d) a d.words)) ≡ refused k → Place k leaves a ws
+            → cond s (Err DrawsExhausted) (cond t (small_end N eps cutoff leaves a d.words)
+            (halves N eps cutoff (part fuel) (left leaves d) (right leaves d) a d.words)) ≡ Err k → Place k leaves a ws
         go true t i j e =
-            at_itself k leaves a ws (inr (d, record { many = m; parts = p; words = i }, refused_same {A = Halved} draws_exhausted k e))
+            at_itself k leaves a ws (inr (d, record { many = m; parts = p; words = i }, refused_same {A = Halved} DrawsExhausted k e))
         go false true i j e =
             at_itself k leaves a ws
             (inl (whole d (record { many = m; parts = p; words = i }) (one_side leaves d j), small_refused k leaves a d.words e))
@@ -135,11 +137,11 @@ module _ (N : Network) (eps : Float) (cutoff : ℕ) where
 
   -- with fuel enough
   abbrev IsRefused : Refusal → List ℕ → List Pair → Words → Type 0
-  IsRefused k leaves a ws = (fuel : ℕ) → length leaves ≤ fuel → bisect_rec N eps cutoff fuel leaves a ws ≡ refused k
+  IsRefused k leaves a ws = (fuel : ℕ) → length leaves ≤ fuel → bisect_rec N eps cutoff fuel leaves a ws ≡ Err k
 
   -- one turn, of leaves that are partitioned
   part_turn : (k : Refusal) (leaves : List ℕ) (a : List Pair) (ws : Words) (d : Drawn (List ℕ)) (s : Bool) → Partitioned N eps cutoff leaves ws d s
-      → ((fuel : ℕ) → length leaves ≤ suc fuel → split N eps cutoff (part fuel) leaves a d ≡ refused k) → IsRefused k leaves a ws
+      → ((fuel : ℕ) → length leaves ≤ suc fuel → split N eps cutoff (part fuel) leaves a d ≡ Err k) → IsRefused k leaves a ws
   part_turn k leaves a ws d s p h zero b = absurd (omega (arith, p.many))
   part_turn k leaves a ws d s p h (suc fuel) b =
       ap (λ t. cond t (small_end N eps cutoff leaves a ws) (split N eps cutoff (part fuel) leaves a (bisect (hypergraph_of N leaves) eps ws)))
@@ -165,15 +167,15 @@ module _ (N : Network) (eps : Float) (cutoff : ℕ) where
   split-halves fuel leaves a d i j = rw (i, j)
 
   end_refused : (k : Refusal) (leaves : List ℕ) (a : List Pair) (ws : Words) → SmallEnd N eps cutoff leaves ws
-      → greedy_from N a (leaves_of leaves) ≡ refused k → IsRefused k leaves a ws
+      → greedy_from N a (leaves_of leaves) ≡ Err k → IsRefused k leaves a ws
   end_refused k leaves a ws (few b) w zero h = ap (with_words ws) w
   end_refused k leaves a ws (few b) w (suc fuel) h = rw (le-leb _ _ b) (ap (with_words ws) w)
   end_refused k leaves a ws (whole d p o) w fuel h =
       part_turn k leaves a ws d false p (λ f b. split_whole f leaves a d p.words (side_empty leaves d o) ∙ ap (with_words d.words) w) fuel h
 
   exhausted_refused : (leaves : List ℕ) (a : List Pair) (ws : Words) (d : Drawn (List ℕ)) → Partitioned N eps cutoff leaves ws d true
-      → IsRefused draws_exhausted leaves a ws
-  exhausted_refused leaves a ws d p fuel h = part_turn draws_exhausted leaves a ws d true p (λ f b. rw p.words) fuel h
+      → IsRefused DrawsExhausted leaves a ws
+  exhausted_refused leaves a ws d p fuel h = part_turn DrawsExhausted leaves a ws d true p (λ f b. rw p.words) fuel h
 
   comes_refused : (k : Refusal) (leaves : List ℕ) (a : List Pair) (ws : Words) (end : List ℕ) (onto : List Pair) (rest : Words)
       → Comes N eps cutoff leaves a ws end onto rest → IsRefused k end onto rest → IsRefused k leaves a ws
@@ -181,14 +183,14 @@ module _ (N : Network) (eps : Float) (cutoff : ℕ) where
   comes_refused k leaves a ws end onto rest (in_left d p t m) w fuel h =
       part_turn k leaves a ws d false p (λ f b.
       split-halves f leaves a d p.words (both_sides leaves d t)
-      ∙ ap (λ z. and_then z (λ x. and_then (part f (right leaves d) x.built.pairs x.words) (λ y. done (join_halves N eps cutoff x y))))
+      ∙ ap (λ z. and_then z (λ x. and_then (part f (right leaves d) x.built.pairs x.words) (λ y. Ok (join_halves N eps cutoff x y))))
       (comes_refused k (left leaves d) a d.words end onto rest m w f (omega (arith, halves_length d.value leaves, t.right)))) fuel h
   comes_refused k leaves a ws end onto rest (in_right d p t x e m) w fuel h =
       part_turn k leaves a ws d false p (λ f b.
       split-halves f leaves a d p.words (both_sides leaves d t)
-      ∙ ap (λ z. and_then z (λ x. and_then (part f (right leaves d) x.built.pairs x.words) (λ y. done (join_halves N eps cutoff x y))))
+      ∙ ap (λ z. and_then z (λ x. and_then (part f (right leaves d) x.built.pairs x.words) (λ y. Ok (join_halves N eps cutoff x y))))
       (fuel_enough N eps cutoff f (left leaves d) a d.words (omega (arith, halves_length d.value leaves, t.right)) ∙ e)
-      ∙ ap (λ z. and_then z (λ y. done (join_halves N eps cutoff x y)))
+      ∙ ap (λ z. and_then z (λ y. Ok (join_halves N eps cutoff x y)))
       (comes_refused k (right leaves d) x.built.pairs x.words end onto rest m w f (omega (arith, halves_length d.value leaves, t.left)))) fuel h
 
 -- ---- over all leaves ----
@@ -198,12 +200,12 @@ from_below n k zero h = tt
 from_below n k (suc m) h = (omega arith, from_below n (suc k) m (omega arith))
 
 -- without a leaf there is nothing to refuse
-some_leaf : (N : Network) (a : List Pair) (l : List ℕ) (k : Refusal) → greedy_from N a (leaves_of l) ≡ refused k → 1 ≤ length l
+some_leaf : (N : Network) (a : List Pair) (l : List ℕ) (k : Refusal) → greedy_from N a (leaves_of l) ≡ Err k → 1 ≤ length l
 unfolding greedy_from
 some_leaf N a [] k e = not_refused _ k e
 some_leaf N a (i ∷ l) k e = omega arith
 
-wide_not_exhausted : {P : Type 0} → draws_exhausted ≡ table_too_wide → P
+wide_not_exhausted : {P : Type 0} → DrawsExhausted ≡ TableTooWide → P
 wide_not_exhausted e = absurd (let w : ◌≡◌ {A = ℕ} 13 12 = ap number_of e in omega arith)
 
 module _ (N : Network) (i cutoff : ℕ) (words : List ℕ) where
@@ -214,7 +216,7 @@ module _ (N : Network) (i cutoff : ℕ) (words : List ℕ) where
   enough = omega (arith, range_length 0 (leaf_count N))
 
   -- where bisection is refused, and that it is refused there
-  from_refused : (k : Refusal) → bisection N i cutoff words ≡ refused k → At k
+  from_refused : (k : Refusal) → bisection N i cutoff words ≡ Err k → At k
   unfolding bisection
   from_refused k e =
       then_refused (bisect_rec N (imbalance i) cutoff (leaf_count N) (range (leaf_count N)) [] (lent_words words)) _ k e
@@ -223,10 +225,10 @@ module _ (N : Network) (i cutoff : ℕ) (words : List ℕ) where
 
   to_refused : (k : Refusal) (end : List ℕ) (onto : List Pair) (rest : Words)
       → Comes N (imbalance i) cutoff (range (leaf_count N)) [] (lent_words words) end onto rest → IsRefused N (imbalance i) cutoff k end onto rest
-      → bisection N i cutoff words ≡ refused k
+      → bisection N i cutoff words ≡ Err k
   unfolding bisection
   to_refused k end onto rest m w =
-      ap (λ z. and_then z (λ h. done (bisected_from words h)))
+      ap (λ z. and_then z (λ h. Ok (bisected_from words h)))
       (comes_refused N (imbalance i) cutoff k (range (leaf_count N)) [] (lent_words words) end onto rest m w (leaf_count N) enough)
 
   met : (k : Refusal) (f : At k) → 1 ≤ length f.end → Met N i cutoff words f.end f.onto f.rest
@@ -238,32 +240,32 @@ module _ (N : Network) (i cutoff : ℕ) (words : List ℕ) where
         once = λ v. omega (arith, f.fewer v, leaves_single (leaf_count N) v);
       }
 
-  wide_end : At table_too_wide → WideEnd N i cutoff words
+  wide_end : At TableTooWide → WideEnd N i cutoff words
   wide_end f = go f.there
     where
-      go : Refused N (imbalance i) cutoff table_too_wide f.end f.onto f.rest → WideEnd N i cutoff words
+      go : Refused N (imbalance i) cutoff TableTooWide f.end f.onto f.rest → WideEnd N i cutoff words
       go (inl (s, w)) =
           record {
             end = f.end;
             onto = f.onto;
             rest = f.rest;
-            met = met table_too_wide f (some_leaf N f.onto f.end table_too_wide w);
+            met = met TableTooWide f (some_leaf N f.onto f.end TableTooWide w);
             small = s;
             wide = w;
           }
       go (inr (d, p, e)) = wide_not_exhausted e
 
-  exhausted_part : At draws_exhausted → ExhaustedPart N i cutoff words
+  exhausted_part : At DrawsExhausted → ExhaustedPart N i cutoff words
   exhausted_part f = go f.there
     where
-      go : Refused N (imbalance i) cutoff draws_exhausted f.end f.onto f.rest → ExhaustedPart N i cutoff words
-      go (inl (s, w)) = wide_not_exhausted ((refuses_from N f.onto (leaves_of f.end)).only draws_exhausted w)
+      go : Refused N (imbalance i) cutoff DrawsExhausted f.end f.onto f.rest → ExhaustedPart N i cutoff words
+      go (inl (s, w)) = wide_not_exhausted ((refuses_from N f.onto (leaves_of f.end)).only DrawsExhausted w)
       go (inr (d, p, e)) =
           record {
             part = f.end;
             onto = f.onto;
             rest = f.rest;
-            met = met draws_exhausted f (omega (arith, p.many));
+            met = met DrawsExhausted f (omega (arith, p.many));
             d = d;
             exhausted = p;
           }
@@ -272,16 +274,16 @@ module _ (N : Network) (i cutoff : ℕ) (words : List ℕ) where
 pub wide_by_greedy : WideByGreedy
 wide_by_greedy N i cutoff words =
     record {
-      because = λ e. wide_end N i cutoff words (from_refused N i cutoff words table_too_wide e);
-      whenever = λ end onto rest m s w. to_refused N i cutoff words table_too_wide end onto rest m
-          (end_refused N (imbalance i) cutoff table_too_wide end onto rest s w);
+      because = λ e. wide_end N i cutoff words (from_refused N i cutoff words TableTooWide e);
+      whenever = λ end onto rest m s w. to_refused N i cutoff words TableTooWide end onto rest m
+          (end_refused N (imbalance i) cutoff TableTooWide end onto rest s w);
     }
 
 -- LAW B9
 pub exhausted_by_draws : ExhaustedByDraws
 exhausted_by_draws N i cutoff words =
     record {
-      because = λ e. exhausted_part N i cutoff words (from_refused N i cutoff words draws_exhausted e);
-      whenever = λ part onto rest d m p. to_refused N i cutoff words draws_exhausted part onto rest m
+      because = λ e. exhausted_part N i cutoff words (from_refused N i cutoff words DrawsExhausted e);
+      whenever = λ part onto rest d m p. to_refused N i cutoff words DrawsExhausted part onto rest m
           (exhausted_refused N (imbalance i) cutoff part onto rest d p);
     }

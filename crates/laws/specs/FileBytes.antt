@@ -1,8 +1,7 @@
 -- The file of lawful contents is one of bytes. Assumes nothing.
-use Rattle.std.specs.Prelude.{◌≡◌, true, false, List, [], ◌∷◌, ◌++◌, ℕ, zero, suc, ◌+◌, ◌-◌, ◌%◌, ◌≤◌, ◌<◌, ltb, leb, length, get_or}
+use Rattle.std.specs.Prelude.{◌≡◌, true, false, List, [], ◌∷◌, ◌++◌, ℕ, zero, suc, ◌+◌, ◌-◌, ◌%◌, ◌≤◌, ◌<◌, ltb, leb, length, get_or, Option, None, Some, slice_get}
 use Rattle.std.proofs.Common.{sym, ap, ◌∙◌, subst, arith, ltb-true, ltb-false, leb-false}
-use Rattle.std.proofs.Math.Option.{Option, none, some, some-injective}
-use Rattle.std.proofs.Math.ListN.{get_elem?}
+use Rattle.std.proofs.lemmas.Option.{same_Some}
 use Rattle.spec.specs.Lists.{memb}
 use Rattle.spec.specs.Members.{All}
 use Rattle.spec.specs.Network.{Network, leaf_count, index_count, max_indices, max_legs, max_outputs, max_weight}
@@ -22,7 +21,7 @@ use Rattle.laws.specs.FileLists.{valid_length}
 
 -- the pair at place j, and that P holds of both children
 abbrev PairAt : (ℕ → Type 0) → List Pair → ℕ → Type 0
-PairAt P a j = (p : Pair) × (get_elem? a j ≡ some p) × P p.left × P p.right
+PairAt P a j = (p : Pair) × (slice_get a j ≡ Some p) × P p.left × P p.right
 
 child_in : (n : ℕ) (a : List Pair) (t : Tree) → Describes n a t → (v : ℕ) → n ≤ v → memb v (numbers t) ≡ true
     → PairAt (λ u. memb u (numbers t) ≡ true) a (v - n)
@@ -35,7 +34,7 @@ child_in n a (node w l r) d v b m =
     (λ e. let (p, q, x, y) = child_in n a r d.3 v b e in (p, q, on_right p.left x, on_right p.right y))
     (λ e. (
       record { left = number l; right = number r },
-      ap (λ (u : ℕ). get_elem? a (u - n)) e ∙ d.1,
+      ap (λ (u : ℕ). slice_get a (u - n)) e ∙ d.1,
       on_left (number l) (number_in l),
       on_right (number r) (number_in r),
     ))
@@ -46,7 +45,7 @@ flat_all P [] e h = tt
 flat_all P (x ∷ []) e h = absurd (omega arith)
 flat_all P (x ∷ y ∷ l) e h =
     let (p, q, u, v) = h 0 (omega arith) in
-    let s : p ≡ record { left = x; right = y } = sym (some-injective _ _ q) in
+    let s : p ≡ record { left = x; right = y } = sym (same_Some _ _ q) in
     (subst (λ (z : Pair). P z.left) s u, (subst (λ (z : Pair). P z.right) s v, flat_all P l (omega arith) (λ j b. h (suc j) (omega arith))))
 
 kids_below : (n : ℕ) (kids : List ℕ) → 1 ≤ n → length kids % 2 ≡ 0 → valid n (pairs_of kids) ≡ true → All (λ k. k < n + length (pairs_of kids)) kids
@@ -56,7 +55,7 @@ kids_below n kids h e v =
     flat_all (λ k. k < n + length a) kids e λ j b.
     let (p, q, x, y) = child_in n a t d.described (n + j) (omega arith) (valid_in n a t d (n + j) (omega arith)) in
     let at : n + j - n ≡ j = omega arith in
-    (p, ap (get_elem? a) (sym at) ∙ q, below t a n d p.left x, below t a n d p.right y)
+    (p, ap (slice_get a) (sym at) ∙ q, below t a n d p.left x, below t a n d p.right y)
   where
     below : (t : Tree) (a : List Pair) (n : ℕ) → ValidTree n a t → (k : ℕ) → memb k (numbers t) ≡ true → k < n + length a
     below t a n d k m =
@@ -92,8 +91,8 @@ leaves_bytes m (l ∷ ls) h k =
     (leaves_bytes m ls h k.1)
 
 tree_field_bytes : (N : Network) (t : Option (List ℕ)) → leaf_count N ≤ 128 → LawfulTree N t → Bytes (tree_field t)
-tree_field_bytes N none h k = tt
-tree_field_bytes N (some kids) h (e, v) =
+tree_field_bytes N None h k = tt
+tree_field_bytes N (Some kids) h (e, v) =
     field_bytes 4 kids (omega arith) (omega (arith, valid_length (leaf_count N) kids e v)) (tree_bytes (leaf_count N) kids h e v)
 
 ask_field_bytes : (N : Network) (a : Ask) → index_count N ≤ 256 → LawfulAsk N a → Bytes (ask_field a)

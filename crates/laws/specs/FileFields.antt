@@ -1,7 +1,6 @@
 -- Fields and acceptance: what the conditions on weights, leaves and outputs, each by itself, say of the network. Assumes nothing.
-use Rattle.std.specs.Prelude.{◌≡◌, refl, Bool, true, false, not, List, [], ◌∷◌, ℕ, ◌%◌, ◌≤◌, ◌<◌, eqb, ltb, leb, length}
+use Rattle.std.specs.Prelude.{◌≡◌, refl, Bool, true, false, not, List, [], ◌∷◌, ℕ, ◌%◌, ◌≤◌, ◌<◌, eqb, ltb, leb, length, Some}
 use Rattle.std.proofs.Common.{◌∙◌, arith, ltb-false, le-ltb, leb-false, ne_eqb}
-use Rattle.std.proofs.Math.Option.{some}
 use Rattle.std.proofs.lemmas.Bool.{lt-leb, eqb-false, not-false}
 use Rattle.spec.specs.Lists.{memb, anyb}
 use Rattle.spec.specs.Members.{All}
@@ -155,10 +154,10 @@ fails_outputs N l h = let (s, r, a) = fails_index (index_count N) [] l h.1 in (h
 
 -- ---- tree and flags ----
 
-pub tree_fails : (N : Network) (kids : List ℕ) → LawfulTree N (some kids) → Fails (tree_check N kids ∷ [])
+pub tree_fails : (N : Network) (kids : List ℕ) → LawfulTree N (Some kids) → Fails (tree_check N kids ∷ [])
 tree_fails N kids (e, v) = (rw (ne_eqb (length kids % 2) 1 (λ q. omega arith), v), tt)
 
-pub fails_tree : (N : Network) (kids : List ℕ) → Fails (tree_check N kids ∷ []) → LawfulTree N (some kids)
+pub fails_tree : (N : Network) (kids : List ℕ) → Fails (tree_check N kids ∷ []) → LawfulTree N (Some kids)
 fails_tree N kids h =
     let (e, v) = or_none (eqb (length kids % 2) 1) (not (valid (leaf_count N) (pairs_of kids))) h.0 in
     let q : length kids % 2 ≡ 1 → ⊥ = eqb-false (length kids % 2) 1 e in

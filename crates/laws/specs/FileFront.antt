@@ -1,8 +1,9 @@
 -- So many bytes of a file decide what is read, and what is printed. Assumes nothing.
-use Rattle.std.specs.Prelude.{◌≡◌, refl, true, ◌||◌, List, [], ◌∷◌, ◌++◌, ℕ, zero, suc, ◌+◌, ◌-◌, ◌*◌, ◌≤◌, ◌<◌, eqb, leb, length, take, drop}
+use Rattle.std.specs.Prelude.{◌≡◌, refl, true, ◌||◌, List, [], ◌∷◌, ◌++◌, ℕ, zero, suc, ◌+◌, ◌-◌, ◌*◌, ◌≤◌, ◌<◌, eqb, leb, length, take, drop, Option, Result, Err, Ok}
 use Rattle.std.proofs.Common.{sym, ap, ◌∙◌, subst, arith, length-append, length-drop, take-append-drop, length-take-le, take_all, take-take, take-add, drop_at, eqb-true, leb-true, leb-false, ltb-false, le-ltb}
-use Rattle.std.proofs.Math.Option.{Option}
-use Rattle.spec.specs.Refusal.{too_large, Result, refused, done, and_then, checked}
+use Rattle.spec.specs.declared.Refusal.TheVariants.{TooLarge}
+use Rattle.spec.specs.declared.Refusal.{Refusal}
+use Rattle.spec.specs.Refusal.{and_then, checked}
 use Rattle.spec.specs.Network.{Network, leaf_count, index_count, max_indices, max_legs, max_outputs}
 use Rattle.spec.specs.Calls.{tree_check, flags_check}
 use Rattle.spec.specs.File.{Contents, Due, weights_due, leaves_due, tree_due, ask_due, end_due, allowed, Reading, weights_checks, leaf_checks, outputs_checks, take_weights, take_leaf, take_outputs, take_tree, take_flags, take_target, take_field, read_fields, nothing_read, read_of}
@@ -55,17 +56,17 @@ pub record After (before n : ℕ) (s : Reading) : Type 0 where
   pub fewer : 3 + n + enough s ≤ before
 
 module _ (before n : ℕ) where
-  after : {s s' : Reading} → ◌≡◌ {A = Result Reading} (done s) (done s') → After before n s → After before n s'
+  after : {s s' : Reading} → ◌≡◌ {A = Result Reading Refusal} (Ok s) (Ok s') → After before n s → After before n s'
   after {s} {s'} e x = subst (After before n) (done_same s s' e) x
 
-weights_after : (s' : Reading) (l : List ℕ) → take_weights l ≡ done s' → After 70569 (length l) s'
+weights_after : (s' : Reading) (l : List ℕ) → take_weights l ≡ Ok s' → After 70569 (length l) s'
 weights_after s' l e =
     let (f, q) = checked_done (weights_checks l) _ s' e in
     let h : length l ≤ 256 = ltb-false max_indices (length l) f.0 in
     after 70569 (length l) q (record { small = (omega arith, h); fewer = omega arith })
 
 module _ (N : Network) (small : Small N) where
-  leaf_after : (s' : Reading) (l : List ℕ) → take_leaf N l ≡ done s' → After ((128 - leaf_count N) * 35 + 65830) (length l) s'
+  leaf_after : (s' : Reading) (l : List ℕ) → take_leaf N l ≡ Ok s' → After ((128 - leaf_count N) * 35 + 65830) (length l) s'
   leaf_after s' l e =
       let (f, q) = checked_done (leaf_checks N l) _ s' e in
       let (few, named) = fails_leaf N l f in
@@ -73,32 +74,32 @@ module _ (N : Network) (small : Small N) where
       let k : length (N.leaves ++ (l ∷ [])) ≡ leaf_count N + 1 = length-append N.leaves (l ∷ []) in
       after _ (length l) q (record { small = (omega (arith, k), small.1); fewer = omega (arith, k) })
 
-  outputs_after : (s' : Reading) (l : List ℕ) → take_outputs N l ≡ done s' → After ((128 - leaf_count N) * 35 + 65830) (length l) s'
+  outputs_after : (s' : Reading) (l : List ℕ) → take_outputs N l ≡ Ok s' → After ((128 - leaf_count N) * 35 + 65830) (length l) s'
   outputs_after s' l e =
       let (f, q) = checked_done (outputs_checks N l) _ s' e in
       let h : length l ≤ 32 = ltb-false max_outputs (length l) (fails_outputs N l f).0 in
       after _ (length l) q (record { small = small; fewer = omega arith })
 
-  tree_after : (s' : Reading) (l : List ℕ) → take_tree N l ≡ done s' → After 65795 (length l) s'
+  tree_after : (s' : Reading) (l : List ℕ) → take_tree N l ≡ Ok s' → After 65795 (length l) s'
   tree_after s' l e =
       let (f, q) = checked_done (tree_check N l ∷ []) _ s' e in
       let (even, v) = fails_tree N l f in
       after 65795 (length l) q (record { small = small; fewer = omega (arith, valid_length (leaf_count N) l even v, small.0) })
 
   module _ (t : Option (List ℕ)) (before : ℕ) (h : 65538 ≤ before) where
-    flags_after : (s' : Reading) (l : List ℕ) → take_flags N t l ≡ done s' → After before (length l) s'
+    flags_after : (s' : Reading) (l : List ℕ) → take_flags N t l ≡ Ok s' → After before (length l) s'
     flags_after s' l e =
         let (f, q) = checked_done (flags_check N l ∷ []) _ s' e in
         after before (length l) q (record { small = small; fewer = omega (arith, (fails_flags N l f).0, small.1) })
 
-    target_after : (s' : Reading) (l : List ℕ) → take_target N t l ≡ done s' → After before (length l) s'
-    target_after s' [] e = not_done too_large s' e
+    target_after : (s' : Reading) (l : List ℕ) → take_target N t l ≡ Ok s' → After before (length l) s'
+    target_after s' [] e = not_done TooLarge s' e
     target_after s' (w ∷ []) e = after before 1 e (record { small = small; fewer = omega arith })
-    target_after s' (w ∷ v ∷ l) e = not_done too_large s' e
+    target_after s' (w ∷ v ∷ l) e = not_done TooLarge s' e
 
 -- any field at its place
 abbrev Leaves : Reading → List ℕ → Reading → ℕ → Type 0
-Leaves s l s' t = take_field s t l ≡ done s' → After (enough s) (length l) s'
+Leaves s l s' t = take_field s t l ≡ Ok s' → After (enough s) (length l) s'
 
 tagged : (s : Reading) (l : List ℕ) (s' : Reading) (t k : ℕ) → Leaves s l s' k → eqb t k ≡ true → Leaves s l s' t
 tagged s l s' t k f e = subst (Leaves s l s') (sym (eqb-true t k e)) f
@@ -124,9 +125,9 @@ field_after end_due c s' t l a small = clash a refl
 
 -- ---- the front of a file ----
 
-then_same : {A B : Type 0} (x : Result A) (f g : A → Result B) → ((y : A) → x ≡ done y → f y ≡ g y) → and_then x f ≡ and_then x g
-then_same (refused r) f g h = refl
-then_same (done y) f g h = h y refl
+then_same : {A B : Type 0} (x : Result A Refusal) (f g : A → Result B Refusal) → ((y : A) → x ≡ Ok y → f y ≡ g y) → and_then x f ≡ and_then x g
+then_same (Err r) f g h = refl
+then_same (Ok y) f g h = h y refl
 
 drop-take : (n c : ℕ) (l : List ℕ) → n ≤ c → n ≤ length l → drop n (take c l) ≡ take (c - n) (drop n l)
 drop-take n c l h k =
@@ -177,10 +178,10 @@ front_reads n file b h =
 pub front_decides : FrontDecides
 unfolding read_of
 front_decides places flag_places n file b h =
-    ap (λ (x : Result Contents). and_then x (λ c. checked (room_check places flag_places c ∷ []) (done c))) (front_reads n file b h)
+    ap (λ (x : Result Contents Refusal). and_then x (λ c. checked (room_check places flag_places c ∷ []) (Ok c))) (front_reads n file b h)
 
 pub input_decides : InputDecides
 unfolding plan_bytes program_on
 input_decides file b =
-    ap (λ (x : Result Contents). output_of (and_then x (λ c. program c.network c.tree c.ask)))
+    ap (λ (x : Result Contents Refusal). output_of (and_then x (λ c. program c.network c.tree c.ask)))
     (front_decides 254 256 131072 file b (omega arith))

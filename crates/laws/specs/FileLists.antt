@@ -1,9 +1,8 @@
 -- What the reader leaves in the lent lists, and the writer in the lent buffer. Assumes nothing.
-use Rattle.std.specs.Prelude.{◌≡◌, true, not, ℕ, zero, suc, ◌+◌, ◌-◌, ◌%◌, ◌≤◌, ◌<◌, eqb, ltb, length, get_or, drop}
+use Rattle.std.specs.Prelude.{◌≡◌, true, not, ℕ, zero, suc, ◌+◌, ◌-◌, ◌%◌, ◌≤◌, ◌<◌, eqb, ltb, length, get_or, drop, Option, None, Some}
 use Rattle.std.proofs.Math.Path.{refl, ap}
 use Rattle.std.proofs.Common.{sym, ◌∙◌, subst, arith, length-append, drop-drop, drop_at, get_or-append-add, ltb-true, ltb-false, eqb-true}
 use mathlib.Core.List.{List, [], ◌∷◌, ◌++◌}
-use Rattle.std.proofs.Math.Option.{Option, none, some}
 use Rattle.std.proofs.Math.ListN.{take, length-drop, get_or-append, get_or-eq_default}
 use Rattle.std.proofs.lemmas.List.{length-replicate, get_or-replicate}
 use Rattle.spec.specs.Memory.{filled, over, placed}
@@ -45,8 +44,8 @@ valid_length (suc m) kids h v = omega (arith, eqb-true (length (pairs_of kids)) 
 
 tree_left : (N : Network) (t : Option (List ℕ)) (a : Ask) (l : List ℕ) → LawfulTree N t → RoomForTree N (length l) t
     → TreeLeft t l (tree_written (record { network = N; tree = t; ask = a }) l)
-tree_left N none a l h r = refl
-tree_left N (some kids) a l (e, v) r = placed_front l kids (omega (arith, valid_length (leaf_count N) kids e v))
+tree_left N None a l h r = refl
+tree_left N (Some kids) a l (e, v) r = placed_front l kids (omega (arith, valid_length (leaf_count N) kids e v))
 
 -- ---- the flags' list ----
 

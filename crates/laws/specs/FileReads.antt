@@ -1,10 +1,9 @@
 -- Whole files: exactly the format is read, and 7 comes only of lists that are too short. Assumes nothing.
-use Rattle.std.specs.Prelude.{◌≡◌, Bool, false, List, [], ◌∷◌, ◌++◌, ℕ, ◌≤◌, ltb}
+use Rattle.std.specs.Prelude.{◌≡◌, Bool, false, List, [], ◌∷◌, ◌++◌, ℕ, ◌≤◌, ltb, Option, None, Some, Err, Ok}
 use Rattle.std.proofs.Common.{sym, ap, ◌∙◌, arith, ltb-false, le-ltb}
 use Rattle.std.proofs.Math.Path.{subst}
-use Rattle.std.proofs.Math.Option.{Option, none, some}
+use Rattle.spec.specs.declared.Refusal.TheVariants.{ShortBuffer}
 use Rattle.spec.specs.Members.{All}
-use Rattle.spec.specs.Refusal.{short_buffer, refused, done}
 use Rattle.spec.specs.Network.{Network, index_count, max_indices}
 use Rattle.spec.specs.Calls.{Lent}
 use Rattle.spec.specs.File.{Ask, plain, flagged, target, Contents, file_of, nothing_read, tree_lent, flags_lent, read_of}
@@ -25,12 +24,12 @@ abbrev Fits : List Lent → Type 0
 Fits l = All (λ x. too_few x ≡ false) l
 
 tree_fits : (N : Network) (places : ℕ) (t : Option (List ℕ)) → RoomForTree N places t → Fits (tree_lent N places t)
-tree_fits N places none h = tt
-tree_fits N places (some kids) h = (le-ltb _ _ h, tt)
+tree_fits N places None h = tt
+tree_fits N places (Some kids) h = (le-ltb _ _ h, tt)
 
 fits_tree : (N : Network) (places : ℕ) (t : Option (List ℕ)) → Fits (tree_lent N places t) → RoomForTree N places t
-fits_tree N places none h = tt
-fits_tree N places (some kids) h = ltb-false _ _ h.0
+fits_tree N places None h = tt
+fits_tree N places (Some kids) h = ltb-false _ _ h.0
 
 flags_fit : (N : Network) (places : ℕ) (a : Ask) → RoomForFlags N places a → Fits (flags_lent N places a)
 flags_fit N places plain h = tt
@@ -62,19 +61,19 @@ module _ (places flag_places : ℕ) (c : Contents) where
 -- ---- reading ----
 
 module _ (places flag_places : ℕ) (file : List ℕ) where
-  read_whole : (c : Contents) → read_from nothing_read file ≡ done c → Room places flag_places c → read_of places flag_places file ≡ done c
+  read_whole : (c : Contents) → read_from nothing_read file ≡ Ok c → Room places flag_places c → read_of places flag_places file ≡ Ok c
   unfolding read_of
   read_whole c e h = rw (e, room_passes places flag_places c h)
 
-  whole_read : (c : Contents) → read_of places flag_places file ≡ done c → (read_from nothing_read file ≡ done c) × Room places flag_places c
+  whole_read : (c : Contents) → read_of places flag_places file ≡ Ok c → (read_from nothing_read file ≡ Ok c) × Room places flag_places c
   unfolding read_of
   whole_read c e =
       and_then_lem (read_from nothing_read file) _ c e λ d x y.
-      let (f, z) = checked_done (room_check places flag_places d ∷ []) (done d) c y in
+      let (f, z) = checked_done (room_check places flag_places d ∷ []) (Ok d) c y in
       let q : d ≡ c = done_same d c z in
       (x ∙ z, subst (Room places flag_places) q (passes_room places flag_places d f.0))
 
-  read_no_room : (c : Contents) → read_from nothing_read file ≡ done c → (Room places flag_places c → ⊥) → read_of places flag_places file ≡ refused short_buffer
+  read_no_room : (c : Contents) → read_from nothing_read file ≡ Ok c → (Room places flag_places c → ⊥) → read_of places flag_places file ≡ Err ShortBuffer
   unfolding read_of
   read_no_room c e h =
       by_cases (room_check places flag_places c).holds
@@ -97,7 +96,7 @@ one_meaning c d h k e = done_same c d (sym (read_back c h) ∙ ap (read_from not
 
 pub no_room : NoRoom
 no_room places flag_places file k = (
-  (λ e. refusal_cases places flag_places file short_buffer e
+  (λ e. refusal_cases places flag_places file ShortBuffer e
       (λ q. absurd (fields_no_7 file q))
       (λ c q s _. let (l, z) = is_file file c k q in (c, l, sym z, λ h. clash s (room_passes places flag_places c h)))),
   (λ (c, l, q, h). read_no_room places flag_places file c (ap (read_from nothing_read) q ∙ read_back c l) h),
@@ -108,8 +107,8 @@ pub room_for_all : (places flag_places : ℕ) (c : Contents) → Lawful c → 25
 room_for_all places flag_places c l h k = (tree c.tree, flags c.ask)
   where
     tree : (t : Option (List ℕ)) → RoomForTree c.network places t
-    tree none = tt
-    tree (some kids) = omega (arith, (accepted_parts c.network l.network).0.few)
+    tree None = tt
+    tree (Some kids) = omega (arith, (accepted_parts c.network l.network).0.few)
 
     flags : (a : Ask) → RoomForFlags c.network flag_places a
     flags plain = tt

@@ -1,8 +1,7 @@
 -- The network file by computation: the document's sample read and written, and a file for each refusal from 1 to 9. Assumes nothing.
-use Rattle.std.specs.Prelude.{List, [], ◌∷◌, ◌++◌, map, ◌≡◌, refl, ℕ, replicate}
-use Rattle.std.proofs.Math.Option.{none, some}
+use Rattle.std.specs.Prelude.{List, [], ◌∷◌, ◌++◌, map, ◌≡◌, refl, ℕ, replicate, None, Some, Ok}
 use Rattle.std.proofs.Common.{arith}
-use Rattle.spec.specs.Refusal.{code_of, done}
+use Rattle.spec.specs.Refusal.{code_of}
 use Rattle.spec.specs.Tree.{valid, tree_at, pairs_of}
 use Rattle.spec.specs.File.{flagged, target, Contents, field, file_of, read_of, write_of}
 use Rattle.spec.specs.FileClaims.{refusal_in, EachReached}
@@ -13,9 +12,9 @@ abbrev file : List ℕ
 file = 1 ∷ 0 ∷ 3 ∷ 1 ∷ 2 ∷ 1 ∷ 2 ∷ 0 ∷ 2 ∷ 0 ∷ 1 ∷ 2 ∷ 0 ∷ 2 ∷ 1 ∷ 2 ∷ 2 ∷ 0 ∷ 1 ∷ 2 ∷ 3 ∷ 0 ∷ 1 ∷ 0 ∷ 6 ∷ 0 ∷ 1 ∷ 2 ∷ []
 
 abbrev contents : Contents
-contents = record { network = sample; tree = none; ask = target 2 }
+contents = record { network = sample; tree = None; ask = target 2 }
 
-sample_read : read_of 0 0 file ≡ done contents
+sample_read : read_of 0 0 file ≡ Ok contents
 unfolding read_of
 sample_read = refl
 
@@ -25,9 +24,9 @@ sample_written = refl
 
 -- with its tree and two of three flags; the lists that are lent are long enough
 abbrev flagged_contents : Contents
-flagged_contents = record { network = sample; tree = some (0 ∷ 1 ∷ 3 ∷ 2 ∷ []); ask = flagged (0 ∷ 1 ∷ []) }
+flagged_contents = record { network = sample; tree = Some (0 ∷ 1 ∷ 3 ∷ 2 ∷ []); ask = flagged (0 ∷ 1 ∷ []) }
 
-flagged_read : read_of 4 3 (file_of flagged_contents) ≡ done flagged_contents
+flagged_read : read_of 4 3 (file_of flagged_contents) ≡ Ok flagged_contents
 unfolding read_of file_of valid tree_at pairs_of
 flagged_read = refl
 

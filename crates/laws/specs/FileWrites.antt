@@ -1,12 +1,12 @@
 -- The writer: what it answers, and that a file read and then written is the same. Assumes nothing.
-use Rattle.std.specs.Prelude.{◌≡◌, refl, List, [], ◌∷◌, ◌++◌, ℕ, ◌+◌, ◌-◌, ◌≤◌, ltb, take, drop}
+use Rattle.std.specs.Prelude.{◌≡◌, refl, List, [], ◌∷◌, ◌++◌, ℕ, ◌+◌, ◌-◌, ◌≤◌, ltb, take, drop, Option, None, Some, Result, Ok}
 use Rattle.std.proofs.Math.Path.{sym}
 use Rattle.std.proofs.Common.{ap, ◌∙◌, subst, arith, take_at, drop_at, length-take-le}
 use Rattle.std.proofs.Math.Bool.{false}
-use Rattle.std.proofs.Math.Option.{Option, none, some}
+use Rattle.spec.specs.declared.Refusal.{Refusal}
 use Rattle.std.proofs.Math.ListN.{length}
 use borrow.Author.Tests.{ltb-false, le-ltb}
-use Rattle.spec.specs.Refusal.{Check, first, Result, done}
+use Rattle.spec.specs.Refusal.{Check, first}
 use Rattle.spec.specs.Network.{Network, network_checks}
 use Rattle.spec.specs.Calls.{lent, length_check}
 use Rattle.spec.specs.File.{Ask, plain, flagged, target, Contents, file_of, tree_checks, flags_checks, write_checks, read_of, write_of, buffer_after}
@@ -23,12 +23,12 @@ use Rattle.laws.specs.FileLists.{placed_at}
 -- ---- the conditions, and what is lawful ----
 
 trees_fail : (N : Network) (t : Option (List ℕ)) → LawfulTree N t → Fails (tree_checks N t)
-trees_fail N none h = tt
-trees_fail N (some kids) h = tree_fails N kids h
+trees_fail N None h = tt
+trees_fail N (Some kids) h = tree_fails N kids h
 
 fail_trees : (N : Network) (t : Option (List ℕ)) → Fails (tree_checks N t) → LawfulTree N t
-fail_trees N none h = tt
-fail_trees N (some kids) h = fails_tree N kids h
+fail_trees N None h = tt
+fail_trees N (Some kids) h = fails_tree N kids h
 
 asks_fail : (N : Network) (a : Ask) → LawfulAsk N a → Fails (flags_checks N a)
 asks_fail N plain h = tt
@@ -47,7 +47,7 @@ module _ (c : Contents) (size cursor : ℕ) where
   abbrev room : Check
   room = length_check (lent size (cursor + length (file_of c)) ∷ [])
 
-  pub writes : Lawful c → cursor + length (file_of c) ≤ size → write_of c size cursor ≡ done (cursor + length (file_of c))
+  pub writes : Lawful c → cursor + length (file_of c) ≤ size → write_of c size cursor ≡ Ok (cursor + length (file_of c))
   unfolding write_of
   writes h k =
       checked_none (write_checks c size cursor) _
@@ -58,10 +58,10 @@ module _ (c : Contents) (size cursor : ℕ) where
             (trees_fail c.network c.tree h.tree) (asks_fail c.network c.ask h.ask),
       ))
 
-  wrote : (next : ℕ) → TargetIsByte c.ask → write_of c size cursor ≡ done next → Lawful c × (next ≡ cursor + length (file_of c)) × (next ≤ size)
+  wrote : (next : ℕ) → TargetIsByte c.ask → write_of c size cursor ≡ Ok next → Lawful c × (next ≡ cursor + length (file_of c)) × (next ≤ size)
   unfolding write_of
   wrote next b e =
-      let (f, q) = checked_done (write_checks c size cursor) (done (cursor + length (file_of c))) next e in
+      let (f, q) = checked_done (write_checks c size cursor) (Ok (cursor + length (file_of c))) next e in
       let (f₀, f₁) = all_parts (λ x. x.holds ≡ false) (network_checks false c.network) (room ∷ after) f in
       let (f₂, f₃) = all_parts (λ x. x.holds ≡ false) (tree_checks c.network c.tree) (flags_checks c.network c.ask) f₁.1 in
       let z : cursor + length (file_of c) ≡ next = done_same (cursor + length (file_of c)) next q in (
@@ -77,7 +77,7 @@ module _ (c : Contents) (size cursor : ℕ) where
 pub writes_lawful : WritesLawful
 writes_lawful c size cursor next b = (
   wrote c size cursor next b,
-  (λ (h, q, k). writes c size cursor h (omega arith) ∙ ap (λ (x : ℕ). done x) (sym q)),
+  (λ (h, q, k). writes c size cursor h (omega arith) ∙ ap (λ (x : ℕ). Ok x) (sym q)),
 )
 
 -- ---- read, then written ----
@@ -87,7 +87,7 @@ rewritten c h =
     record {
       same = refl;
       answer = λ size cursor k. writes c size cursor h k;
-      buffer = λ out cursor k. ap (λ (x : Result ℕ). buffer_after c cursor x out) (writes c (length out) cursor h k) ∙ placed_at out cursor (file_of c) k;
+      buffer = λ out cursor k. ap (λ (x : Result ℕ Refusal). buffer_after c cursor x out) (writes c (length out) cursor h k) ∙ placed_at out cursor (file_of c) k;
     }
 
 pub read_then_written : ReadThenWritten
@@ -115,17 +115,17 @@ writer_then_reader places flag_places c out cursor next h k b e =
     ∙ written_then_read places flag_places c l (room_for_all places flag_places c l h k)
 
 pub buffer_stays : BufferStays
-buffer_stays c cursor out r e = ap (λ (x : Result ℕ). buffer_after c cursor x out) e
+buffer_stays c cursor out r e = ap (λ (x : Result ℕ Refusal). buffer_after c cursor x out) e
 
 -- ---- by number ----
 
 tree_numbers : (N : Network) (t : Option (List ℕ)) (a : Ask) → numbers_of (tree_checks N t ++ flags_checks N a) ≡ if_tree t ++ if_flags a
-tree_numbers N none plain = refl
-tree_numbers N none (flagged l) = refl
-tree_numbers N none (target w) = refl
-tree_numbers N (some kids) plain = refl
-tree_numbers N (some kids) (flagged l) = refl
-tree_numbers N (some kids) (target w) = refl
+tree_numbers N None plain = refl
+tree_numbers N None (flagged l) = refl
+tree_numbers N None (target w) = refl
+tree_numbers N (Some kids) plain = refl
+tree_numbers N (Some kids) (flagged l) = refl
+tree_numbers N (Some kids) (target w) = refl
 
 pub writer_by_number : WriterByNumber
 unfolding write_of

@@ -1,9 +1,9 @@
 -- LAW B10: the hypergraphs that bisection comes to are lawful. Assumes nothing.
-use Rattle.std.specs.Prelude.{◌≡◌, refl, Bool, true, false, cond, List, [], ◌∷◌, map, ℕ, zero, suc, ◌+◌, ◌*◌, ◌≤◌, ◌<◌, leb, Float, get_or}
+use Rattle.std.specs.Prelude.{◌≡◌, refl, Bool, true, false, cond, List, [], ◌∷◌, map, ℕ, zero, suc, ◌+◌, ◌*◌, ◌≤◌, ◌<◌, leb, Float, get_or, None, Some}
 use Rattle.std.proofs.Common.{sym, ◌∙◌, arith, leb-true}
 use Rattle.std.proofs.Math.Path.{ap, subst}
 use mathlib.Mathlib.Data.Bool.Basic.{eq-false_of_not-eq-true}
-use Rattle.std.proofs.Math.Option.{none, some, some-injective, none-ne-some}
+use Rattle.std.proofs.lemmas.Option.{same_Some, none-some}
 use Rattle.std.specs.Float.{binary64}
 use Rattle.std.specs.Float.Ieee.{mul, lt}
 use Rattle.std.proofs.Math.ListN.{length}
@@ -143,16 +143,16 @@ pub level_lawful : LevelLawful
 level_lawful = level_lawful_of
 
 -- a level that coarsening answers is one of a matching
-pub level_from : (G : Hypergraph) (maxw : Float) (ws : Words) (l : Level) → (coarsen G maxw ws).value ≡ some l → level_of G maxw (matching G maxw ws).value ≡ l
+pub level_from : (G : Hypergraph) (maxw : Float) (ws : Words) (l : Level) → (coarsen G maxw ws).value ≡ Some l → level_of G maxw (matching G maxw ws).value ≡ l
 unfolding coarsen
 level_from G maxw ws l e = kept (lt (mul binary64 (decimal 95 100) (whole_float (vertex_count G))) (whole_float (vertex_count here.graph))) e
   where
     here : Level
     here = level_of G maxw (matching G maxw ws).value
 
-    kept : (b : Bool) → cond b none (some here) ≡ some l → here ≡ l
-    kept true q = absurd (none-ne-some _ q)
-    kept false q = some-injective _ _ q
+    kept : (b : Bool) → cond b None (Some here) ≡ Some l → here ≡ l
+    kept true q = absurd (none-some _ q)
+    kept false q = same_Some _ _ q
 
 pub coarser_lawful : CoarserLawful
 coarser_lawful G maxw ws l h e = subst (λ x. Lawful x.graph) (level_from G maxw ws l e) (level_lawful G maxw (matching G maxw ws).value h)

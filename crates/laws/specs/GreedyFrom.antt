@@ -1,12 +1,13 @@
 -- LAW G7: greedy over any trees, onto any array, refuses only by 12, and just if it comes to a state with a pair that is too wide; and what an
 -- answer comes from. Assumes nothing.
-use Rattle.std.specs.Prelude.{◌≡◌, true, false, cond, List, [], ◌∷◌, ◌++◌, ℕ, zero, suc, ◌+◌, ◌-◌, ◌≤◌, ◌<◌, length}
+use Rattle.std.specs.Prelude.{◌≡◌, true, false, cond, List, [], ◌∷◌, ◌++◌, ℕ, zero, suc, ◌+◌, ◌-◌, ◌≤◌, ◌<◌, length, Result, Err, Ok}
 use Rattle.std.proofs.Math.Path.{refl}
 use Rattle.std.proofs.Common.{sym, ap, ◌∙◌, subst, arith}
 use Rattle.spec.specs.Members.{All}
 use Rattle.spec.specs.Network.{Network}
 use Rattle.spec.specs.Tree.{Tree, Pair}
-use Rattle.spec.specs.Refusal.{Refusal, table_too_wide, Result, refused, done}
+use Rattle.spec.specs.declared.Refusal.{Refusal}
+use Rattle.spec.specs.declared.Refusal.TheVariants.{TableTooWide}
 use Rattle.spec.specs.Greedy.{Live, Cand, sharing_pairs, least, any_wide, State, off, joined, merge, turn, connect, Built, trees, finish, slots, start_of, greedy_from}
 use Rattle.spec.specs.EndClaims.{pairs_after, ReachedFrom, begin_from, then_from, RefusesFrom, EndsFrom, AnswersFrom}
 use Rattle.laws.specs.Booleans.{by_cases, clash}
@@ -63,26 +64,26 @@ module _ (N : Network) (a : List Pair) (ts : List Tree) where
 
   -- ---- the merging, by the states that it goes through ----
 
-  abbrev run : ℕ → State → Result State
+  abbrev run : ℕ → State → Result State Refusal
   run fuel s = connect N (length ts) fuel s
 
   -- a reached state with a pair that is too wide
   abbrev Wide : Type 0
   Wide = (k : ℕ) × (s : State) × ReachedFrom N a ts k s × (any_wide N (pairs_after N (length ts) s) ≡ true)
 
-  connect_refuses : (fuel k : ℕ) (s : State) (r : Refusal) → ReachedFrom N a ts k s → run fuel s ≡ refused r → (r ≡ table_too_wide) × Wide
+  connect_refuses : (fuel k : ℕ) (s : State) (r : Refusal) → ReachedFrom N a ts k s → run fuel s ≡ Err r → (r ≡ TableTooWide) × Wide
   connect_refuses zero k s r h e = not_done r s (sym e)
   connect_refuses (suc fuel) k s r h e =
       go (pairs_after N (length ts) s) refl e (λ c l p w. connect_refuses fuel (suc k) (merge N (least N c l) s) r (then_from c l h p w))
     where
-      go : (cs : List Cand) → pairs_after N (length ts) s ≡ cs → turn N cs s (λ s'. run fuel s') ≡ refused r
+      go : (cs : List Cand) → pairs_after N (length ts) s ≡ cs → turn N cs s (λ s'. run fuel s') ≡ Err r
           → ((c : Cand) (l : List Cand) → pairs_after N (length ts) s ≡ c ∷ l → any_wide N (c ∷ l) ≡ false
-          → run fuel (merge N (least N c l) s) ≡ refused r → (r ≡ table_too_wide) × Wide)
-          → (r ≡ table_too_wide) × Wide
+          → run fuel (merge N (least N c l) s) ≡ Err r → (r ≡ TableTooWide) × Wide)
+          → (r ≡ TableTooWide) × Wide
       go [] p q on = not_done r s (sym q)
       go (c ∷ l) p q on =
           by_cases (any_wide N (c ∷ l))
-          (λ w. (sym (refused_same table_too_wide r (rw w at q)), (k, s, h, ap (any_wide N) p ∙ w)))
+          (λ w. (sym (refused_same TableTooWide r (rw w at q)), (k, s, h, ap (any_wide N) p ∙ w)))
           (λ w. on c l p w (rw w at q))
 
   -- the run from the start goes on from each reached state
@@ -92,7 +93,7 @@ module _ (N : Network) (a : List Pair) (ts : List Tree) where
       ap (λ x. run x (start_of a ts)) (let z : suc k' + fuel ≡ k' + suc fuel = omega arith in z)
       ∙ reached_connect k' s' r (suc fuel)
       ∙ ap (λ x. turn N x s' (λ s. run fuel s)) e
-      ∙ ap (λ b. cond b (refused table_too_wide) (run fuel (merge N (least N c l) s'))) w
+      ∙ ap (λ b. cond b (Err TableTooWide) (run fuel (merge N (least N c l) s'))) w
 
   -- a pair that is too wide is a pair of live tables, so the merging is not at its end
   some_live : (l : List Live) → any_wide N (sharing_pairs N (length ts) l) ≡ true → 1 ≤ length (trees l)
@@ -100,14 +101,14 @@ module _ (N : Network) (a : List Pair) (ts : List Tree) where
   some_live (x ∷ l) w = omega arith
 
   wide_refused : (k : ℕ) (s : State) → ReachedFrom N a ts k s → any_wide N (pairs_after N (length ts) s) ≡ true
-      → run (length ts) (start_of a ts) ≡ refused table_too_wide
+      → run (length ts) (start_of a ts) ≡ Err TableTooWide
   wide_refused k s h w =
       let b : k < length ts = omega (arith, (reached_fewer k s h).amount, some_live s.live w) in
       ap (λ z. run z (start_of a ts)) (let z : length ts ≡ k + suc (length ts - suc k) = omega arith in z)
       ∙ reached_connect k s h (suc (length ts - suc k))
       ∙ go (pairs_after N (length ts) s) w
     where
-      go : (cs : List Cand) → any_wide N cs ≡ true → turn N cs s (λ s'. run (length ts - suc k) s') ≡ refused table_too_wide
+      go : (cs : List Cand) → any_wide N cs ≡ true → turn N cs s (λ s'. run (length ts - suc k) s') ≡ Err TableTooWide
       go [] e = clash e refl
       go (c ∷ l) e = rw e
 
@@ -119,7 +120,7 @@ module _ (N : Network) (a : List Pair) (ts : List Tree) where
   abbrev Last : State → Type 0
   Last s = (k : ℕ) × ReachedFrom N a ts k s × (pairs_after N (length ts) s ≡ [])
 
-  connect_last : (fuel k : ℕ) (s s' : State) → ReachedFrom N a ts k s → length ts ≤ k + fuel → run fuel s ≡ done s' → Last s'
+  connect_last : (fuel k : ℕ) (s s' : State) → ReachedFrom N a ts k s → length ts ≤ k + fuel → run fuel s ≡ Ok s' → Last s'
   connect_last zero k s s' r h e =
       subst Last (done_same s s' e) (k, r, no_tables s.live (omega (arith, (reached_fewer k s r).amount)))
   connect_last (suc fuel) k s s' r h e =
@@ -129,23 +130,23 @@ module _ (N : Network) (a : List Pair) (ts : List Tree) where
 
   -- ---- greedy refuses just as the merging does ----
 
-  abbrev merging : Result State
+  abbrev merging : Result State Refusal
   merging = run (length ts) (start_of a ts)
 
   greedy_is : greedy_from N a ts ≡ finish N merging
   unfolding greedy_from
   greedy_is = refl
 
-  finish_refuses : (x : Result State) (r : Refusal) → finish N x ≡ refused r → x ≡ refused r
-  finish_refuses (refused k) r e = ap refused (refused_same k r e)
-  finish_refuses (done s) r e = not_done r _ (sym e)
+  finish_refuses : (x : Result State Refusal) (r : Refusal) → finish N x ≡ Err r → x ≡ Err r
+  finish_refuses (Err k) r e = ap Err (refused_same k r e)
+  finish_refuses (Ok s) r e = not_done r _ (sym e)
 
-  from_refused : (r : Refusal) → greedy_from N a ts ≡ refused r → (r ≡ table_too_wide) × Wide
+  from_refused : (r : Refusal) → greedy_from N a ts ≡ Err r → (r ≡ TableTooWide) × Wide
   from_refused r e = connect_refuses (length ts) 0 (start_of a ts) r begin_from (finish_refuses merging r (sym greedy_is ∙ e))
 
-  answer_or : (x : Result Built) → ((r : Refusal) → x ≡ refused r → ⊥) → (b : Built) × (x ≡ done b)
-  answer_or (refused r) h = absurd (h r refl)
-  answer_or (done b) h = (b, refl)
+  answer_or : (x : Result Built Refusal) → ((r : Refusal) → x ≡ Err r → ⊥) → (b : Built) × (x ≡ Ok b)
+  answer_or (Err r) h = absurd (h r refl)
+  answer_or (Ok b) h = (b, refl)
 
 pub refuses_from : RefusesFrom
 refuses_from N a ts =
@@ -160,8 +161,8 @@ refuses_from N a ts =
 pub ends_from : EndsFrom
 ends_from N a ts b e = go (merging N a ts) refl (sym (greedy_is N a ts) ∙ e)
   where
-    go : (x : Result State) → merging N a ts ≡ x → finish N x ≡ done b → AnswersFrom N a ts b
-    go (refused r) p q = not_done r b q
-    go (done s) p q =
+    go : (x : Result State Refusal) → merging N a ts ≡ x → finish N x ≡ Ok b → AnswersFrom N a ts b
+    go (Err r) p q = not_done r b q
+    go (Ok s) p q =
         let (k, r, z) = connect_last N a ts (length ts) 0 (start_of a ts) s begin_from (omega arith) p in
         record { merges = k; last = s; reached = r; ended = z; joins = done_same _ b q }

@@ -1,11 +1,12 @@
 -- Greedy's merging: its pairs are of two live tables, each merge keeps what holds of every state (`Sound`), and merging ends with no pair that
 -- shares an index. Assumes nothing.
-use Rattle.std.specs.Prelude.{◌≡◌, refl, false, List, [], ◌∷◌, ◌++◌, ℕ, zero, suc, ◌+◌, ◌≤◌, ◌<◌, eqb, ltb, length}
+use Rattle.std.specs.Prelude.{◌≡◌, refl, false, List, [], ◌∷◌, ◌++◌, ℕ, zero, suc, ◌+◌, ◌≤◌, ◌<◌, eqb, ltb, length, Result, Ok}
 use Rattle.std.proofs.Common.{sym, ap, ◌∙◌, subst, arith, length-append, eq-eqb, ne_eqb}
 use Rattle.spec.specs.Members.{In, here, there, All}
 use Rattle.spec.specs.Network.{Network, leaf_count}
 use Rattle.spec.specs.Tree.{Tree, number, Pair}
-use Rattle.spec.specs.Refusal.{table_too_wide, Result, done}
+use Rattle.spec.specs.declared.Refusal.TheVariants.{TableTooWide}
+use Rattle.spec.specs.declared.Refusal.{Refusal}
 use Rattle.spec.specs.Greedy.{Live, Cand, share, in_order, sharing_with, sharing_pairs, least, any_wide, State, off, joined, merge, turn, connect, trees, slots, start_of}
 use Rattle.spec.specs.GreedyClaims.{others}
 use Rattle.laws.specs.Booleans.{by_cases}
@@ -124,15 +125,15 @@ pub record Sound (N : Network) (base : ℕ → ℕ) (lo all : ℕ) (s : State) :
   pub slotted : All (λ x. x.slot < s.next) s.live
 
 -- what an answer of a turn comes from
-pub turn_cases {ℓ} : {P : Type ℓ} (N : Network) (cs : List Cand) (s : State) (go : State → Result State) (s' : State)
-    → turn N cs s go ≡ done s'
+pub turn_cases {ℓ} : {P : Type ℓ} (N : Network) (cs : List Cand) (s : State) (go : State → Result State Refusal) (s' : State)
+    → turn N cs s go ≡ Ok s'
     → (cs ≡ [] → s ≡ s' → P)
-    → ((c : Cand) (l : List Cand) → cs ≡ c ∷ l → any_wide N (c ∷ l) ≡ false → go (merge N (least N c l) s) ≡ done s' → P)
+    → ((c : Cand) (l : List Cand) → cs ≡ c ∷ l → any_wide N (c ∷ l) ≡ false → go (merge N (least N c l) s) ≡ Ok s' → P)
     → P
 turn_cases N [] s go s' e f g = f refl (done_same s s' e)
 turn_cases N (c ∷ l) s go s' e f g =
     by_cases (any_wide N (c ∷ l))
-    (λ q. not_done table_too_wide s' (rw q at e))
+    (λ q. not_done TableTooWide s' (rw q at e))
     (λ q. g c l refl q (rw q at e))
 
 module _ (N : Network) (base : ℕ → ℕ) (lo all n₀ : ℕ) where
@@ -159,7 +160,7 @@ module _ (N : Network) (base : ℕ → ℕ) (lo all n₀ : ℕ) where
 
   -- ---- all turns ----
 
-  pub connect_sound : (fuel : ℕ) (s s' : State) → connect N n₀ fuel s ≡ done s' → Sound N base lo all s → Sound N base lo all s'
+  pub connect_sound : (fuel : ℕ) (s s' : State) → connect N n₀ fuel s ≡ Ok s' → Sound N base lo all s → Sound N base lo all s'
   connect_sound zero s s' e g = subst (Sound N base lo all) (done_same s s' e) g
   connect_sound (suc fuel) s s' e g =
       turn_cases N (sharing_pairs N n₀ s.live) s (λ s'. connect N n₀ fuel s') s' e
@@ -167,7 +168,7 @@ module _ (N : Network) (base : ℕ → ℕ) (lo all n₀ : ℕ) where
       (λ c l p w q. connect_sound fuel (merge N (least N c l) s) s' q (turn_sound s g c l p))
 
   -- the fuel never cuts the merging off: no pair that shares an index is left
-  pub connect_ends : (fuel : ℕ) (s s' : State) → connect N n₀ fuel s ≡ done s' → Sound N base lo all s
+  pub connect_ends : (fuel : ℕ) (s s' : State) → connect N n₀ fuel s ≡ Ok s' → Sound N base lo all s
       → all ≤ fuel + length s.pairs → sharing_pairs N n₀ s'.live ≡ []
   connect_ends zero s s' e g h =
       subst (λ (z : State). sharing_pairs N n₀ z.live ≡ []) (done_same s s' e)
@@ -187,7 +188,7 @@ some_last : (l : List Live) (x : Live) → 1 ≤ length (trees (l ++ (x ∷ []))
 some_last [] x = omega arith
 some_last (y ∷ l) x = omega arith
 
-pub connect_some : (N : Network) (n₀ fuel : ℕ) (s s' : State) → connect N n₀ fuel s ≡ done s' → 1 ≤ length (trees s.live)
+pub connect_some : (N : Network) (n₀ fuel : ℕ) (s s' : State) → connect N n₀ fuel s ≡ Ok s' → 1 ≤ length (trees s.live)
     → 1 ≤ length (trees s'.live)
 connect_some N n₀ zero s s' e h = subst (λ (z : State). 1 ≤ length (trees z.live)) (done_same s s' e) h
 connect_some N n₀ (suc fuel) s s' e h =

@@ -1,13 +1,13 @@
 -- LAW G5: greedy refuses only by 12, and just if it comes to a state with a pair that is too wide. It is LAW G7 over all leaves, onto the empty
 -- array. Assumes nothing.
-use Rattle.std.specs.Prelude.{◌≡◌, ℕ, length}
+use Rattle.std.specs.Prelude.{◌≡◌, ℕ, length, Result, Err, Ok}
 use Rattle.std.proofs.Common.{sym, ◌∙◌}
 use Rattle.std.proofs.Math.Path.{ap}
 use mathlib.Core.List.{List, []}
 use Rattle.spec.specs.Lists.{range}
 use Rattle.spec.specs.Network.{Network, leaf_count}
 use Rattle.spec.specs.Tree.{Tree}
-use Rattle.spec.specs.Refusal.{Refusal, Result, refused, done}
+use Rattle.spec.specs.declared.Refusal.{Refusal}
 use Rattle.spec.specs.Greedy.{any_wide, State, Built, sharing_pairs, leaves_of, greedy_from, array_of, greedy}
 use Rattle.spec.specs.GreedyClaims.{pairs_in, Reached, begin, then, Refuses}
 use Rattle.spec.specs.EndClaims.{pairs_after, ReachedFrom, begin_from, then_from}
@@ -31,15 +31,15 @@ module _ (N : Network) where
   of_from k s begin_from = begin
   of_from k s (then_from {k = k'} {s = s'} c l r e w) = then c l (of_from k' s' r) (sym (same_pairs s') ∙ e) w
 
-  array_refused : (x : Result Built) (r : Refusal) → array_of x ≡ refused r → x ≡ refused r
-  array_refused (refused k) r e = ap refused (refused_same k r e)
-  array_refused (done b) r e = not_done r _ (sym e)
+  array_refused : (x : Result Built Refusal) (r : Refusal) → array_of x ≡ Err r → x ≡ Err r
+  array_refused (Err k) r e = ap Err (refused_same k r e)
+  array_refused (Ok b) r e = not_done r _ (sym e)
 
-  from_greedy : (r : Refusal) → greedy N ≡ refused r → greedy_from N [] start ≡ refused r
+  from_greedy : (r : Refusal) → greedy N ≡ Err r → greedy_from N [] start ≡ Err r
   unfolding greedy
   from_greedy r e = array_refused (greedy_from N [] start) r e
 
-  to_greedy : (r : Refusal) → greedy_from N [] start ≡ refused r → greedy N ≡ refused r
+  to_greedy : (r : Refusal) → greedy_from N [] start ≡ Err r → greedy N ≡ Err r
   unfolding greedy
   to_greedy r e = ap array_of e
 

@@ -6,7 +6,7 @@ use Rattle.spec.specs.Members.{In, here, there, All}
 use Rattle.spec.specs.Network.{Network, leaf_count}
 use Rattle.spec.specs.Tree.{Tree}
 use Rattle.spec.specs.Price.{bits, kept, lists, size_at}
-use Rattle.spec.specs.Refusal.{table_too_wide}
+use Rattle.spec.specs.declared.Refusal.TheVariants.{TableTooWide}
 use Rattle.spec.specs.Greedy.{Live, Cand, share, in_order, least, any_wide, State, off, joined, merge}
 use Rattle.spec.specs.GreedyClaims.{then, PairsAll, SharingPair, PairsJust, SizesAgree}
 use Rattle.laws.specs.Booleans.{by_cases}
@@ -65,7 +65,7 @@ sizes_agree N a e k s r c l p =
     let f : Fine s.live m =
     all_in (Fine s.live) m (c ∷ l) (subst (All (Fine s.live)) p (pairs_fine N (leaf_count N) s.live g.rising)) (least_least N c l).member in
     let w : any_wide N (c ∷ l) ≡ false =
-    by_cases (any_wide N (c ∷ l)) (λ t. not_done table_too_wide a (sym ((greedy_refuses N).whenever k s r (ap (any_wide N) p ∙ t)) ∙ e)) (λ t. t) in
+    by_cases (any_wide N (c ∷ l)) (λ t. not_done TableTooWide a (sym ((greedy_refuses N).whenever k s r (ap (any_wide N) p ∙ t)) ∙ e)) (λ t. t) in
     let new : Live = record { slot = s.next; tree = joined N s.pairs m.first.tree m.second.tree } in
     let v : leaf_count N + k ≡ leaf_count N + length s.pairs = omega (arith, h) in
     record {

@@ -1,8 +1,7 @@
 -- LAW B7: the largest live entry is what the Rust's heap would give. Assumes nothing.
-use Rattle.std.specs.Prelude.{◌≡◌, refl, ◌≢◌, Bool, true, false, not, ◌&&◌, cond, List, [], ◌∷◌, ◌++◌, ℕ, zero, suc, ◌≤◌, ◌<◌, eqb, ltb, Float, length, get_or, set}
+use Rattle.std.specs.Prelude.{◌≡◌, refl, ◌≢◌, Bool, true, false, not, ◌&&◌, cond, List, [], ◌∷◌, ◌++◌, ℕ, zero, suc, ◌≤◌, ◌<◌, eqb, ltb, Float, length, get_or, set, Option, None, Some}
 use Rattle.std.proofs.Common.{sym, ap, ap₂, ◌∙◌, subst, arith, length-append, length-set, get_or-set_same, get_or-set_other, eqb-true, ne_eqb, ltb-true, ltb-false}
 use Rattle.std.proofs.Math.Bool.{and-false}
-use Rattle.std.proofs.Math.Option.{Option, none, some}
 use Rattle.std.specs.Float.Ieee.{eq}
 use Rattle.std.proofs.Math.ListN.{get_or-eq_default}
 use Rattle.std.proofs.lemmas.Bool.{eqb-false}
@@ -88,40 +87,40 @@ module _ (n : ℕ) (moves : List ℕ) (q : Queue) (heap : List Entry) (H : HeapO
 -- an entry that none of those that wait comes before is what the scan finds
 module _ (q : Queue) (num : (v : ℕ) → waits q v ≡ true → Numbered (entry_of q v)) (v : ℕ) (w : waits q v ≡ true)
     (top : (u : ℕ) → waits q u ≡ true → above (entry_of q u) (entry_of q v) ≡ false) where
-  stays_first : (l : List ℕ) → fold_over (offered q) l (some (entry_of q v)) ≡ some (entry_of q v)
+  stays_first : (l : List ℕ) → fold_over (offered q) l (Some (entry_of q v)) ≡ Some (entry_of q v)
   stays_first [] = refl
   stays_first (u ∷ l) = ap (λ o. fold_over (offered q) l o) same ∙ stays_first l
     where
-      same : offered q u (some (entry_of q v)) ≡ some (entry_of q v)
+      same : offered q u (Some (entry_of q v)) ≡ Some (entry_of q v)
       same = by_cases (waits q u) (λ e. rw (e, top u e)) (λ e. rw e)
 
   -- what is found so far is the entry of a vertex that waits
   abbrev Found : Option Entry → Type 0
-  Found none = Unit {0}
-  Found (some b) = (u : ℕ) × (waits q u ≡ true) × (b ≡ entry_of q u)
+  Found None = Unit {0}
+  Found (Some b) = (u : ℕ) × (waits q u ≡ true) × (b ≡ entry_of q u)
 
   found_next : (u : ℕ) (o : Option Entry) → Found o → Found (offered q u o)
   found_next u o h = by_cases (waits q u) (λ e. rw e (go e o h)) (λ e. rw e h)
     where
-      go : waits q u ≡ true → (o : Option Entry) → Found o → Found (some (or_above o (entry_of q u)))
-      go e none h = (u, e, refl)
-      go e (some c) h = by_cases (above (entry_of q u) c) (λ k. rw k (u, e, refl)) (λ k. rw k h)
+      go : waits q u ≡ true → (o : Option Entry) → Found o → Found (Some (or_above o (entry_of q u)))
+      go e None h = (u, e, refl)
+      go e (Some c) h = by_cases (above (entry_of q u) c) (λ k. rw k (u, e, refl)) (λ k. rw k h)
 
-  first_found : (o : Option Entry) → Found o → offered q v o ≡ some (entry_of q v)
-  first_found none h = rw w
-  first_found (some c) h =
+  first_found : (o : Option Entry) → Found o → offered q v o ≡ Some (entry_of q v)
+  first_found None h = rw w
+  first_found (Some c) h =
       let (u, e, p) = h in
-      rw w (by_cases (above (entry_of q v) c) (λ k. rw k) (λ k. rw k (ap some
+      rw w (by_cases (above (entry_of q v) c) (λ k. rw k) (λ k. rw k (ap Some
       (p ∙ ap (entry_of q) (tie_vertex (entry_of q u) (entry_of q v) (num u e) (num v w) (top u e) (ap (above (entry_of q v)) (sym p) ∙ k))))))
 
-  scan_finds : (l : List ℕ) (o : Option Entry) → Found o → memb v l ≡ true → fold_over (offered q) l o ≡ some (entry_of q v)
+  scan_finds : (l : List ℕ) (o : Option Entry) → Found o → memb v l ≡ true → fold_over (offered q) l o ≡ Some (entry_of q v)
   scan_finds [] o h m = clash m refl
   scan_finds (u ∷ l) o h m =
       by_cases (eqb v u)
       (λ e. rw (← eqb-true v u e) (ap (λ o. fold_over (offered q) l o) (first_found o h) ∙ stays_first l))
       (λ e. scan_finds l (offered q u o) (found_next u o h) (rw e at m))
 
-none_found : (q : Queue) → ((v : ℕ) → waits q v ≡ false) → (l : List ℕ) → fold_over (offered q) l none ≡ none
+none_found : (q : Queue) → ((v : ℕ) → waits q v ≡ false) → (l : List ℕ) → fold_over (offered q) l None ≡ None
 none_found q h [] = refl
 none_found q h (u ∷ l) = rw (h u) (none_found q h l)
 
@@ -206,7 +205,7 @@ heap_gives n moves q _ _ _ H num (alive heap e rest c l) =
     let (w, p) = live_waits n moves q heap H e (off_in c) l in
     let f : (u : ℕ) → waits q u ≡ true → above (entry_of q u) (entry_of q e.vertex) ≡ false =
     λ u k. ap (above (entry_of q u)) (sym p) ∙ all_in (λ f. above f e ≡ false) (entry_of q u) heap c.first (waits_in n moves q heap H u k) in
-    ap some p ∙ sym (scan_finds q num e.vertex w f (range n) none tt (memb-from e.vertex 0 n (omega arith) (omega (arith, waits_below n moves q heap H e.vertex w))))
+    ap Some p ∙ sym (scan_finds q num e.vertex w f (range n) None tt (memb-from e.vertex 0 n (omega arith) (omega (arith, waits_below n moves q heap H e.vertex w))))
 heap_gives n moves q _ _ _ H num (stale heap e rest' o last c l g) = heap_gives n moves q rest' o last (passed_over n moves q heap e rest' H c l) num g
 
 pub heap_taken : HeapTaken
@@ -330,15 +329,15 @@ top_of x (y ∷ l) h =
     ))
 
 heap_runs_in : (k : ℕ) (moves : List ℕ) (q : Queue) (heap : List Entry) → All Numbered heap → length heap ≤ k → (o : Option Entry) × (rest : List Entry) × Gives moves q heap o rest
-heap_runs_in zero moves q [] h z = (none, [], nothing)
+heap_runs_in zero moves q [] h z = (None, [], nothing)
 heap_runs_in zero moves q (x ∷ l) h z = absurd (omega arith)
-heap_runs_in (suc k) moves q [] h z = (none, [], nothing)
+heap_runs_in (suc k) moves q [] h z = (None, [], nothing)
 heap_runs_in (suc k) moves q (x ∷ l) h z =
     let (e, rest, c) = top_of x l h in
     let s : length rest ≤ k =
     omega (arith, ap length c.whole, ap length c.others, length-append c.before (e ∷ c.behind), length-append c.before c.behind) in
     let (o, last, g) = heap_runs_in k moves q rest (rest_all Numbered c h) s in
-    by_cases (live moves q e) (λ t. (some e, rest, alive (x ∷ l) e rest c t)) (λ t. (o, last, stale (x ∷ l) e rest o last c t g))
+    by_cases (live moves q e) (λ t. (Some e, rest, alive (x ∷ l) e rest c t)) (λ t. (o, last, stale (x ∷ l) e rest o last c t g))
 
 pub heap_runs : HeapRuns
 heap_runs moves q heap h = heap_runs_in (length heap) moves q heap h (omega arith)

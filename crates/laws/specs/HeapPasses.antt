@@ -1,7 +1,6 @@
 -- LAW B7, through a whole pass. Assumes nothing.
-use Rattle.std.specs.Prelude.{◌≡◌, refl, Bool, List, [], ◌∷◌, ℕ, zero, suc, ◌+◌, ◌-◌, ◌≤◌, ◌<◌, ltb, Float, length, get_or, replicate}
+use Rattle.std.specs.Prelude.{◌≡◌, refl, Bool, List, [], ◌∷◌, ℕ, zero, suc, ◌+◌, ◌-◌, ◌≤◌, ◌<◌, ltb, Float, length, get_or, replicate, Option, None, Some}
 use Rattle.std.proofs.Common.{subst, arith, ltb-true, ltb-false}
-use Rattle.std.proofs.Math.Option.{Option, none, some}
 use Rattle.std.proofs.lemmas.List.{length-replicate, get_or-replicate}
 use Rattle.std.proofs.Math.ListN.{get_or-eq_default}
 use Rattle.spec.specs.Lists.{memb, keep, from}
@@ -47,7 +46,7 @@ heap_starts G part ws =
 
 -- ---- a turn ----
 
-emptied : (n : ℕ) (moves : List ℕ) (q : Queue) (heap : List Entry) (rest : List Entry) → HeapOf n moves q heap → Gives moves q heap none rest → HeapOf n moves q rest
+emptied : (n : ℕ) (moves : List ℕ) (q : Queue) (heap : List Entry) (rest : List Entry) → HeapOf n moves q heap → Gives moves q heap None rest → HeapOf n moves q rest
 emptied n moves q _ _ H nothing = H
 emptied n moves q _ _ H (stale heap e rest o last c l g) = emptied n moves q rest last (passed_over n moves q heap e rest H c l) g
 
@@ -74,8 +73,8 @@ module _ (G : Hypergraph) (maxw : Float) (p : Pass) (heap : List Entry) (rest : 
     (H : HeapOf (vertex_count G) p.gains.moves p.queue heap) where
   turn_keeps : (o : Option Entry) → Gives p.gains.moves p.queue heap o rest
       → HeapOf (vertex_count G) (turn_of G maxw o p).gains.moves (turn_of G maxw o p).queue (heap_after G maxw o rest p)
-  turn_keeps none g = emptied (vertex_count G) p.gains.moves p.queue heap rest H g
-  turn_keeps (some e) g =
+  turn_keeps None g = emptied (vertex_count G) p.gains.moves p.queue heap rest H g
+  turn_keeps (Some e) g =
       let v = e.vertex in
       let n = vertex_count G in
       let q : Queue = taken_out v p.queue in

@@ -1,11 +1,12 @@
 -- The C host's pricing and slicing by computation: the listing's bytes of small plans, their numbers, and refusals. Assumes nothing.
-use Rattle.std.specs.Prelude.{List, [], ◌∷◌, ◌++◌, map, ◌≡◌, refl, ℕ, ◌^◌}
-use Rattle.std.proofs.Math.Option.{none, some}
+use Rattle.std.specs.Prelude.{List, [], ◌∷◌, ◌++◌, map, ◌≡◌, refl, ℕ, ◌^◌, None, Some, Result, Ok}
+use Rattle.spec.specs.declared.Prices.{Prices}
+use Rattle.spec.specs.declared.Refusal.{Refusal}
 use Rattle.std.specs.Float.Ieee.{round, mul, sub, lt, of_int}
 use Rattle.spec.specs.Memory.{filled, over}
-use Rattle.spec.specs.Refusal.{code_of, Result, done}
+use Rattle.spec.specs.Refusal.{code_of}
 use Rattle.spec.specs.Tree.{valid, tree_at, pairs_of}
-use Rattle.spec.specs.Price.{kept, listing, flat_steps, Prices}
+use Rattle.spec.specs.Price.{kept, listing, flat_steps}
 use Rattle.spec.specs.Network.{Network, named}
 use Rattle.spec.specs.Layout.{firsts, network_of}
 use Rattle.spec.specs.Undercut.{undercuts}
@@ -18,11 +19,11 @@ use Rattle.spec.specs.Host.{full_room, listing_call, host_call, lent_network, me
 use Rattle.laws.specs.Samples.{network, sample, apart}
 
 abbrev contents : Contents
-contents = record { network = sample; tree = some (2 ∷ 1 ∷ 3 ∷ 0 ∷ []); ask = flagged (0 ∷ 1 ∷ []) }
+contents = record { network = sample; tree = Some (2 ∷ 1 ∷ 3 ∷ 0 ∷ []); ask = flagged (0 ∷ 1 ∷ []) }
 
 -- two steps, total 4, widest 1, slice bits 2; then the steps of the sample, index 1 being flagged
 priced : host_call 36 (file_of contents)
-    ≡ done (0 ∷ 2 ∷ 0 ∷ 0 ∷ 0 ∷ 0 ∷ 0 ∷ 0 ∷ 0 ∷ 0 ∷ 4 ∷ 1 ∷ 0 ∷ 1 ∷ 0 ∷ 2
+    ≡ Ok (0 ∷ 2 ∷ 0 ∷ 0 ∷ 0 ∷ 0 ∷ 0 ∷ 0 ∷ 0 ∷ 0 ∷ 4 ∷ 1 ∷ 0 ∷ 1 ∷ 0 ∷ 2
     ∷ 0 ∷ 3 ∷ 0 ∷ 2 ∷ 0 ∷ 1 ∷ 0 ∷ 1 ∷ 0 ∷ 0
     ∷ 0 ∷ 4 ∷ 0 ∷ 3 ∷ 0 ∷ 0 ∷ 0 ∷ 1 ∷ 0 ∷ 1 ∷ [])
 unfolding host_call listing_call read_of file_of price_call listing flat_steps valid tree_at pairs_of kept named
@@ -30,7 +31,7 @@ priced = refl
 
 -- one byte too few; no tree; too few bytes before the missing tree; half a file
 abbrev bare : Contents
-bare = record { network = sample; tree = none; ask = plain }
+bare = record { network = sample; tree = None; ask = plain }
 
 refusals : map code_of (
     refusal_in (host_call 35 (file_of contents)) ∷ refusal_in (host_call 36 (file_of bare)) ∷ refusal_in (host_call 35 (file_of bare)) ∷ refusal_in (host_call 36 []) ∷ [])
@@ -46,7 +47,7 @@ lent_sample : lent_network (1 ∷ 2 ∷ 1 ∷ []) (2 ∷ 2 ∷ 1 ∷ []) rows (0
 unfolding network_of firsts filled
 lent_sample = refl
 
-abbrev in_memory : ℕ → Network → Result Prices
+abbrev in_memory : ℕ → Network → Result Prices Refusal
 in_memory places N = memory_call places N 4096 full_room (0 ∷ 1 ∷ []) (2 ∷ 1 ∷ 3 ∷ 0 ∷ [])
 
 memory : answer_after (in_memory 5 sample) (9 ∷ 9 ∷ 9 ∷ 9 ∷ 9 ∷ []) ≡ 0 ∷ 4 ∷ 2 ∷ 2 ∷ 9 ∷ []
@@ -65,7 +66,7 @@ memory_fits = refl
 -- ---- high bytes, a total beyond, no widest: two leaves of 52 and of 53 bits together, and no leaves ----
 
 -- a plan of one step, or none, as bytes and as four numbers
-abbrev bytes : Network → List ℕ → Result (List ℕ)
+abbrev bytes : Network → List ℕ → Result (List ℕ) Refusal
 bytes N kids = listing_call 26 N [] kids
 
 abbrev numbers : Network → List ℕ → List ℕ
@@ -73,16 +74,16 @@ numbers N kids = answer_after (memory_call 4 N 4096 full_room [] kids) (9 ∷ 9 
 
 -- 2^52, 52 bits
 exact_bytes : bytes (apart 4) (0 ∷ 1 ∷ [])
-    ≡ done (0 ∷ 1 ∷ 0 ∷ 0 ∷ 16 ∷ 0 ∷ 0 ∷ 0 ∷ 0 ∷ 0 ∷ 0 ∷ 1 ∷ 0 ∷ 52 ∷ 0 ∷ 0 ∷ 0 ∷ 2 ∷ 0 ∷ 0 ∷ 0 ∷ 1 ∷ 0 ∷ 52 ∷ 0 ∷ 52 ∷ [])
+    ≡ Ok (0 ∷ 1 ∷ 0 ∷ 0 ∷ 16 ∷ 0 ∷ 0 ∷ 0 ∷ 0 ∷ 0 ∷ 0 ∷ 1 ∷ 0 ∷ 52 ∷ 0 ∷ 0 ∷ 0 ∷ 2 ∷ 0 ∷ 0 ∷ 0 ∷ 1 ∷ 0 ∷ 52 ∷ 0 ∷ 52 ∷ [])
 unfolding listing_call price_call listing flat_steps valid tree_at pairs_of kept named
 exact_bytes = refl
 
 beyond_bytes : bytes (apart 5) (0 ∷ 1 ∷ [])
-    ≡ done (0 ∷ 1 ∷ 1 ∷ 0 ∷ 0 ∷ 0 ∷ 0 ∷ 0 ∷ 0 ∷ 0 ∷ 0 ∷ 1 ∷ 0 ∷ 53 ∷ 0 ∷ 0 ∷ 0 ∷ 2 ∷ 0 ∷ 0 ∷ 0 ∷ 1 ∷ 0 ∷ 53 ∷ 0 ∷ 53 ∷ [])
+    ≡ Ok (0 ∷ 1 ∷ 1 ∷ 0 ∷ 0 ∷ 0 ∷ 0 ∷ 0 ∷ 0 ∷ 0 ∷ 0 ∷ 1 ∷ 0 ∷ 53 ∷ 0 ∷ 0 ∷ 0 ∷ 2 ∷ 0 ∷ 0 ∷ 0 ∷ 1 ∷ 0 ∷ 53 ∷ 0 ∷ 53 ∷ [])
 unfolding listing_call price_call listing flat_steps valid tree_at pairs_of kept named
 beyond_bytes = refl
 
-no_leaf_bytes : bytes (network [] [] []) [] ≡ done (0 ∷ 0 ∷ 0 ∷ 0 ∷ 0 ∷ 0 ∷ 0 ∷ 0 ∷ 0 ∷ 0 ∷ 0 ∷ 0 ∷ 0 ∷ 0 ∷ 0 ∷ 0 ∷ [])
+no_leaf_bytes : bytes (network [] [] []) [] ≡ Ok (0 ∷ 0 ∷ 0 ∷ 0 ∷ 0 ∷ 0 ∷ 0 ∷ 0 ∷ 0 ∷ 0 ∷ 0 ∷ 0 ∷ 0 ∷ 0 ∷ 0 ∷ 0 ∷ [])
 unfolding listing_call price_call listing flat_steps valid tree_at pairs_of kept named
 no_leaf_bytes = refl
 
@@ -93,7 +94,7 @@ in_numbers = refl
 
 -- ---- slicing of a network in memory: the sample's tree to the target 2 ----
 
-abbrev sliced_in : ℕ → ℕ → Network → Result Plan
+abbrev sliced_in : ℕ → ℕ → Network → Result Plan Refusal
 sliced_in improving places N = memory_slice_call places N (improving_number improving) 2 6144 3 (2 ∷ 1 ∷ 3 ∷ 0 ∷ [])
 
 -- with improvement, by any number but 0, the pass after the one choice tries six splits; without, nothing is counted

@@ -1,7 +1,6 @@
 -- LAW B10: laws B3 and B7 hold at every pass that bisection of an accepted network comes to. Assumes nothing.
-use Rattle.std.specs.Prelude.{◌≡◌, refl, true, not, ◌&&◌, List, [], ◌∷◌, map, ℕ, suc, ◌-◌, ◌*◌, ◌^◌, ◌≤◌, ◌<◌, ltb, Float, length, get_or, replicate}
+use Rattle.std.specs.Prelude.{◌≡◌, refl, true, not, ◌&&◌, List, [], ◌∷◌, map, ℕ, suc, ◌-◌, ◌*◌, ◌^◌, ◌≤◌, ◌<◌, ltb, Float, length, get_or, replicate, Option, None, Some}
 use Rattle.std.proofs.Common.{sym, ap, ◌∙◌, subst, arith}
-use Rattle.std.proofs.Math.Option.{Option, none, some}
 use Rattle.std.specs.Float.Ieee.{eq}
 use Rattle.spec.specs.Lists.{memb, range, sum_of}
 use Rattle.spec.specs.Members.{All}
@@ -120,8 +119,8 @@ module _ (G : Hypergraph) (h : Lawful G) where
 
   module _ (maxw : Float) (p : Pass) (s : Sided (vertex_count G) p.sides.part) where
     turn_keys : (o : Option Entry) → KeysOk p.queue → KeysOk (turn_of G maxw o p).queue
-    turn_keys none k = k
-    turn_keys (some e) k =
+    turn_keys None k = k
+    turn_keys (Some e) k =
         let v = e.vertex in
         let S = moved G v p.sides in
         let g : Gains = counted v e.key p.gains in
@@ -133,14 +132,14 @@ module _ (G : Hypergraph) (h : Lawful G) where
         k
 
     turn_heap : (o : Option Entry) (rest : List Entry) → KeysOk p.queue → All Numbered rest → All Numbered (heap_after G maxw o rest p)
-    turn_heap none rest k a = a
-    turn_heap (some e) rest k a =
+    turn_heap None rest k a = a
+    turn_heap (Some e) rest k a =
         let v = e.vertex in
         let t = taken_off G maxw e p in
         let from : Heaped = record { queue = taken_out v p.queue; heap = rest } in
         cond_has (All Numbered) (fits_in G maxw v p.sides && not t.over) (fold_over (pushed_again G t.sides.part t.gains.moves) (all_pins (nets_at G v)) from).heap rest
         (fold_has BothOk (λ u. u < vertex_count G) (pushed_again G t.sides.part t.gains.moves)
-        (λ u x b y. repushed_ok G h t.sides.part (turn_of_lem G (vertex_count G) maxw (some e) p s) t.gains.moves u x b y)
+        (λ u x b y. repushed_ok G h t.sides.part (turn_of_lem G (vertex_count G) maxw (Some e) p s) t.gains.moves u x b y)
         (all_pins (nets_at G v)) from (pins_at v) (k, a)).1
         a
 

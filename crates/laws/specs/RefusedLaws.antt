@@ -1,10 +1,11 @@
 -- Each refusal of a record means its facts: the conditions one by one, and then their order. Assumes nothing.
-use Rattle.std.specs.Prelude.{◌≡◌, refl, Bool, true, false, ◌||◌, cond, List, [], ◌∷◌, ℕ, suc, ◌≤◌, ◌<◌, eqb, ltb, leb, length, get_or}
+use Rattle.std.specs.Prelude.{◌≡◌, refl, Bool, true, false, ◌||◌, cond, List, [], ◌∷◌, ℕ, suc, ◌≤◌, ◌<◌, eqb, ltb, leb, length, get_or, Option, None, Some}
 use Rattle.std.proofs.Common.{ap, subst, arith, ltb-true, ltb-false, lt-ltb, leb-true}
-use Rattle.std.proofs.Math.Option.{Option, none, some}
+use Rattle.spec.specs.declared.Refusal.{Refusal}
+use Rattle.spec.specs.declared.Refusal.TheVariants.{TooLarge, Overweight, OutOfRange, Repeated}
 use Rattle.std.proofs.Math.ListN.{get_or-eq_default}
 use Rattle.spec.specs.Lists.{memb, anyb, count}
-use Rattle.spec.specs.Refusal.{Refusal, too_large, overweight, out_of_range, repeated, number_of, code_of}
+use Rattle.spec.specs.Refusal.{number_of, code_of}
 use Rattle.spec.specs.Network.{Network, leaf_count, index_count, weight, legs, max_leaves, max_indices, max_legs, max_outputs, max_weight, repeats, any_out_of_range}
 use Rattle.spec.specs.NetworkClaims.{CountAbove, many_leaves, many_indices, many_legs, many_outputs, WeightAbove, IndexBeyond, beyond_in_leaf, beyond_in_outputs, IndexRepeated, repeated_in_leaf, repeated_in_outputs, RefusedJust}
 use Rattle.laws.specs.ListLaws.{any_member, count_memb}
@@ -109,7 +110,7 @@ module _ (N : Network) where
 
 -- the first of four conditions that holds
 abbrev first_of : (a b c d : Bool) → Option Refusal
-first_of a b c d = cond a (some too_large) (cond b (some overweight) (cond c (some out_of_range) (cond d (some repeated) none)))
+first_of a b c d = cond a (Some TooLarge) (cond b (Some Overweight) (cond c (Some OutOfRange) (cond d (Some Repeated) None)))
 
 -- which holds, and which fail, by the number
 abbrev Means : (a b c d : Bool) → ℕ → Type 0
@@ -127,8 +128,8 @@ by_number false false false true = ((λ e. absurd (omega arith)), (λ e. absurd 
 by_number false false false false = ((λ e. absurd (omega arith)), (λ e. absurd (omega arith)), (λ e. absurd (omega arith)), (λ e. absurd (omega arith)))
 
 abbrev OfFour : Option Refusal → Type 0
-OfFour none = Unit {0}
-OfFour (some r) = memb (number_of r) (3 ∷ 4 ∷ 5 ∷ 6 ∷ []) ≡ true
+OfFour None = Unit {0}
+OfFour (Some r) = memb (number_of r) (3 ∷ 4 ∷ 5 ∷ 6 ∷ []) ≡ true
 
 of_four : (a b c d : Bool) → OfFour (first_of a b c d)
 of_four true b c d = refl

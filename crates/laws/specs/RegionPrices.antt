@@ -1,7 +1,6 @@
 -- LAW I4: pricing gives the nodes of a region its old cost, and after the rebuild the search's best. Assumes nothing.
-use Rattle.std.specs.Prelude.{◌≡◌, refl, Bool, true, cond, List, [], ◌∷◌, ◌++◌, map, ℕ, ◌+◌, ◌^◌, ◌≤◌, ◌<◌, eqb, length}
+use Rattle.std.specs.Prelude.{◌≡◌, refl, Bool, true, cond, List, [], ◌∷◌, ◌++◌, map, ℕ, ◌+◌, ◌^◌, ◌≤◌, ◌<◌, eqb, length, Option, Some}
 use Rattle.std.proofs.Common.{ap, ◌∙◌, arith, eqb-true, eq-eqb}
-use Rattle.std.proofs.Math.Option.{Option, some}
 use Rattle.spec.specs.Lists.{memb, count, range, sum_of}
 use Rattle.spec.specs.Network.{Network, leaf_count, index_count}
 use Rattle.spec.specs.Tree.{Tree, leaf, node, number, numbers, inner, Pair, Describes, ValidTree}
@@ -90,7 +89,7 @@ module _ (N : Network) (flag : ℕ → Bool) (a : List Pair) where
 -- ---- a region, rebuilt as the search says ----
 
 module _ (N : Network) (flag : ℕ → Bool) (k : ℕ) (limit : Option ℕ) (t : Tree) (fr : Front) (o : FrontOf N flag t fr)
-    (f : Found) (found : searched N flag limit t fr ≡ some f) (many : 3 ≤ length fr.members)
+    (f : Found) (found : searched N flag limit t fr ≡ Some f) (many : 3 ≤ length fr.members)
   where
     abbrev rebuilt : Tree
     rebuilt = (build fr.members f.tree (map number fr.opened)).tree

@@ -1,10 +1,9 @@
 -- Valid trees of the same plan have the same prices: they differ only in the inner nodes' numbers and in which child stands left.
 -- Assumes nothing.
-use Rattle.std.specs.Prelude.{◌≡◌, refl, Bool, true, false, ◌&&◌, ◌||◌, cond, List, [], ◌∷◌, ◌++◌, map, ◌⊎◌, eqb, length}
+use Rattle.std.specs.Prelude.{◌≡◌, refl, Bool, true, false, ◌&&◌, ◌||◌, cond, List, [], ◌∷◌, ◌++◌, map, ◌⊎◌, eqb, length, None, Some}
 use Rattle.std.proofs.Common.{sym, ap₂, ◌∙◌, subst, inl, inr, ⊎_elim, arith, lt_of_not-le, eqb-true, ne_eqb}
 use Rattle.std.proofs.Math.Path.{ap, fun_ext}
 use Rattle.std.proofs.Math.Bool.{not, or_comm}
-use Rattle.std.proofs.Math.Option.{none, some}
 use Prim.Native.Nat.{ℕ, ◌+◌, ◌^◌, ◌≤◌, ◌<◌, max}
 use Rattle.std.proofs.Math.Decide.{dec_le}
 use Rattle.spec.specs.Lists.{memb, range, keep}
@@ -264,9 +263,9 @@ module _ (n : ℕ) (a : List Pair) where
   describes_part s (node v l r) d (inr (inl p)) = describes_part s l d.2 p
   describes_part s (node v l r) d (inr (inr p)) = describes_part s r d.3 p
 
-  placed_part : (s t : Tree) → Placed n a t → Part s t → tree_at n a (number s) ≡ some s
-  placed_part s (leaf i) d e = subst (λ z. tree_at n a (number z) ≡ some z) (sym e) d
-  placed_part s (node v l r) d (inl e) = subst (λ z. tree_at n a (number z) ≡ some z) (sym e) d.0
+  placed_part : (s t : Tree) → Placed n a t → Part s t → tree_at n a (number s) ≡ Some s
+  placed_part s (leaf i) d e = subst (λ z. tree_at n a (number z) ≡ Some z) (sym e) d
+  placed_part s (node v l r) d (inl e) = subst (λ z. tree_at n a (number z) ≡ Some z) (sym e) d.0
   placed_part s (node v l r) d (inr (inl p)) = placed_part s l d.1 p
   placed_part s (node v l r) d (inr (inr p)) = placed_part s r d.2 p
 
@@ -304,8 +303,8 @@ module _ (n : ℕ) (a b : List Pair) (t u : Tree) (d : ValidTree n a t) (e : Val
       let (v, h, k, same) = w (number s) (inner_number n a s ds m) top in
       let (z, q, r) = number_part v u (valid_in n b u e v k) in
       let dz : Describes n b z = describes_part n b z u e.described q in
-      let at_s : tree_at n a (number s) ≡ some s = placed_part n a s t (valid_placed n a t d) p in
-      let at_z : tree_at n b v ≡ some z = ap (tree_at n b) (sym r) ∙ placed_part n b z u (valid_placed n b u e) q in (
+      let at_s : tree_at n a (number s) ≡ Some s = placed_part n a s t (valid_placed n a t d) p in
+      let at_z : tree_at n b v ≡ Some z = ap (tree_at n b) (sym r) ∙ placed_part n b z u (valid_placed n b u e) q in (
         z,
         q,
         number_inner n b z dz (omega (arith, r)),
@@ -340,7 +339,7 @@ prices_with N flag a b t u d e s =
     = listing_widest N flag a t d ∙ same_widest N flag t u s ∙ sym (listing_widest N flag b u e) in
     λ i. record {
       total = up_to (total_same i);
-      widest = cond (eqb (leaf_count N) 0) none (some (max (largest (map (bits N flag) N.leaves)) (widest_same i)));
+      widest = cond (eqb (leaf_count N) 0) None (Some (max (largest (map (bits N flag) N.leaves)) (widest_same i)));
       slice_bits = slice_bits N flag;
     }
 

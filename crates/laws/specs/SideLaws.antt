@@ -1,8 +1,7 @@
 -- LAW B10: the partitions that bisection comes to have a side, 0 or 1, for each vertex. Assumes nothing.
-use Rattle.std.specs.Prelude.{◌≡◌, refl, Bool, true, false, cond, List, [], ◌∷◌, map, ℕ, zero, suc, ◌-◌, ◌*◌, ◌<◌, leb, Float, length, get_or, set, take, replicate}
+use Rattle.std.specs.Prelude.{◌≡◌, refl, Bool, true, false, cond, List, [], ◌∷◌, map, ℕ, zero, suc, ◌-◌, ◌*◌, ◌<◌, leb, Float, length, get_or, set, take, replicate, Option, None, Some}
 use Rattle.std.proofs.Common.{◌∙◌, subst, arith, length-set}
 use Rattle.std.proofs.Math.Bool.{not}
-use Rattle.std.proofs.Math.Option.{Option, none, some}
 use Rattle.std.specs.Float.{binary64}
 use Rattle.std.specs.Float.Ieee.{add, div, le, lt}
 use Rattle.std.proofs.lemmas.List.{length-replicate, length-map}
@@ -77,8 +76,8 @@ module _ (G : Hypergraph) (n : ℕ) where
     PassOk p = SidesOk p.sides
 
     pub turn_of_lem : (o : Option Entry) (p : Pass) → PassOk p → PassOk (turn_of G maxw o p)
-    turn_of_lem none p h = h
-    turn_of_lem (some e) p h = cond_has PassOk (fits_in G maxw e.vertex p.sides) _ _ (moved_sided e.vertex p.sides h) h
+    turn_of_lem None p h = h
+    turn_of_lem (Some e) p h = cond_has PassOk (fits_in G maxw e.vertex p.sides) _ _ (moved_sided e.vertex p.sides h) h
 
     pub turn_sided : (p : Pass) → PassOk p → PassOk (pass_turn G maxw p)
     turn_sided p h = turn_of_lem (largest (vertex_count G) p.queue) p h
@@ -111,8 +110,8 @@ module _ (G : Hypergraph) where
   GrowthOk g = Sided n g.part
 
   growth_sided : (o : Option ℕ) (g : Growth) → GrowthOk g → GrowthOk (growth_turn G o g)
-  growth_sided none g h = h
-  growth_sided (some v) g h =
+  growth_sided None g h = h
+  growth_sided (Some v) g h =
       let s : Sided n (set g.part v 1) = sided_set n g.part v 1 (omega arith) h in
       cond_has GrowthOk (le (half G) (add binary64 g.weight (vertex_weight G v))) _ _ s s
 
@@ -120,21 +119,21 @@ module _ (G : Hypergraph) where
   grown_sided_of ws =
       let seed = index_draw n ws in
       until_has GrowthOk (suc n) (λ g. ended G g.next) (λ g. growth_turn G g.next g) (λ g h. growth_sided g.next g h)
-      (record { part = replicate n 0; weight = zero_float; links = replicate n zero_float; next = some seed.value; words = seed.words })
+      (record { part = replicate n 0; weight = zero_float; links = replicate n zero_float; next = Some seed.value; words = seed.words })
       (record { long = length-replicate {A = ℕ} n 0; low = all_replicate (λ s. s < 2) n 0 (omega arith) })
 
   module _ (maxw : Float) where
     candidate_sided : (ws : Words) → Sided n (candidate G maxw ws).value
     candidate_sided ws = refined_sided G maxw 8 (grown G ws).part (grown G ws).words (grown_sided_of ws)
 
-    more_tries : (k : ℕ) (b : Candidate) (ws : Words) → Sided n b.part → Sided n (part_of G maxw (tries G maxw k (some b) ws).value)
+    more_tries : (k : ℕ) (b : Candidate) (ws : Words) → Sided n b.part → Sided n (part_of G maxw (tries G maxw k (Some b) ws).value)
     more_tries zero b ws h = h
     more_tries (suc k) b ws h =
         let c = candidate_of G maxw (candidate G maxw ws).value in
-        more_tries k (better (some b) c) (candidate G maxw ws).words
+        more_tries k (better (Some b) c) (candidate G maxw ws).words
         (cond_has (λ (x : Candidate). Sided n x.part) (lt c.cut b.cut) c b (candidate_sided ws) h)
 
-    tries_sided : (k : ℕ) (ws : Words) → Sided n (part_of G maxw (tries G maxw (suc k) none ws).value)
+    tries_sided : (k : ℕ) (ws : Words) → Sided n (part_of G maxw (tries G maxw (suc k) None ws).value)
     tries_sided k ws = more_tries k (candidate_of G maxw (candidate G maxw ws).value) (candidate G maxw ws).words (candidate_sided ws)
 
 pub grown_sided : GrownSided
@@ -146,7 +145,7 @@ initial_sided G maxw ws = tries_sided G maxw 7 ws
 
 -- ---- through coarser hypergraphs ----
 
-places_length : (G : Hypergraph) (maxw : Float) (ws : Words) (l : Level) → (coarsen G maxw ws).value ≡ some l → length l.places ≡ vertex_count G
+places_length : (G : Hypergraph) (maxw : Float) (ws : Words) (l : Level) → (coarsen G maxw ws).value ≡ Some l → length l.places ≡ vertex_count G
 places_length G maxw ws l e =
     let mates = (matching G maxw ws).value in
     subst (λ (x : Level). length x.places ≡ vertex_count G) (level_from G maxw ws l e)
@@ -163,8 +162,8 @@ placed_sided G maxw ws l part e h =
 through_sided : (G : Hypergraph) (maxw most : Float) (ws : Words) (go : Hypergraph → Words → Drawn (List ℕ))
     → ((H : Hypergraph) (w : Words) → Sided (vertex_count H) (go H w).value) → (o : Option Level) → (coarsen G most ws).value ≡ o
     → Sided (vertex_count G) (through_level G maxw o (coarsen G most ws).words go).value
-through_sided G maxw most ws go h none e = initial_sided G maxw (coarsen G most ws).words
-through_sided G maxw most ws go h (some l) e =
+through_sided G maxw most ws go h None e = initial_sided G maxw (coarsen G most ws).words
+through_sided G maxw most ws go h (Some l) e =
     let d = go l.graph (coarsen G most ws).words in
     refined_sided G maxw 4 (map (side_of d.value) l.places) d.words (placed_sided G most ws l d.value e (h l.graph (coarsen G most ws).words))
 

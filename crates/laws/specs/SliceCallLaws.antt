@@ -1,14 +1,13 @@
 -- LAWS S7 and S8: what follows a choice keeps trees valid and raises no total; so what the call of slicing answers is right, with improvement
 -- and without. Assumes nothing.
-use Rattle.std.specs.Prelude.{◌≡◌, refl, Bool, true, false, not, ◌||◌, cond, List, [], ◌∷◌, ◌++◌, map, ℕ, zero, suc, ◌≤◌, ◌<◌, eqb, ltb, length, get_or, drop}
+use Rattle.std.specs.Prelude.{◌≡◌, refl, Bool, true, false, not, ◌||◌, cond, List, [], ◌∷◌, ◌++◌, map, ℕ, zero, suc, ◌≤◌, ◌<◌, eqb, ltb, length, get_or, drop, Some, Ok}
 use Rattle.std.proofs.Common.{sym, ap, ◌∙◌, subst, arith, drop_at, ltb-false}
-use Rattle.std.proofs.Math.Option.{some}
 use Rattle.std.proofs.Math.ListN.{get_or-append}
 use Rattle.spec.specs.Lists.{range}
 use Rattle.spec.specs.Network.{Network, leaf_count, index_count, InRange, Sliceable, network_checks}
 use Rattle.spec.specs.Tree.{Pair, valid, pairs_of}
 use Rattle.spec.specs.Price.{listing, work}
-use Rattle.spec.specs.Refusal.{Check, done}
+use Rattle.spec.specs.Refusal.{Check}
 use Rattle.spec.specs.Slicing.{Plan, one_pass, as_is, slice}
 use Rattle.spec.specs.SlicingClaims.{finished, Lowers, FollowUpsLower, FlagsOut, SlicesRight}
 use Rattle.spec.specs.Calls.{lent, length_check, tree_check, beyond_check, dangling_if, slice_words, total_is_beyond, dangling, follow_up, slice_checks, slice_call, sliced_flags}
@@ -30,8 +29,8 @@ use Rattle.laws.specs.SlicingLaws.{loop_keeps, sets_sliceable, stays_valid, fini
 pub pass_lowers : (N : Network) → dangling N ≡ false → Lowers N (one_pass N)
 pass_lowers N l =
     record {
-      keeps_valid = λ f limit a h. keeps_valid N 8 1 (some limit) f a h;
-      lower = λ f limit a h b. omega (arith, keeps_total N 8 1 (some limit) f a h (beyond_not (work (listing N f a)) b) l);
+      keeps_valid = λ f limit a h. keeps_valid N 8 1 (Some limit) f a h;
+      lower = λ f limit a h b. omega (arith, keeps_total N 8 1 (Some limit) f a h (beyond_not (work (listing N f a)) b) l);
     }
 
 pub as_is_lowers : (N : Network) → Lowers N as_is
@@ -68,7 +67,7 @@ tied_if N true h e = h.0
 tied_if N false h e = clash e refl
 
 sliced_by : (N : Network) (improving : Bool) (target words : ℕ) (flags kids : List ℕ) (p : Plan)
-    → slice_call N improving target words (length flags) kids ≡ done p → SlicedBy N improving target flags kids p
+    → slice_call N improving target words (length flags) kids ≡ Ok p → SlicedBy N improving target flags kids p
 unfolding slice_call
 sliced_by N improving target words flags kids p e =
     let new : Plan = slice N target (follow_up N improving) (pairs_of kids) in
@@ -77,7 +76,7 @@ sliced_by N improving target words flags kids p e =
     ∷ tree_check N kids
     ∷ beyond_check N (λ j. false) (pairs_of kids)
     ∷ dangling_if N improving in
-    let (cs, r) = checked_done (slice_checks N improving words (length flags) kids) (done new) p e in
+    let (cs, r) = checked_done (slice_checks N improving words (length flags) kids) (Ok new) p e in
     let (ns, rest) = all_parts (λ c. c.holds ≡ false) (network_checks false N) own cs in
     let (_, long) = or_none (ltb words (slice_words improving)) (ltb (length flags) (index_count N) || false) rest.0 in
     record {
@@ -101,7 +100,7 @@ byte_back zero h = refl
 byte_back (suc zero) h = refl
 byte_back (suc (suc x)) h = absurd (omega arith)
 
-flags_out : (N : Network) (p : Plan) (l : List ℕ) → index_count N ≤ length l → FlagsOut N p l (sliced_flags N (done p) l)
+flags_out : (N : Network) (p : Plan) (l : List ℕ) → index_count N ≤ length l → FlagsOut N p l (sliced_flags N (Ok p) l)
 flags_out N p l h =
     let out : List ℕ = map (λ j. cond (p.flag j) 1 0) (range (index_count N)) in
     let n : length out ≡ index_count N = map_range_length (λ j. cond (p.flag j) 1 0) (index_count N) in

@@ -1,17 +1,19 @@
 -- THE TABLE: the scope document's cases marked † that the definitions decide, in its order, and one theorem on all of them. A row has what the
 -- document says and what the definitions give, as numbers: 1 for valid or accepted, a refusal's number, an order, a total; and the program's
 -- sample, from the file's bytes to those of its output. Assumes nothing.
-use Rattle.std.specs.Prelude.{false, cond, List, [], ◌∷◌, map, ◌≡◌, refl, ℕ, ◌+◌, ◌-◌, ◌*◌, ◌^◌, leb, replicate}
-use Rattle.std.proofs.Math.Option.{Option, none, some}
+use Rattle.std.specs.Prelude.{false, cond, List, [], ◌∷◌, map, ◌≡◌, refl, ℕ, ◌+◌, ◌-◌, ◌*◌, ◌^◌, leb, replicate, Option, None, Some, Result, Err, Ok}
+use Rattle.spec.specs.declared.Refusal.{Refusal}
+use Rattle.spec.specs.declared.Total.{Total}
+use Rattle.spec.specs.declared.Total.TheVariants.{Exact, Beyond}
 use Prim.Native.String.{String}
 use Rattle.std.specs.Float.{binary64}
 use Rattle.std.specs.Float.Ieee.{round, mul, sub, lt, of_int, to_bits}
 use Rattle.spec.specs.Lists.{range, keep}
 use Rattle.spec.specs.Memory.{over}
-use Rattle.spec.specs.Refusal.{Refusal, number_of, Result, refused, done}
+use Rattle.spec.specs.Refusal.{number_of}
 use Rattle.spec.specs.Network.{Network, named, refusal_of}
 use Rattle.spec.specs.Tree.{tree_at, valid, pairs_of, flat_of, step_order}
-use Rattle.spec.specs.Price.{kept, listing, Total, exact, beyond, total}
+use Rattle.spec.specs.Price.{kept, listing, total}
 use Rattle.spec.specs.Calls.{plain_words, improve_words, valid_call, greedy_call, improve_call, slice_call, sliced_flags}
 use Rattle.spec.specs.Draws.{unit_of, index_of}
 use Rattle.spec.specs.Greedy.{greedy_from, greedy}
@@ -35,16 +37,16 @@ row s g = record { says = s; gives = g }
 -- ---- answers as numbers ----
 
 abbrev of_option : Option Refusal → ℕ
-of_option none = 1
-of_option (some r) = number_of r
+of_option None = 1
+of_option (Some r) = number_of r
 
 abbrev of_total : Total → List ℕ
-of_total (exact x) = x ∷ []
-of_total beyond = []
+of_total (Exact x) = x ∷ []
+of_total Beyond = []
 
-abbrev of_result : {A : Type 0} → Result A → ℕ
-of_result (refused r) = number_of r
-of_result (done x) = 1
+abbrev of_result : {A : Type 0} → Result A Refusal → ℕ
+of_result (Err r) = number_of r
+of_result (Ok x) = 1
 
 -- leaves of no index
 abbrev bare : ℕ → Network
@@ -92,7 +94,7 @@ rows =
     ∷ row (1 ∷ 3 ∷ []) (of_option (refusal_of (leaf_of 32)) ∷ of_option (refusal_of (leaf_of 33)) ∷ [])
     -- "Two leaves with no common index, all outputs: union of 52 bits has total 2^52; of 53 bits improvement refuses 10."
     ∷ row (2 ^ 52 ∷ []) (total_over (apart 4) (0 ∷ 1 ∷ []))
-    ∷ row (10 ∷ []) (of_result (improve_call (apart 5) 8 4 none (improve_words 8) [] (0 ∷ 1 ∷ [])) ∷ [])
+    ∷ row (10 ∷ []) (of_result (improve_call (apart 5) 8 4 None (improve_words 8) [] (0 ∷ 1 ∷ [])) ∷ [])
     -- "Most splits at m = 3, 4, 12: 6, 25, 261,625."
     ∷ row (6 ∷ 25 ∷ 261625 ∷ []) (most_splits 3 ∷ most_splits 4 ∷ most_splits 12 ∷ [])
     -- "Word 7, index draw below 3: 1. Unit draw of word 0: 0." (The f64 0 has the bits 0.)

@@ -1,9 +1,9 @@
 -- After the passes each node's slot holds the leaves below it: a slot that is right stays right, and every write makes its slot right. Assumes nothing.
-use Rattle.std.specs.Prelude.{◌≡◌, Bool, true, false, ◌||◌, length}
+use Rattle.std.specs.Prelude.{◌≡◌, Bool, true, false, ◌||◌, length, Option}
 use Rattle.std.proofs.Math.Path.{refl, ap₂, subst}
 use Rattle.std.proofs.Common.{sym, ◌∙◌, ap, arith}
 use mathlib.Core.List.{List, [], ◌∷◌, ◌++◌}
-use Rattle.std.proofs.Math.Option.{Option, some-injective}
+use Rattle.std.proofs.lemmas.Option.{same_Some}
 use Prim.Native.Nat.{ℕ, zero, suc, ◌+◌, ◌-◌, ◌*◌, ◌≤◌, ◌<◌}
 use Rattle.std.proofs.Math.Decide.{ℕ_discrete, dec_le}
 use Rattle.std.proofs.Math.Dec.{eqb}
@@ -89,7 +89,7 @@ module _ (w base : ℕ) (kids : List ℕ) (n : ℕ) where
   children v l r h d =
       let here : Pair = record { left = left_of kids n v; right = right_of kids n v } in
       let there : Pair = record { left = number l; right = number r } in
-      let p : here ≡ there = some-injective here there (sym (pair_at kids (v - n) h) ∙ d.1) in
+      let p : here ≡ there = same_Some here there (sym (pair_at kids (v - n) h) ∙ d.1) in
       (ap (λ (m : Pair). m.left) p, ap (λ (m : Pair). m.right) p)
 
   module _ (F : ℕ → ℕ → Bool) (long : length (pairs_of kids) ≡ n - 1) (two : 2 ≤ n)

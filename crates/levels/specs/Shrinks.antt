@@ -1,7 +1,6 @@
 -- A level that is taken has at least three vertices fewer: a computed test of the numbers 49 to 128. Assumes nothing.
-use Rattle.std.specs.Prelude.{Bool, true, false, ◌&&◌, cond, ◌≡◌, refl, ℕ, zero, suc, ◌+◌, ◌-◌, ◌≤◌, ◌<◌, Float}
+use Rattle.std.specs.Prelude.{Bool, true, false, ◌&&◌, cond, ◌≡◌, refl, ℕ, zero, suc, ◌+◌, ◌-◌, ◌≤◌, ◌<◌, Float, Option, None, Some}
 use Rattle.std.proofs.Common.{sym, ap, ◌∙◌, arith}
-use Rattle.std.proofs.Math.Option.{Option, none, some}
 use Rattle.std.proofs.Math.Decide.{ℕ_discrete, dec_le}
 use Rattle.std.specs.Float.Ieee.{of_int, mul, lt}
 use Rattle.std.specs.Float.{binary64}
@@ -61,8 +60,8 @@ found_fewer G limit ws ws' found L f e =
     t l = lt (mul binary64 (decimal 95 100) (whole_float (vertex_count G))) (whole_float (vertex_count l.graph))
 
     test : Option Level → Bool
-    test none = false
-    test (some l) = t l
+    test None = false
+    test (Some l) = t l
 
     none_left : (l : Level) → test (worthwhile G limit l) ≡ false
-    none_left l = by_cases (t l) (λ q. ap (λ b. test (cond b none (some l))) q) (λ q. ap (λ b. test (cond b none (some l))) q ∙ q)
+    none_left l = by_cases (t l) (λ q. ap (λ b. test (cond b None (Some l))) q) (λ q. ap (λ b. test (cond b None (Some l))) q ∙ q)

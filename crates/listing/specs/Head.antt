@@ -1,19 +1,20 @@
 -- The listing's head, one part after the other. Assumes nothing.
-use Rattle.std.specs.Prelude.{List, ◌++◌, ◌≡◌, refl, ℕ, ◌+◌, length}
-use Rattle.std.proofs.Math.Option.{Option, none, some}
+use Rattle.std.specs.Prelude.{List, ◌++◌, ◌≡◌, refl, ℕ, ◌+◌, length, Option, None, Some}
+use Rattle.spec.specs.declared.Total.{Total}
+use Rattle.spec.specs.declared.Total.TheVariants.{Exact, Beyond}
+use Rattle.spec.specs.declared.Prices.{Prices}
 use Rattle.std.proofs.Common.{sym, ap, ◌∙◌, length-append}
 use Rattle.spec.specs.Memory.{placed}
-use Rattle.spec.specs.Price.{Total, exact, beyond, Prices}
 use Rattle.spec.specs.Host.{bytes_of, total_bytes, widest_bytes, head_bytes}
 use Rattle.cells.specs.Cells.{placed_next}
 
 total_length : (t : Total) → length (total_bytes t) ≡ 9
-total_length (exact x) = refl
-total_length beyond = refl
+total_length (Exact x) = refl
+total_length Beyond = refl
 
 widest_length : (w : Option ℕ) → length (widest_bytes w) ≡ 3
-widest_length none = refl
-widest_length (some x) = refl
+widest_length None = refl
+widest_length (Some x) = refl
 
 -- one part after the other is the whole head
 pub head_placed : {a b e f : List ℕ} (d : List ℕ) (steps : ℕ) (p : Prices)

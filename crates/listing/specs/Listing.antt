@@ -1,5 +1,5 @@
 -- The listing's bytes in the lent buffer, and the refusals before it. Assumes nothing.
-use Rattle.std.specs.Prelude.{◌≡◌, refl, true, length, take, drop}
+use Rattle.std.specs.Prelude.{◌≡◌, refl, true, length, take, drop, Result, Err, Ok}
 use Rattle.std.proofs.Common.{sym, ◌∙◌, arith, take_at, le-ltb, lt-ltb}
 use Rattle.std.proofs.Math.Path.{ap, ap₂}
 use Rattle.std.proofs.Math.Bool.{false}
@@ -8,8 +8,11 @@ use Prim.Native.Nat.{ℕ, ◌+◌, ◌*◌, ◌-◌, ◌≤◌, ◌<◌}
 use Rattle.spec.specs.Memory.{over, placed}
 use Rattle.spec.specs.Network.{Network, leaf_count, network_checks, accepted}
 use Rattle.spec.specs.Tree.{valid, pairs_of}
-use Rattle.spec.specs.Price.{Step, listing, flat_steps, Prices, price_of}
-use Rattle.spec.specs.Refusal.{Refusal, short_buffer, Result, refused, done, number_of}
+use Rattle.spec.specs.Price.{Step, listing, flat_steps, price_of}
+use Rattle.spec.specs.declared.Prices.{Prices}
+use Rattle.spec.specs.declared.Refusal.{Refusal}
+use Rattle.spec.specs.declared.Refusal.TheVariants.{ShortBuffer}
+use Rattle.spec.specs.Refusal.{number_of}
 use Rattle.spec.specs.Calls.{plain_words, step_places, PriceRoom, price_checks, price_call, priced_steps, flag_at}
 use Rattle.spec.specs.Host.{two_each, head_bytes, listing_bytes, listing_length, full_room, listing_call, Answered}
 use Rattle.laws.specs.Results.{done_same, checked_done}
@@ -37,18 +40,18 @@ pub record FullRoom (ws sets sizes works steps : List ℕ) : Type 0 where
 
 module _ (N : Network) (flags kids : List ℕ) where
   -- where pricing answers, the network is accepted, the tree is valid, and the answer is the prices
-  module _ (words : ℕ) (room : PriceRoom) (p : Prices) (e : price_call N words room flags kids ≡ done p) where
+  module _ (words : ℕ) (room : PriceRoom) (p : Prices) (e : price_call N words room flags kids ≡ Ok p) where
     pub priced : (valid (leaf_count N) (pairs_of kids) ≡ true) × (price_of N (flag_at flags) (pairs_of kids) ≡ p) × (accepted N ≡ true)
     unfolding price_call
     priced =
-        let (f, q) = checked_done (price_checks N words room flags kids) (done (price_of N (flag_at flags) (pairs_of kids))) p e in (
+        let (f, q) = checked_done (price_checks N words room flags kids) (Ok (price_of N (flag_at flags) (pairs_of kids))) p e in (
           (fails_tree N kids (f.1.1.1.1.1.0, tt)).1,
           done_same (price_of N (flag_at flags) (pairs_of kids)) p q,
           fails_passes (network_checks false N) (f.0, (f.1.0, (f.1.1.0, (f.1.1.1.0, tt)))),
         )
 
     -- the listing's flat list, as pricing leaves it in front of its list
-    steps_taken : (s t : List ℕ) → step_places N * 5 ≤ length s → t ≡ priced_steps N flags kids (done p) s
+    steps_taken : (s t : List ℕ) → step_places N * 5 ≤ length s → t ≡ priced_steps N flags kids (Ok p) s
         → take (step_places N * 5) t ≡ flat_steps (listing N (flag_at flags) (pairs_of kids))
     steps_taken s t h q =
         let l : List Step = listing N (flag_at flags) (pairs_of kids) in
@@ -58,7 +61,7 @@ module _ (N : Network) (flags kids : List ℕ) where
         ∙ take_at (flat_steps l) (drop (length (flat_steps l)) s) (step_places N * 5) k
 
     -- the head and then the steps are the listing's bytes
-    pub listing_placed : {a b : List ℕ} (d s t : List ℕ) → step_places N * 5 ≤ length s → t ≡ priced_steps N flags kids (done p) s
+    pub listing_placed : {a b : List ℕ} (d s t : List ℕ) → step_places N * 5 ≤ length s → t ≡ priced_steps N flags kids (Ok p) s
         → a ≡ placed d 0 (head_bytes (step_places N) p) → b ≡ placed a 16 (two_each (take (step_places N * 5) t))
         → b ≡ over d (listing_bytes N (flag_at flags) (pairs_of kids))
     unfolding placed
@@ -76,36 +79,36 @@ module _ (N : Network) (flags kids : List ℕ) where
   -- ---- the answer ----
 
   module _ (size : ℕ) where
-    pub no_room : size < listing_length N → listing_call size N flags kids ≡ refused short_buffer
+    pub no_room : size < listing_length N → listing_call size N flags kids ≡ Err ShortBuffer
     unfolding listing_call
     no_room h = rw (lt-ltb size (listing_length N) h)
 
     module _ (h : listing_length N ≤ size) where
-      pub not_priced : (r : Refusal) → price_call N plain_words full_room flags kids ≡ refused r → listing_call size N flags kids ≡ refused r
+      pub not_priced : (r : Refusal) → price_call N plain_words full_room flags kids ≡ Err r → listing_call size N flags kids ≡ Err r
       unfolding listing_call
       not_priced r e = rw (le-ltb size (listing_length N) h, e)
 
-      pub is_priced : (p : Prices) → price_call N plain_words full_room flags kids ≡ done p
-          → listing_call size N flags kids ≡ done (listing_bytes N (flag_at flags) (pairs_of kids))
+      pub is_priced : (p : Prices) → price_call N plain_words full_room flags kids ≡ Ok p
+          → listing_call size N flags kids ≡ Ok (listing_bytes N (flag_at flags) (pairs_of kids))
       unfolding listing_call
       is_priced p e = rw (le-ltb size (listing_length N) h, e)
 
 -- ---- the number and the buffer ----
 
-pub answered_refused : {x : Result (List ℕ)} {n : ℕ} (r : Refusal) (out : List ℕ) → x ≡ refused r → n ≡ number_of r → Answered x n out out
+pub answered_refused : {x : Result (List ℕ) Refusal} {n : ℕ} (r : Refusal) (out : List ℕ) → x ≡ Err r → n ≡ number_of r → Answered x n out out
 answered_refused r out e q = rw e (q, refl)
 
-answered_done : {x : Result (List ℕ)} {after : List ℕ} (bytes out : List ℕ) → x ≡ done bytes → after ≡ over out bytes → Answered x 0 out after
+answered_done : {x : Result (List ℕ) Refusal} {after : List ℕ} (bytes out : List ℕ) → x ≡ Ok bytes → after ≡ over out bytes → Answered x 0 out after
 answered_done bytes out e q = rw e (refl, q)
 
 module _ (R : Record) (flags kids out : List ℕ) where
   pub answer_short : {n : ℕ} → n ≡ R.leaf_count - 1 → length out < 16 + n * 10
       → Answered (listing_call (length out) (net_of R) flags kids) 7 out out
   answer_short e h =
-      answered_refused short_buffer out (no_room (net_of R) flags kids (length out) (omega (arith, leaf_count_lem R))) refl
+      answered_refused ShortBuffer out (no_room (net_of R) flags kids (length out) (omega (arith, leaf_count_lem R))) refl
 
   -- with the lists that pricing fills; c is its call
-  module _ {ws sets sizes works steps : List ℕ} (full : FullRoom ws sets sizes works steps) {c : Result Prices}
+  module _ {ws sets sizes works steps : List ℕ} (full : FullRoom ws sets sizes works steps) {c : Result Prices Refusal}
       (own : c ≡ price_call (net_of R) (length ws) (room (length sets) (length sizes) (length works) (length steps)) flags kids) where
     same_call : c ≡ price_call (net_of R) plain_words full_room flags kids
     same_call = cc
@@ -125,8 +128,8 @@ module _ (R : Record) (flags kids out : List ℕ) where
           → Answered (listing_call (length out) (net_of R) flags kids) 0 out after
       answer_done {p} {t} {after} few q s a =
           let N : Network = net_of R in
-          let x : c ≡ done (prices_from p) = of_done c q in
-          let y : price_call N plain_words full_room flags kids ≡ done (prices_from p) = sym same_call ∙ x in
+          let x : c ≡ Ok (prices_from p) = of_done c q in
+          let y : price_call N plain_words full_room flags kids ≡ Ok (prices_from p) = sym same_call ∙ x in
           let m : n ≡ step_places N = omega (arith, leaf_count_lem R) in
           answered_done (listing_bytes N (flag_at flags) (pairs_of kids)) out
           (is_priced N flags kids (length out) enough (prices_from p) y)

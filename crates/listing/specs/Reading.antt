@@ -1,10 +1,10 @@
 -- From what the reader answers to the answer of a file. Assumes nothing.
-use Rattle.std.specs.Prelude.{◌≡◌, refl, List, ◌++◌, ℕ, ◌-◌, ◌≤◌, ◌<◌, length, get_or, take, drop}
+use Rattle.std.specs.Prelude.{◌≡◌, refl, List, ◌++◌, ℕ, ◌-◌, ◌≤◌, ◌<◌, length, get_or, take, drop, Option, None, Some, Result, Err, Ok}
 use Rattle.std.proofs.Common.{sym, ap, ap₂, ◌∙◌, subst, arith, length-append, take_at}
-use Rattle.std.proofs.Math.Option.{Option, none, some}
+use Rattle.spec.specs.declared.Refusal.{Refusal}
 use Rattle.std.proofs.lemmas.List.{take-append-le}
 use Rattle.spec.specs.Memory.{filled}
-use Rattle.spec.specs.Refusal.{Refusal, number_of, Result, refused, done}
+use Rattle.spec.specs.Refusal.{number_of}
 use Rattle.spec.specs.Network.{Network, leaf_count, index_count}
 use Rattle.spec.specs.File.{Ask, plain, flagged, target, Contents, flag_bytes, tree_bytes, tree_written, flags_written, read_of}
 use Rattle.spec.specs.FileClaims.{LawfulTree, LawfulAsk, RoomForTree, RoomForFlags}
@@ -25,8 +25,8 @@ use Rattle.listing.specs.Listing.{answered_refused}
 -- ---- how many places of the lists a file fills with its own tree and flags ----
 
 places_are : (t : Option (List ℕ)) → places_of (tree_answer t) ≡ length (tree_bytes t)
-places_are none = refl
-places_are (some kids) = refl
+places_are None = refl
+places_are (Some kids) = refl
 
 count_is : (a : Ask) → flag_count (ask_answer a) ≡ length (flag_bytes a)
 count_is plain = refl
@@ -39,8 +39,8 @@ contents N t a = record { network = N; tree = t; ask = a }
 
 tree_part : (N : Network) (t : Option (List ℕ)) (a : Ask) (l : List ℕ) → LawfulTree N t → RoomForTree N (length l) t
     → (length (tree_bytes t) ≤ length l) × (take (length (tree_bytes t)) (tree_written (contents N t a) l) ≡ tree_bytes t)
-tree_part N none a l h r = (omega arith, refl)
-tree_part N (some kids) a l (e, v) r =
+tree_part N None a l h r = (omega arith, refl)
+tree_part N (Some kids) a l (e, v) r =
     let q : length kids ≤ length l = omega (arith, valid_length (leaf_count N) kids e v) in
     (q, ap (take (length kids)) (placed_front l kids q) ∙ take_at kids (drop (length kids) l) (length kids) refl)
 
@@ -66,12 +66,12 @@ pub record Whole (file : List ℕ) (f : Found) (R : Record) (kids flags : List �
   pub flag_room : flag_count f.ask ≤ 256
   pub rest : (size : ℕ) → host_call size file ≡ listing_call size (net_of R) (take (flag_count f.ask) flags) (take (places_of f.tree) kids)
 
-host_done : (size : ℕ) (file : List ℕ) (c : Contents) → read_of 254 256 file ≡ done c
+host_done : (size : ℕ) (file : List ℕ) (c : Contents) → read_of 254 256 file ≡ Ok c
     → host_call size file ≡ listing_call size c.network (flag_bytes c.ask) (tree_bytes c.tree)
 unfolding host_call
 host_done size file c e = rw e
 
-host_refused : (size : ℕ) (file : List ℕ) (r : Refusal) → read_of 254 256 file ≡ refused r → host_call size file ≡ refused r
+host_refused : (size : ℕ) (file : List ℕ) (r : Refusal) → read_of 254 256 file ≡ Err r → host_call size file ≡ Err r
 unfolding host_call
 host_refused size file r e = rw e
 
@@ -79,15 +79,15 @@ module _ (file a b : List ℕ) (h : length a ≡ 254) (k : length b ≡ 256) whe
   same_read : read_of (length a) (length b) file ≡ read_of 254 256 file
   same_read = cc
 
-  refused_cases : (x : Result Contents) {n : ℕ} → x ≡ read_of 254 256 file → Refused n ≡ answer_of x → (size : ℕ) (out : List ℕ)
+  refused_cases : (x : Result Contents Refusal) {n : ℕ} → x ≡ read_of 254 256 file → Refused n ≡ answer_of x → (size : ℕ) (out : List ℕ)
       → Answered (host_call size file) n out out
-  refused_cases (refused r) {n} e q size out = let w : n ≡ number_of r = cc in answered_refused r out (host_refused size file r (sym e)) w
-  refused_cases (done c) e q size out = absurd (let w : ◌≡◌ {A = ℕ} 0 1 = cc in omega arith)
+  refused_cases (Err r) {n} e q size out = let w : n ≡ number_of r = cc in answered_refused r out (host_refused size file r (sym e)) w
+  refused_cases (Ok c) e q size out = absurd (let w : ◌≡◌ {A = ℕ} 0 1 = cc in omega arith)
 
-  done_cases : (x : Result Contents) {f : Found} {R : Record} {kids flags : List ℕ} → x ≡ read_of 254 256 file → ((i : ℕ) → get_or file i 0 < 256)
+  done_cases : (x : Result Contents Refusal) {f : Found} {R : Record} {kids flags : List ℕ} → x ≡ read_of 254 256 file → ((i : ℕ) → get_or file i 0 < 256)
       → Done f ≡ answer_of x → net_of R ≡ network_in x → kids ≡ tree_after x a → flags ≡ flags_after x b → Whole file f R kids flags
-  done_cases (refused r) e bytes q n s t = absurd (let w : ◌≡◌ {A = ℕ} 0 1 = cc in omega arith)
-  done_cases (done c) {f} {R} {kids} {flags} e bytes q n s t =
+  done_cases (Err r) e bytes q n s t = absurd (let w : ◌≡◌ {A = ℕ} 0 1 = cc in omega arith)
+  done_cases (Ok c) {f} {R} {kids} {flags} e bytes q n s t =
       let found : f ≡ record { tree = tree_answer c.tree; ask = ask_answer c.ask } = cc in
       let (lawful, (r, u), _) = (reads_just 254 256 file c (all_bytes file (λ i _. bytes i))).0 (sym e) in
       let (i, x) = tree_part c.network c.tree c.ask a lawful.tree (subst (λ p. RoomForTree c.network p c.tree) (sym h) r) in

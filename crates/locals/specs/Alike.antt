@@ -1,7 +1,6 @@
 -- Two searches over the same members that weigh alike find the same tree and try as many splits. Assumes nothing.
-use Rattle.std.specs.Prelude.{Bool, ◌&&◌, List, [], ◌∷◌, ◌≡◌, refl, ℕ, zero, suc, ◌<◌, eqb, length}
+use Rattle.std.specs.Prelude.{Bool, ◌&&◌, List, [], ◌∷◌, ◌≡◌, refl, ℕ, zero, suc, ◌<◌, eqb, length, Option, None}
 use Rattle.std.proofs.Math.Bool.{not, cond}
-use Rattle.std.proofs.Math.Option.{Option, none}
 use Rattle.std.proofs.Math.Path.{ap}
 use Rattle.std.proofs.Common.{ap₂, ◌∙◌, arith}
 use Rattle.spec.specs.Lists.{range}
@@ -45,7 +44,7 @@ module _ (m : ℕ) (has has' : ℕ → ℕ → Bool) (ext ext' : ℕ → Bool) (
     same_by g g' h [] a = refl
     same_by g g' h (p ∷ []) a = refl
     same_by g g' h (p ∷ q ∷ s) a =
-        ap₂ (λ x y. cond x none y) (same_passed (p ∷ q ∷ s) a) (same_scan g g' h (p ∷ q ∷ s) a none (splits_of (p ∷ q ∷ s)) (cuts_cut (p ∷ q ∷ s)))
+        ap₂ (λ x y. cond x None y) (same_passed (p ∷ q ∷ s) a) (same_scan g g' h (p ∷ q ∷ s) a None (splits_of (p ∷ q ∷ s)) (cuts_cut (p ∷ q ∷ s)))
 
     same_cheapest : (most : ℕ) (s : List ℕ) → All (λ p. p < m) s → cheapest m has ext weigh limit most s ≡ cheapest m has' ext' weigh' limit most s
     same_cheapest zero s a = refl

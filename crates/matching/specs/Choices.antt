@@ -1,8 +1,7 @@
 -- The choice of a mate in lent lists, and a matching by slots. Assumes nothing.
-use Rattle.std.specs.Prelude.{Bool, true, false, ◌&&◌, cond, ◌≡◌, List, ℕ, length, get_or, set, Float}
+use Rattle.std.specs.Prelude.{Bool, true, false, ◌&&◌, cond, ◌≡◌, List, ℕ, length, get_or, set, Float, Option, None, Some}
 use Rattle.std.proofs.Math.Bool.{and-false}
 use Rattle.std.proofs.Common.{sym, ap, ◌∙◌, length-set}
-use Rattle.std.proofs.Math.Option.{Option, none, some}
 use Rattle.std.specs.Float.{binary64}
 use Rattle.std.specs.Float.Ieee.{add, mul, lt, le}
 use Rattle.spec.specs.Floats.{zero_float, micro, whole_float}
@@ -11,7 +10,7 @@ use Rattle.spec.specs.Coarsen.{Choice}
 use Rattle.draws.specs.Cursor.{words_at}
 
 abbrev pub mate_if : Bool → ℕ → Option ℕ
-mate_if found u = cond found (some u) none
+mate_if found u = cond found (Some u) None
 
 abbrev pub choice_of : Float → Option ℕ → List Float → Words → Choice
 choice_of best mate rating ws = record { best = best; mate = mate; rating = rating; words = ws }
@@ -24,7 +23,7 @@ looked vw maxw v u c =
     let better = lt c.best r && le (add binary64 (get_or vw v zero_float) (get_or vw u zero_float)) maxw in
     record {
       best = cond better r c.best;
-      mate = cond better (some u) c.mate;
+      mate = cond better (Some u) c.mate;
       rating = set c.rating u zero_float;
       words = d.words;
     }
@@ -44,7 +43,7 @@ module _ (vw : List Float) (limit : Float) (words : List ℕ) (rating rating' : 
   fits = le (add binary64 (get_or vw v zero_float) (get_or vw u zero_float)) limit
 
   abbrev chosen : Float → Bool → List Float → Words → Choice
-  chosen x b l ws = choice_of (cond b x best) (cond b (some u) mate) l ws
+  chosen x b l ws = choice_of (cond b x best) (cond b (Some u) mate) l ws
 
   looked_by : (b : Bool) → (lt best (noisy g noise) && fits) ≡ b
       → chosen (noisy g noise) b rating' (words_at words next) ≡ looked vw limit v u (choice_of best mate rating (words_at words at))
@@ -53,9 +52,9 @@ module _ (vw : List Float) (limit : Float) (words : List ℕ) (rating rating' : 
       ∙ (λ i. chosen (noisy (eg i) (en i)) (lt best (noisy (eg i) (en i)) && fits) (er i) (ew i))
 
   pub looked_better : (x y z : Float) → x ≡ noisy g noise → y ≡ get_or vw v zero_float → z ≡ get_or vw u zero_float → lt best x ≡ true → le (add binary64 y z) limit ≡ true
-      → choice_of x (some u) rating' (words_at words next) ≡ looked vw limit v u (choice_of best mate rating (words_at words at))
+      → choice_of x (Some u) rating' (words_at words next) ≡ looked vw limit v u (choice_of best mate rating (words_at words at))
   looked_better x y z ex ey ez p q =
-      ap (λ x. choice_of x (some u) rating' (words_at words next)) ex
+      ap (λ x. choice_of x (Some u) rating' (words_at words next)) ex
       ∙ looked_by true (ap (λ t. t && fits) (ap (lt best) (sym ex) ∙ p) ∙ sym (λ i. le (add binary64 (ey i) (ez i)) limit) ∙ q)
 
   pub looked_light : (x : Float) → x ≡ noisy g noise → lt best x ≡ false

@@ -1,10 +1,9 @@
 -- A hypergraph in slots, without sides: the nets of a vertex, and a matching by them. Assumes nothing.
-use Rattle.std.specs.Prelude.{Bool, false, ◌&&◌, ◌≡◌, refl, ℕ, ◌+◌, ◌-◌, ◌≤◌, ◌<◌, ltb, Float, get_or, take}
+use Rattle.std.specs.Prelude.{Bool, false, ◌&&◌, ◌≡◌, refl, ℕ, ◌+◌, ◌-◌, ◌≤◌, ◌<◌, ltb, Float, get_or, take, None}
 use Rattle.std.proofs.Math.Bool.{cond}
 use Rattle.std.proofs.Math.Path.{sym, ap}
 use Rattle.std.proofs.Common.{◌∙◌, subst, arith, length-take-le, lt-ltb, le-ltb, eq-eqb, ne_eqb}
 use mathlib.Core.List.{List, [], ◌∷◌, ◌++◌, map, append-nil}
-use Rattle.std.proofs.Math.Option.{none}
 use Rattle.std.proofs.Math.ListN.{length, replicate}
 use Rattle.spec.specs.Lists.{memb, keep, range}
 use Rattle.spec.specs.Memory.{filled}
@@ -94,7 +93,7 @@ module _ (ws : List ℕ) (nets vertices m n : ℕ) (weights : List ℕ) (vw : Li
       ∙ sym (ap (λ b. cond b (drawn (mated G maxw v (chosen (ratings G maxw mates v)).mate mates) (chosen (ratings G maxw mates v)).words) (drawn mates (words_at words at))) (eq-eqb (get_or mates v 0) (length vw) (em ∙ sym ev)))
     where
       chosen : Ratings → Choice
-      chosen r = fold_over (looked vw maxw v) r.touched (choice_of zero_float none r.rating (words_at words at))
+      chosen r = fold_over (looked vw maxw v) r.touched (choice_of zero_float None r.rating (words_at words at))
 
       mated_is : mated_in v found u mates ≡ mated G maxw v (mate_if found u) mates
       mated_is = by_cases found (λ e. rw e) (λ e. rw e)
@@ -108,7 +107,7 @@ module _ (ws : List ℕ) (nets vertices m n : ℕ) (weights : List ℕ) (vw : Li
       new = drawn (mated G maxw v choice_end.mate mates) choice_end.words
         where
           choice_end : Choice
-          choice_end = fold_over (looked_at G maxw v) (ratings G maxw mates v).touched (choice_of zero_float none (ratings G maxw mates v).rating (words_at words at))
+          choice_end = fold_over (looked_at G maxw v) (ratings G maxw mates v).touched (choice_of zero_float None (ratings G maxw mates v).rating (words_at words at))
 
   -- MATCHED IN A DRAWN ORDER
   pub all_matched : (words order order' order'' mates mates' mates'' : List ℕ) (at at' at'' : ℕ) → length vw ≡ n → length order ≡ n → length mates ≡ n

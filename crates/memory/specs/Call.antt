@@ -1,27 +1,29 @@
 -- The call on a network in memory, beside pricing's. Assumes nothing.
-use Rattle.std.specs.Prelude.{◌≡◌, refl, Bool, true, ◌||◌, ℕ, ◌*◌, ◌≤◌, ◌<◌, ltb}
+use Rattle.std.specs.Prelude.{◌≡◌, refl, Bool, true, ◌||◌, ℕ, ◌*◌, ◌≤◌, ◌<◌, ltb, Option, None, Some, Result, Err, Ok}
 use Rattle.std.proofs.Math.Path.{sym, ap}
 use Rattle.std.proofs.Common.{◌∙◌, arith, le-ltb, lt-ltb}
 use Rattle.std.proofs.Math.Bool.{false}
 use mathlib.Core.List.{List, [], ◌∷◌, ◌++◌}
-use Rattle.std.proofs.Math.Option.{Option, none, some}
+use Rattle.spec.specs.declared.Refusal.{Refusal}
+use Rattle.spec.specs.declared.Refusal.TheVariants.{ShortBuffer, TooLarge, Overweight, OutOfRange, Repeated}
+use Rattle.spec.specs.declared.Prices.{Prices}
 use Rattle.spec.specs.Lists.{anyb}
-use Rattle.spec.specs.Refusal.{Refusal, short_buffer, too_large, overweight, out_of_range, repeated, Check, check, first, Result, refused, done, decide, checked}
+use Rattle.spec.specs.Refusal.{Check, check, first, decide, checked}
 use Rattle.spec.specs.Network.{Network, index_count, max_weight, repeats, any_out_of_range, network_checks, refusal_of}
-use Rattle.spec.specs.Price.{Prices, price_of}
+use Rattle.spec.specs.Price.{price_of}
 use Rattle.spec.specs.Tree.{pairs_of}
 use Rattle.spec.specs.Calls.{PriceRoom, lent, length_check, tree_check, flags_check, plain_words, set_words, step_numbers, step_places, node_places, price_call, flag_at, touches}
 use Rattle.spec.specs.Host.{memory_call}
 use Rattle.laws.specs.Booleans.{by_cases}
 use Rattle.network.specs.Codes.{large}
 
-pub checked-append : {A : Type 0} (a b : List Check) (r : Result A) → checked (a ++ b) r ≡ checked a (checked b r)
+pub checked-append : {A : Type 0} (a b : List Check) (r : Result A Refusal) → checked (a ++ b) r ≡ checked a (checked b r)
 checked-append [] b r = refl
 checked-append (c ∷ a) b r = by_cases c.holds (λ h. rw h) (λ h. rw h (checked-append a b r))
 
-pub decide_twice : {A : Type 0} (o : Option Refusal) (r : Result A) → decide o (decide o r) ≡ decide o r
-decide_twice none r = refl
-decide_twice (some k) r = refl
+pub decide_twice : {A : Type 0} (o : Option Refusal) (r : Result A Refusal) → decide o (decide o r) ≡ decide o r
+decide_twice None r = refl
+decide_twice (Some k) r = refl
 
 module _ (places : ℕ) (N : Network) (words : ℕ) (room : PriceRoom) (flags kids : List ℕ) where
   in_parts : memory_call places N words room flags kids
@@ -30,11 +32,11 @@ module _ (places : ℕ) (N : Network) (words : ℕ) (room : PriceRoom) (flags ki
   in_parts = checked-append (network_checks false N) (length_check (lent places 4 ∷ []) ∷ []) (price_call N words room flags kids)
 
   -- a network that is refused
-  pub as_refused : (k : Refusal) → refusal_of N ≡ some k → memory_call places N words room flags kids ≡ refused k
+  pub as_refused : (k : Refusal) → refusal_of N ≡ Some k → memory_call places N words room flags kids ≡ Err k
   as_refused k e = in_parts ∙ ap (λ o. decide o (checked (length_check (lent places 4 ∷ []) ∷ []) (price_call N words room flags kids))) e
 
   -- no room for the answer
-  pub as_short : refusal_of N ≡ none → places < 4 → memory_call places N words room flags kids ≡ refused short_buffer
+  pub as_short : refusal_of N ≡ None → places < 4 → memory_call places N words room flags kids ≡ Err ShortBuffer
   as_short e h =
       in_parts ∙ ap (λ o. decide o (checked (length_check (lent places 4 ∷ []) ∷ []) (price_call N words room flags kids))) e ∙ rw (lt-ltb places 4 h)
 
@@ -53,7 +55,7 @@ module _ (places : ℕ) (N : Network) (words : ℕ) (room : PriceRoom) (flags ki
       ∷ tree_check N kids
       ∷ flags_check N flags
       ∷ [] in
-      let p : Result Prices = done (price_of N (flag_at flags) (pairs_of kids)) in
+      let p : Result Prices Refusal = Ok (price_of N (flag_at flags) (pairs_of kids)) in
       let split : price_call N words room flags kids ≡ decide (refusal_of N) (checked rest p) = checked-append (network_checks false N) rest p in
       in_parts
       ∙ ap (decide (refusal_of N)) (rw (le-ltb places 4 h))
@@ -62,15 +64,15 @@ module _ (places : ℕ) (N : Network) (words : ℕ) (room : PriceRoom) (flags ki
       ∙ sym split
 
 -- a network's own refusals leave the workspace as it is
-first_touches : (a b c d : Bool) (k : Refusal) → first (check a too_large ∷ check b overweight ∷ check c out_of_range ∷ check d repeated ∷ []) ≡ some k
+first_touches : (a b c d : Bool) (k : Refusal) → first (check a TooLarge ∷ check b Overweight ∷ check c OutOfRange ∷ check d Repeated ∷ []) ≡ Some k
     → touches k ≡ false
-first_touches true b c d k e = let w : too_large ≡ k = cc in ap touches (sym w)
-first_touches false true c d k e = let w : overweight ≡ k = cc in ap touches (sym w)
-first_touches false false true d k e = let w : out_of_range ≡ k = cc in ap touches (sym w)
-first_touches false false false true k e = let w : repeated ≡ k = cc in ap touches (sym w)
+first_touches true b c d k e = let w : TooLarge ≡ k = cc in ap touches (sym w)
+first_touches false true c d k e = let w : Overweight ≡ k = cc in ap touches (sym w)
+first_touches false false true d k e = let w : OutOfRange ≡ k = cc in ap touches (sym w)
+first_touches false false false true k e = let w : Repeated ≡ k = cc in ap touches (sym w)
 first_touches false false false false k e = absurd (let w : ◌≡◌ {A = ℕ} 0 1 = cc in omega arith)
 
-pub untouched : (N : Network) (k : Refusal) → refusal_of N ≡ some k → touches k ≡ false
+pub untouched : (N : Network) (k : Refusal) → refusal_of N ≡ Some k → touches k ≡ false
 untouched N k e =
     first_touches (large N) (anyb (λ w. ltb max_weight w) N.weights)
     (anyb (any_out_of_range (index_count N)) N.leaves || any_out_of_range (index_count N) N.outputs)

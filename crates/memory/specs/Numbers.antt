@@ -1,10 +1,13 @@
 -- Four numbers over the front of a list, and the number of a refusal. Assumes nothing.
-use Rattle.std.specs.Prelude.{◌≡◌, refl, List, [], ◌∷◌, ◌++◌, ℕ, get_or, set}
+use Rattle.std.specs.Prelude.{◌≡◌, refl, List, [], ◌∷◌, ◌++◌, ℕ, get_or, set, Option, None, Some}
 use Rattle.std.proofs.Common.{sym, ap, ◌∙◌, arith}
-use Rattle.std.proofs.Math.Option.{Option, none, some}
+use Rattle.spec.specs.declared.Refusal.{Refusal}
+use Rattle.spec.specs.declared.Refusal.TheVariants.{ShortBuffer}
+use Rattle.spec.specs.declared.Total.{Total}
+use Rattle.spec.specs.declared.Total.TheVariants.{Exact, Beyond}
+use Rattle.spec.specs.declared.Prices.{Prices}
 use Rattle.spec.specs.Memory.{over}
-use Rattle.spec.specs.Refusal.{Refusal, short_buffer, number_of, code_of}
-use Rattle.spec.specs.Price.{Total, exact, beyond, Prices}
+use Rattle.spec.specs.Refusal.{number_of, code_of}
 use Rattle.spec.specs.Host.{total_numbers, widest_number, price_numbers}
 use Rattle.network.specs.Codes.{positive}
 use Rattle.cost.specs.Back.{exact_of}
@@ -19,8 +22,8 @@ four_over (x ∷ y ∷ z ∷ w ∷ []) a b c d = refl
 four_over (x ∷ y ∷ z ∷ w ∷ v ∷ l) a b c d = refl
 
 total_two : (t : Total) → total_numbers t ≡ get_or (total_numbers t) 0 0 ∷ exact_of t ∷ []
-total_two (exact x) = refl
-total_two beyond = refl
+total_two (Exact x) = refl
+total_two Beyond = refl
 
 -- the answer's numbers, put one after the other
 pub numbers_put : {a b c d : List ℕ} {w x y z : ℕ} (l : List ℕ) (p : Prices)
@@ -34,13 +37,13 @@ numbers_put {a} {b} {c} {d} {w} {x} {y} {z} l p hw hx hy hz e f g h =
 
 -- the number of the network's refusal, or 7 where it has none
 abbrev pub or_short : Option Refusal → ℕ
-or_short none = number_of short_buffer
-or_short (some r) = number_of r
+or_short None = number_of ShortBuffer
+or_short (Some r) = number_of r
 
 pub none_short : {n : ℕ} (o : Option Refusal) → n ≡ code_of o → n ≡ 0 → 7 ≡ or_short o
-none_short none e z = refl
-none_short (some r) e z = absurd (omega (arith, positive r))
+none_short None e z = refl
+none_short (Some r) e z = absurd (omega (arith, positive r))
 
 pub own_number : {n : ℕ} (o : Option Refusal) → n ≡ code_of o → (n ≡ 0 → ⊥) → n ≡ or_short o
-own_number none e z = absurd (z e)
-own_number (some r) e z = e
+own_number None e z = absurd (z e)
+own_number (Some r) e z = e

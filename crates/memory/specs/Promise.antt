@@ -1,13 +1,14 @@
 -- What pricing a network in memory promises: the number, the answer, and each lent list. Assumes nothing.
-use Rattle.std.specs.Prelude.{◌≡◌, refl, Bool, true, false, cond, List, ℕ, ◌≤◌, ◌<◌, length}
+use Rattle.std.specs.Prelude.{◌≡◌, refl, Bool, true, false, cond, List, ℕ, ◌≤◌, ◌<◌, length, Option, None, Some, Result, Err, Ok}
 use Rattle.std.proofs.Common.{sym, ap, ◌∙◌, subst}
-use Rattle.std.proofs.Math.Option.{Option, none, some}
+use Rattle.spec.specs.declared.Refusal.{Refusal}
+use Rattle.spec.specs.declared.Refusal.TheVariants.{ShortBuffer, TooLarge}
+use Rattle.spec.specs.declared.Prices.{Prices}
 use Rattle.spec.specs.Memory.{cleared, over}
-use Rattle.spec.specs.Refusal.{Refusal, short_buffer, too_large, number_of, code_of, Result, refused, done}
+use Rattle.spec.specs.Refusal.{number_of, code_of}
 use Rattle.spec.specs.FileClaims.{refusal_in}
 use Rattle.spec.specs.Network.{Network, refusal_of}
 use Rattle.spec.specs.Tree.{pairs_of}
-use Rattle.spec.specs.Price.{Prices}
 use Rattle.spec.specs.Calls.{plain_words, set_words, flag_at, touches, price_call, workspace_after, priced_steps, priced_sizes, priced_works}
 use Rattle.spec.specs.Host.{lent_network, price_numbers, memory_call, answer_after}
 use Rattle.laws.specs.Results.{not_done}
@@ -22,7 +23,7 @@ use Rattle.memory.specs.Call.{as_priced, as_refused, as_short, untouched}
 use Rattle.memory.specs.Numbers.{or_short}
 
 -- every list follows the call c, and the listing that is handed out is sound
-pub record Follows (N : Network) (flags kids : List ℕ) (c : Result Prices) (ws₀ sets₀ sizes₀ works₀ steps₀ answer₀ ws sets sizes works steps answer : List ℕ) (r : ℕ) : Type 0 where
+pub record Follows (N : Network) (flags kids : List ℕ) (c : Result Prices Refusal) (ws₀ sets₀ sizes₀ works₀ steps₀ answer₀ ws sets sizes works steps answer : List ℕ) (r : ℕ) : Type 0 where
   pub number : r ≡ code_of (refusal_in c)
   pub answer_is : answer ≡ answer_after c answer₀
   pub steps_are : steps ≡ priced_steps N flags kids c steps₀
@@ -30,7 +31,7 @@ pub record Follows (N : Network) (flags kids : List ℕ) (c : Result Prices) (ws
   pub sizes_are : sizes ≡ priced_sizes N flags kids c sizes₀
   pub works_are : works ≡ priced_works N flags kids c works₀
   pub workspace : ws ≡ workspace_after plain_words c ws₀
-  pub sound : (p : Prices) → c ≡ done p → ListingSound set_words N (flag_at flags) (pairs_of kids) sets steps
+  pub sound : (p : Prices) → c ≡ Ok p → ListingSound set_words N (flag_at flags) (pairs_of kids) sets steps
 
 -- the whole promise: the call is `memory_call`
 abbrev pub MemoryCost : (N : Network) (flags kids ws₀ sets₀ sizes₀ works₀ steps₀ answer₀ ws sets sizes works steps answer : List ℕ) (r : ℕ) → Type 0
@@ -40,14 +41,14 @@ MemoryCost N flags kids ws₀ sets₀ sizes₀ works₀ steps₀ answer₀ ws se
     ws₀ sets₀ sizes₀ works₀ steps₀ answer₀ ws sets sizes works steps answer r
 
 module _ (N : Network) (flags kids ws₀ sets₀ sizes₀ works₀ steps₀ answer₀ : List ℕ) where
-  abbrev own : Result Prices
+  abbrev own : Result Prices Refusal
   own = memory_call (length answer₀) N (length ws₀) (room (length sets₀) (length sizes₀) (length works₀) (length steps₀)) flags kids
 
-  abbrev pricing : Result Prices
+  abbrev pricing : Result Prices Refusal
   pricing = price_call N (length ws₀) (room (length sets₀) (length sizes₀) (length works₀) (length steps₀)) flags kids
 
   -- a refusal by 3 to 7 leaves every list as it was
-  stays : (k : Refusal) {r : ℕ} → own ≡ refused k → touches k ≡ false → r ≡ number_of k
+  stays : (k : Refusal) {r : ℕ} → own ≡ Err k → touches k ≡ false → r ≡ number_of k
       → MemoryCost N flags kids ws₀ sets₀ sizes₀ works₀ steps₀ answer₀ ws₀ sets₀ sizes₀ works₀ steps₀ answer₀ r
   stays k e t q = record {
     number = q ∙ sym (ap (λ c. code_of (refusal_in c)) e);
@@ -62,8 +63,8 @@ module _ (N : Network) (flags kids ws₀ sets₀ sizes₀ works₀ steps₀ answ
 
   short_cases : (o : Option Refusal) {r : ℕ} → refusal_of N ≡ o → length answer₀ < 4 → r ≡ or_short o
       → MemoryCost N flags kids ws₀ sets₀ sizes₀ works₀ steps₀ answer₀ ws₀ sets₀ sizes₀ works₀ steps₀ answer₀ r
-  short_cases none e h q = stays short_buffer (as_short (length answer₀) N (length ws₀) _ flags kids e h) refl q
-  short_cases (some k) e h q = stays k (as_refused (length answer₀) N (length ws₀) _ flags kids k e) (untouched N k e) q
+  short_cases None e h q = stays ShortBuffer (as_short (length answer₀) N (length ws₀) _ flags kids e h) refl q
+  short_cases (Some k) e h q = stays k (as_refused (length answer₀) N (length ws₀) _ flags kids k e) (untouched N k e) q
 
   pub cost_short : {r : ℕ} → length answer₀ < 4 → r ≡ or_short (refusal_of N)
       → MemoryCost N flags kids ws₀ sets₀ sizes₀ works₀ steps₀ answer₀ ws₀ sets₀ sizes₀ works₀ steps₀ answer₀ r
@@ -101,7 +102,7 @@ module _ (N : Network) (flags kids ws₀ sets₀ sizes₀ works₀ steps₀ answ
         → answer ≡ over answer₀ (price_numbers (prices_from p))
         → MemoryCost N flags kids ws₀ sets₀ sizes₀ works₀ steps₀ answer₀ ws sets sizes works steps answer 0
     cost_done {p = p} e t a =
-        let y : pricing ≡ done (prices_from p) = of_done pricing (sym e ∙ t.answered.answer) in
+        let y : pricing ≡ Ok (prices_from p) = of_done pricing (sym e ∙ t.answered.answer) in
         follows t (sym (ap (λ c. code_of (refusal_in c)) (same ∙ y))) (a ∙ sym (ap (λ c. answer_after c answer₀) (same ∙ y)))
 
 -- of two networks that are one
@@ -113,7 +114,7 @@ cost_same {flags = flags} {kids} {ws₀} {sets₀} {sizes₀} {works₀} {steps�
 
 -- a count above its limit
 pub lent_large : {b : Bool} (weights counts legs outputs : List ℕ) → b ≡ large_of (length weights) (length counts) (length outputs) counts → b ≡ true
-    → refusal_of (lent_network weights counts legs outputs) ≡ some too_large
+    → refusal_of (lent_network weights counts legs outputs) ≡ Some TooLarge
 lent_large weights counts legs outputs e t =
     refused_large (lent_network weights counts legs outputs)
     (large_layout (length weights) (length counts) (length outputs) weights counts legs outputs ∙ sym e ∙ t)

@@ -1,12 +1,12 @@
 -- Greedy's merging over the lent lists: from a state that they hold, turn after turn, to the state in which merging ends, or to its
 -- refusal. Assumes nothing.
-use Rattle.std.specs.Prelude.{true, ◌≡◌, refl, List, [], ◌∷◌, ◌++◌, ℕ, suc, ◌+◌, ◌-◌, ◌/◌, ◌%◌, ◌≤◌, ◌<◌, length, get_or, set, take}
+use Rattle.std.specs.Prelude.{true, ◌≡◌, refl, List, [], ◌∷◌, ◌++◌, ℕ, suc, ◌+◌, ◌-◌, ◌/◌, ◌%◌, ◌≤◌, ◌<◌, length, get_or, set, take, Err, Ok}
 use Rattle.std.proofs.Common.{sym, ◌∙◌, ap, ap₂, subst, arith, add-one, length-append}
 use Rattle.spec.specs.Lists.{memb}
 use Rattle.spec.specs.Memory.{over}
 use Rattle.spec.specs.Network.{Network, leaf_count}
 use Rattle.spec.specs.Tree.{number, flat_of}
-use Rattle.spec.specs.Refusal.{table_too_wide, refused, done}
+use Rattle.spec.specs.declared.Refusal.TheVariants.{TableTooWide}
 use Rattle.spec.specs.Greedy.{size_of, merged_size, connect}
 use Rattle.laws.specs.GreedyMerging.{Sound}
 use Rattle.laws.specs.GreedySlots.{pair_at}
@@ -62,15 +62,15 @@ module _ (G : Given) (S : Ghost) where
     pub left : length state.slots + r ≡ G.start
     pub made : length state.array ≡ length S.array + r
     pub written : kids ≡ over kids₀ (flat_of state.array)
-    pub same : connect N G.start G.start (state_of S) ≡ done (state_of state)
+    pub same : connect N G.start G.start (state_of S) ≡ Ok (state_of state)
 
   -- what the merging answers: how many turns there were, or 65536 if it is refused
   pub data Connected (kids₀ : List ℕ) (nodes sizes live kids : List ℕ) (r : ℕ) : Type 0 where
-    too_wide : r ≡ 65536 → connect N G.start G.start (state_of S) ≡ refused table_too_wide → Connected kids₀ nodes sizes live kids r
+    too_wide : r ≡ 65536 → connect N G.start G.start (state_of S) ≡ Err TableTooWide → Connected kids₀ nodes sizes live kids r
     ended : Final kids₀ nodes sizes live kids r → Connected kids₀ nodes sizes live kids r
 
   final : (kids₀ : List ℕ) (t : ℕ) (M : Lists) (kids : List ℕ) (R : Reached kids₀ t M kids)
-      → connect N G.start G.start (state_of S) ≡ done (state_of R.state) → Connected kids₀ M.nodes M.sizes M.live kids t
+      → connect N G.start G.start (state_of S) ≡ Ok (state_of R.state) → Connected kids₀ M.nodes M.sizes M.live kids t
   final kids₀ t M kids R e =
       ended
       (record {

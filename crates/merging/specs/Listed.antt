@@ -1,11 +1,11 @@
 -- Greedy's state by a rising list of the live slots and a tree for each slot, and a turn of greedy in these words. Assumes nothing.
-use Rattle.std.specs.Prelude.{Bool, true, false, not, ◌&&◌, cond, ◌≡◌, refl, List, [], ◌∷◌, ◌++◌, map, ℕ, zero, suc, ◌≤◌, ◌<◌, eqb, length, get_or}
+use Rattle.std.specs.Prelude.{Bool, true, false, not, ◌&&◌, cond, ◌≡◌, refl, List, [], ◌∷◌, ◌++◌, map, ℕ, zero, suc, ◌≤◌, ◌<◌, eqb, length, get_or, Err, Ok}
 use Rattle.std.proofs.Common.{sym, ◌∙◌, ap, ap₂, arith, eqb-true, ne_eqb}
 use Rattle.spec.specs.Lists.{memb, keep}
 use Rattle.spec.specs.Members.{In, here, there, All}
 use Rattle.spec.specs.Network.{Network}
 use Rattle.spec.specs.Tree.{Tree, Pair}
-use Rattle.spec.specs.Refusal.{table_too_wide, refused, done}
+use Rattle.spec.specs.declared.Refusal.TheVariants.{TableTooWide}
 use Rattle.spec.specs.Greedy.{Live, Cand, share, in_order, sharing_pairs, before, too_wide, State, off, plus, joined, merge, connect}
 use Rattle.laws.specs.Booleans.{by_cases, or_cases, or_introl, or_intror, and_right, clash, eqb_self}
 use Rattle.laws.specs.ListLaws.{memb-keep, keep-keep}
@@ -84,7 +84,7 @@ module _ (N : Network) (n₀ fuel : ℕ) (a : List Pair) (tree : ℕ → Tree) (
       (p.same ∙ ap₂ (in_order n₀) (ex ∙ ap (entry tree) ei) (ey ∙ ap (entry tree) ek))
 
   -- no two share an index: merging ends
-  pub listed_ends : ((p : ℕ) → p < length L → (j : ℕ) → j < p → share N (tree (get_or L j 0)) (tree (get_or L p 0)) ≡ false) → connect N n₀ (suc fuel) s ≡ done s
+  pub listed_ends : ((p : ℕ) → p < length L → (j : ℕ) → j < p → share N (tree (get_or L j 0)) (tree (get_or L p 0)) ≡ false) → connect N n₀ (suc fuel) s ≡ Ok s
   listed_ends h =
       turn_ends N n₀ fuel s rising (λ x y i j l.
       let (mx, ex) = listed_are tree L x i in
@@ -94,7 +94,7 @@ module _ (N : Network) (n₀ fuel : ℕ) (a : List Pair) (tree : ℕ → Tree) (
 
   -- a pair is too wide: refused
   pub listed_refuses : (u v : ℕ) → memb u L ≡ true → memb v L ≡ true → u < v → share N (tree u) (tree v) ≡ true → too_wide N (pair_at n₀ tree u v) ≡ true
-      → connect N n₀ (suc fuel) s ≡ refused table_too_wide
+      → connect N n₀ (suc fuel) s ≡ Err TableTooWide
   listed_refuses u v mu mv h e w = turn_refuses N n₀ fuel s rising (pair_at n₀ tree u v) (has_pair u v mu mv h e) w
 
   -- else the least pair is merged

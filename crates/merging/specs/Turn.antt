@@ -1,10 +1,10 @@
 -- One turn of greedy over the lent lists, up to the least pair: merging ends, is refused, or goes on with that pair. Assumes nothing.
-use Rattle.std.specs.Prelude.{true, false, ◌≡◌, List, ℕ, suc, ◌<◌, length, get_or}
+use Rattle.std.specs.Prelude.{true, false, ◌≡◌, List, ℕ, suc, ◌<◌, length, get_or, Err, Ok}
 use Rattle.std.proofs.Common.{sym, subst, arith}
 use Rattle.spec.specs.Lists.{memb}
 use Rattle.spec.specs.Network.{Network}
 use Rattle.spec.specs.Tree.{Tree}
-use Rattle.spec.specs.Refusal.{table_too_wide, refused, done}
+use Rattle.spec.specs.declared.Refusal.TheVariants.{TableTooWide}
 use Rattle.spec.specs.Greedy.{size_of, connect, merge}
 use Rattle.laws.specs.GreedySlots.{pair_at}
 use Rattle.laws.specs.ListLaws.{memb_at}
@@ -76,8 +76,8 @@ module _ (G : Given) (S : Ghost) (M : Lists) (H : Holds G S M) where
 
   -- what the scan answers
   pub data Scanned (fuel c : ℕ) : Type 0 where
-    ends : c ≡ 256 → connect N n₀ (suc fuel) (state_of S) ≡ done (state_of S) → Scanned fuel c
-    refuses : c ≡ 257 → connect N n₀ (suc fuel) (state_of S) ≡ refused table_too_wide → Scanned fuel c
+    ends : c ≡ 256 → connect N n₀ (suc fuel) (state_of S) ≡ Ok (state_of S) → Scanned fuel c
+    refuses : c ≡ 257 → connect N n₀ (suc fuel) (state_of S) ≡ Err TableTooWide → Scanned fuel c
     chooses : (c < 256) → Chosen c → Scanned fuel c
 
   outcome : (fuel c : ℕ) → LeastTo N n₀ tree L rows₁ M.sizes small sized (length L) c → Scanned fuel c

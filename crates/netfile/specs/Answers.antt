@@ -1,7 +1,7 @@
 -- The reader's answers: for each case its number and values, and what the two lists have afterwards. Definitions only. Assumes nothing.
-use Rattle.std.specs.Prelude.{List, [], ℕ, length}
-use Rattle.std.proofs.Math.Option.{Option, none, some}
-use Rattle.spec.specs.Refusal.{number_of, Result, refused, done}
+use Rattle.std.specs.Prelude.{List, [], ℕ, length, Option, None, Some, Result, Err, Ok}
+use Rattle.spec.specs.declared.Refusal.{Refusal}
+use Rattle.spec.specs.Refusal.{number_of}
 use Rattle.spec.specs.Network.{Network}
 use Rattle.spec.specs.File.{Ask, plain, flagged, target, Contents, tree_written, flags_written}
 use Rattle.netfile.specs.declared.Tree.{Tree}
@@ -12,8 +12,8 @@ use Rattle.netfile.specs.declared.Answer.{Answer}
 use Rattle.netfile.specs.declared.Answer.TheVariants.{Refused, Done}
 
 abbrev pub tree_answer : Option (List ℕ) → Tree
-tree_answer none = Absent
-tree_answer (some kids) = Present (length kids)
+tree_answer None = Absent
+tree_answer (Some kids) = Present (length kids)
 
 abbrev pub ask_answer : Ask → Asked
 ask_answer plain = Plain
@@ -31,22 +31,22 @@ flag_count (Flagged n) = n
 flag_count (Target w) = 0
 
 -- "A refusal returns only its number."
-abbrev pub answer_of : Result Contents → Answer
-answer_of (refused r) = Refused (number_of r)
-answer_of (done c) = Done (record { tree = tree_answer c.tree; ask = ask_answer c.ask })
+abbrev pub answer_of : Result Contents Refusal → Answer
+answer_of (Err r) = Refused (number_of r)
+answer_of (Ok c) = Done (record { tree = tree_answer c.tree; ask = ask_answer c.ask })
 
 abbrev pub empty_network : Network
 empty_network = record { leaves = []; outputs = []; weights = [] }
 
-abbrev pub network_in : Result Contents → Network
-network_in (refused r) = empty_network
-network_in (done c) = c.network
+abbrev pub network_in : Result Contents Refusal → Network
+network_in (Err r) = empty_network
+network_in (Ok c) = c.network
 
 -- "Trees, flags, listings and output lists are then unchanged"
-abbrev pub tree_after : Result Contents → List ℕ → List ℕ
-tree_after (refused r) l = l
-tree_after (done c) l = tree_written c l
+abbrev pub tree_after : Result Contents Refusal → List ℕ → List ℕ
+tree_after (Err r) l = l
+tree_after (Ok c) l = tree_written c l
 
-abbrev pub flags_after : Result Contents → List ℕ → List ℕ
-flags_after (refused r) l = l
-flags_after (done c) l = flags_written c l
+abbrev pub flags_after : Result Contents Refusal → List ℕ → List ℕ
+flags_after (Err r) l = l
+flags_after (Ok c) l = flags_written c l

@@ -1,9 +1,9 @@
 -- The writer: what it is handed, its answer for each case, and how it follows from the bytes. Assumes nothing.
-use Rattle.std.specs.Prelude.{true, false, ◌≡◌, List, [], ◌∷◌, ℕ, min, length, take}
+use Rattle.std.specs.Prelude.{true, false, ◌≡◌, List, [], ◌∷◌, ℕ, min, length, take, Option, None, Some, Result, Err, Ok}
 use Rattle.std.proofs.Common.{sym, ap, ◌∙◌, subst, arith, take_all}
-use Rattle.std.proofs.Math.Option.{Option, none, some}
+use Rattle.spec.specs.declared.Refusal.{Refusal}
 use Rattle.std.proofs.Math.Decide.{dec_le}
-use Rattle.spec.specs.Refusal.{number_of, Result, refused, done}
+use Rattle.spec.specs.Refusal.{number_of}
 use Rattle.spec.specs.Network.{Network}
 use Rattle.spec.specs.File.{Ask, plain, flagged, target, Contents, write_of, buffer_after}
 use Rattle.network.specs.Codes.{positive}
@@ -24,8 +24,8 @@ record_of N tree ask = record { network = N; tree = tree; ask = ask }
 
 -- the tree: so many places of its list, or all where there are fewer
 abbrev pub tree_handed : Tree → List ℕ → Option (List ℕ)
-tree_handed Absent kids = none
-tree_handed (Present k) kids = some (take k kids)
+tree_handed Absent kids = None
+tree_handed (Present k) kids = Some (take k kids)
 
 -- what is asked: so many flags, or all where there are fewer; or the target
 abbrev pub ask_handed : Asked → List ℕ → Ask
@@ -38,9 +38,9 @@ handed N tree kids ask l = record_of N (tree_handed tree kids) (ask_handed ask l
 
 -- ---- what it answers ----
 
-abbrev pub written_of : Result ℕ → Written
-written_of (refused k) = Refused (number_of k)
-written_of (done x) = Done x
+abbrev pub written_of : Result ℕ Refusal → Written
+written_of (Err k) = Refused (number_of k)
+written_of (Ok x) = Done x
 
 -- the answer, and the buffer afterwards
 pub record WritesTo (c : Contents) (cursor : ℕ) (before after : List ℕ) (r : Written) : Type 0 where
@@ -48,13 +48,13 @@ pub record WritesTo (c : Contents) (cursor : ℕ) (before after : List ℕ) (r :
   pub buffer : after ≡ buffer_after c cursor (write_of c (length before) cursor) before
 
 -- from the number and the cursor past the file
-done_as : (w : Wrote) (r : Result ℕ) → w ≡ wrote_of r → w.number ≡ 0 → Done w.next ≡ written_of r
-done_as w (refused k) e z = absurd (omega (arith, positive k, ap (λ (x : Wrote). x.number) e))
-done_as w (done x) e z = ap (λ (y : Wrote). Done y.next) e
+done_as : (w : Wrote) (r : Result ℕ Refusal) → w ≡ wrote_of r → w.number ≡ 0 → Done w.next ≡ written_of r
+done_as w (Err k) e z = absurd (omega (arith, positive k, ap (λ (x : Wrote). x.number) e))
+done_as w (Ok x) e z = ap (λ (y : Wrote). Done y.next) e
 
-refused_as : (w : Wrote) (r : Result ℕ) → w ≡ wrote_of r → (w.number ≡ 0 → ⊥) → Refused w.number ≡ written_of r
-refused_as w (refused k) e z = ap (λ (y : Wrote). Refused y.number) e
-refused_as w (done x) e z = absurd (z (ap (λ (y : Wrote). y.number) e))
+refused_as : (w : Wrote) (r : Result ℕ Refusal) → w ≡ wrote_of r → (w.number ≡ 0 → ⊥) → Refused w.number ≡ written_of r
+refused_as w (Err k) e z = ap (λ (y : Wrote). Refused y.number) e
+refused_as w (Ok x) e z = absurd (z (ap (λ (y : Wrote). y.number) e))
 
 module _ {c : Contents} {cursor : ℕ} {before after : List ℕ} {w : Wrote} (h : Writes c cursor before after w) where
   pub writes_done : w.number ≡ 0 → WritesTo c cursor before after (Done w.next)
@@ -82,7 +82,7 @@ module _ (N : Network) {cursor : ℕ} {before after : List ℕ} {r : Written} wh
       → WritesTo (record_of N (tree_of true (take n kids)) a) cursor before after r → WritesTo (record_of N (tree_handed tree kids) a) cursor before after r
   tree_present k {n} kids a e m h =
       subst (λ (t : Tree). WritesTo (record_of N (tree_handed t kids) a) cursor before after r) (sym e)
-      (subst (λ (l : List ℕ). WritesTo (record_of N (some l) a) cursor before after r) (take_min k kids m) h)
+      (subst (λ (l : List ℕ). WritesTo (record_of N (Some l) a) cursor before after r) (take_min k kids m) h)
 
   pub ask_plain : {ask : Asked} (t : Option (List ℕ)) (l : List ℕ) → ask ≡ Plain → WritesTo (record_of N t (ask_of 0 [])) cursor before after r
       → WritesTo (record_of N t (ask_handed ask l)) cursor before after r

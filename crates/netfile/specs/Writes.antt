@@ -1,8 +1,7 @@
 -- The two lists that the reader fills: when they are too short, and what is written. Assumes nothing.
-use Rattle.std.specs.Prelude.{Bool, true, false, ◌||◌, List, ◌++◌, ◌≡◌, refl, ℕ, zero, suc, ◌+◌, ◌-◌, ◌≤◌, ◌<◌, ltb, length, get_or, take, drop}
+use Rattle.std.specs.Prelude.{Bool, true, false, ◌||◌, List, ◌++◌, ◌≡◌, refl, ℕ, zero, suc, ◌+◌, ◌-◌, ◌≤◌, ◌<◌, ltb, length, get_or, take, drop, Option, None, Some}
 use Rattle.std.proofs.Math.Bool.{or-false}
 use Rattle.std.proofs.Common.{append-nil, sym, ap, ap₂, ◌∙◌, arith, length-drop, drop-drop, length-take-le}
-use Rattle.std.proofs.Math.Option.{Option, none, some}
 use Rattle.spec.specs.Lists.{anyb}
 use Rattle.spec.specs.Memory.{filled, placed}
 use Rattle.spec.specs.Network.{Network, index_count}
@@ -21,8 +20,8 @@ lacking l = anyb (λ x. ltb x.has x.needs) l
 
 -- the children over the front of the tree's list, if there is a tree
 abbrev pub kids_over : Option (List ℕ) → List ℕ → List ℕ
-kids_over none l = l
-kids_over (some kids) l = placed l 0 kids
+kids_over None l = l
+kids_over (Some kids) l = placed l 0 kids
 
 -- the flags over the front of the flags' list, and 0 up to one an index
 abbrev pub flags_over : ℕ → Ask → List ℕ → List ℕ
@@ -31,8 +30,8 @@ flags_over m (flagged f) l = placed l 0 (f ++ filled (m - length f) 0)
 flags_over m (target w) l = l
 
 pub tree_written_lem : (N : Network) (t : Option (List ℕ)) (a : Ask) (l : List ℕ) → tree_written (record { network = N; tree = t; ask = a }) l ≡ kids_over t l
-tree_written_lem N none a l = refl
-tree_written_lem N (some kids) a l = refl
+tree_written_lem N None a l = refl
+tree_written_lem N (Some kids) a l = refl
 
 pub flags_written_lem : (N : Network) (t : Option (List ℕ)) (a : Ask) (l : List ℕ) → flags_written (record { network = N; tree = t; ask = a }) l ≡ flags_over (index_count N) a l
 flags_written_lem N t plain l = refl
@@ -49,10 +48,10 @@ module _ (file : List ℕ) (s : Scan) where
   abbrev pub ask_of : Ask
   ask_of = ask_in file s.ask s.ask_at s.ask_len
 
-  pub tree_present : s.has_tree ≡ true → tree_of ≡ some (part file s.tree_at s.tree_len)
+  pub tree_present : s.has_tree ≡ true → tree_of ≡ Some (part file s.tree_at s.tree_len)
   tree_present e = rw e
 
-  pub tree_absent : s.has_tree ≡ false → tree_of ≡ none
+  pub tree_absent : s.has_tree ≡ false → tree_of ≡ None
   tree_absent e = rw e
 
   pub ask_flagged : s.ask ≡ 1 → ask_of ≡ flagged (part file s.ask_at s.ask_len)

@@ -1,11 +1,11 @@
 -- What an addition answers, and laws of networks that grow. Assumes nothing.
-use Rattle.std.specs.Prelude.{◌≡◌, refl, Bool, true, false, ◌||◌, List, [], ◌∷◌, ◌++◌, ℕ, ◌≤◌, ◌<◌, ltb}
+use Rattle.std.specs.Prelude.{◌≡◌, refl, Bool, true, false, ◌||◌, List, [], ◌∷◌, ◌++◌, ℕ, ◌≤◌, ◌<◌, ltb, Option, None, Some, Result, Err, Ok}
 use Rattle.std.proofs.Math.Path.{sym}
 use Rattle.std.proofs.Common.{ap, ◌∙◌, subst, arith, length-append, lt-ltb, ltb-true}
-use Rattle.std.proofs.Math.Option.{Option, none, some}
+use Rattle.spec.specs.declared.Refusal.{Refusal}
 use Rattle.std.proofs.Math.ListN.{length}
 use Rattle.spec.specs.Lists.{anyb}
-use Rattle.spec.specs.Refusal.{Refusal, Result, refused, done, decide, code_of, number_of}
+use Rattle.spec.specs.Refusal.{decide, code_of, number_of}
 use Rattle.spec.specs.Network.{Network, leaf_count, index_count, max_leaves, max_indices, max_legs, max_outputs, refusal_of}
 use Rattle.spec.specs.Building.{with_weight, with_leaf, with_output, if_accepted, add_weight, add_leaf, add_output}
 use Rattle.laws.specs.Booleans.{clash, or_introl, or_intror, or_cases}
@@ -17,25 +17,25 @@ use Rattle.network.specs.declared.Added.{Added}
 use Rattle.network.specs.declared.Verdict.TheVariants.{Refused, Accepted}
 
 -- the answer to an addition to the record `before`: refused by number, and the very same record; or accepted, and a record of the new network
-abbrev pub Adds : Record → Result Network → Added → Type 0
-Adds before (refused k) r = (r.verdict ≡ Refused (number_of k)) × (r.network ≡ before)
-Adds before (done N) r = (r.verdict ≡ Accepted) × (net_of r.network ≡ N)
+abbrev pub Adds : Record → Result Network Refusal → Added → Type 0
+Adds before (Err k) r = (r.verdict ≡ Refused (number_of k)) × (r.network ≡ before)
+Adds before (Ok N) r = (r.verdict ≡ Accepted) × (net_of r.network ≡ N)
 
 -- the record stays where the network with the addition is too large
 pub adds_large : (before : Record) (N : Network) {r : Added} → large N ≡ true → (r.verdict ≡ Refused 3) × (r.network ≡ before) → Adds before (if_accepted N) r
-adds_large before N {r} e h = subst (λ (k : Option Refusal). Adds before (decide k (done N)) r) (sym (refused_large N e)) h
+adds_large before N {r} e h = subst (λ (k : Option Refusal). Adds before (decide k (Ok N)) r) (sym (refused_large N e)) h
 
 -- the number decides
 pub adds_none : (before after : Record) {k : ℕ} → k ≡ code_of (refusal_of (net_of after)) → k ≡ 0
     → Adds before (if_accepted (net_of after)) (record { verdict = Accepted; network = after })
 adds_none before after e z =
-    subst (λ (k : Option Refusal). Adds before (decide k (done (net_of after))) (record { verdict = Accepted; network = after }))
+    subst (λ (k : Option Refusal). Adds before (decide k (Ok (net_of after))) (record { verdict = Accepted; network = after }))
     (sym (code_zero (refusal_of (net_of after)) (sym z ∙ e)))
     (refl, refl)
 
-refused_by : (before : Record) (N : Network) (o : Option Refusal) {k : ℕ} → k ≡ code_of o → (k ≡ 0 → ⊥) → Adds before (decide o (done N)) (record { verdict = Refused k; network = before })
-refused_by before N none e z = absurd (z e)
-refused_by before N (some r) e z = (ap Refused e, refl)
+refused_by : (before : Record) (N : Network) (o : Option Refusal) {k : ℕ} → k ≡ code_of o → (k ≡ 0 → ⊥) → Adds before (decide o (Ok N)) (record { verdict = Refused k; network = before })
+refused_by before N None e z = absurd (z e)
+refused_by before N (Some r) e z = (ap Refused e, refl)
 
 pub adds_some : (before after : Record) {k : ℕ} → k ≡ code_of (refusal_of (net_of after)) → (k ≡ 0 → ⊥)
     → Adds before (if_accepted (net_of after)) (record { verdict = Refused k; network = before })

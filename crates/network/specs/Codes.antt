@@ -1,14 +1,15 @@
 -- The number of a network's refusal, from lists with counts, and what follows where it is 0. Assumes nothing.
-use Rattle.std.specs.Prelude.{◌≡◌, Bool, false, ◌||◌, cond, List, map, ℕ, ◌+◌, ◌*◌, ◌≤◌, ◌<◌, take, drop}
+use Rattle.std.specs.Prelude.{◌≡◌, Bool, false, ◌||◌, cond, List, map, ℕ, ◌+◌, ◌*◌, ◌≤◌, ◌<◌, take, drop, Option, None, Some}
 use Rattle.std.proofs.Math.Path.{refl, sym, ap}
 use Rattle.std.proofs.Common.{◌∙◌, arith}
 use Rattle.std.proofs.Math.Bool.{true, or-false}
-use Rattle.std.proofs.Math.Option.{Option, none, some}
+use Rattle.spec.specs.declared.Refusal.{Refusal}
+use Rattle.spec.specs.declared.Refusal.TheVariants.{Truncated, WrongTag, TooLarge, Overweight, OutOfRange, Repeated, ShortBuffer, InvalidTree, InvalidFlags, TotalBeyond, DanglingIndex, TableTooWide, DrawsExhausted}
 use Rattle.std.proofs.Math.Dec.{ltb}
 use Rattle.std.proofs.Math.ListN.{length, get_or}
 use borrow.Author.Tests.{lt-ltb, le-ltb, ltb-false}
 use Rattle.spec.specs.Lists.{anyb, range}
-use Rattle.spec.specs.Refusal.{Refusal, truncated, wrong_tag, too_large, overweight, out_of_range, repeated, short_buffer, invalid_tree, invalid_flags, total_beyond, dangling_index, table_too_wide, draws_exhausted, code_of, number_of, passes}
+use Rattle.spec.specs.Refusal.{code_of, number_of, passes}
 use Rattle.spec.specs.Network.{Network, leaf_count, index_count, legs, max_leaves, max_indices, max_legs, max_outputs, max_weight, repeats, any_out_of_range, refusal_of}
 use Rattle.spec.specs.NetworkClaims.{Accepted}
 use Rattle.spec.specs.Layout.{firsts, row_at, network_of}
@@ -26,7 +27,7 @@ large N =
     ltb max_leaves (leaf_count N)
     || (ltb max_indices (index_count N) || (anyb (λ l. ltb max_legs (length l)) N.leaves || ltb max_outputs (length N.outputs)))
 
-pub refused_large : (N : Network) → large N ≡ true → refusal_of N ≡ some too_large
+pub refused_large : (N : Network) → large N ≡ true → refusal_of N ≡ Some TooLarge
 refused_large N e = rw e
 
 -- the same of lists with counts
@@ -86,7 +87,7 @@ module _ (m n o : ℕ) (counts cells outputs : List ℕ) (fit : o ≤ length out
 unfoldable pub code_from : (large heavy beyond again : Bool) → ℕ
 code_from large heavy beyond again = cond large 3 (cond heavy 4 (cond beyond 5 (cond again 6 0)))
 
-code_first : (a b c d : Bool) → code_of (cond a (some too_large) (cond b (some overweight) (cond c (some out_of_range) (cond d (some repeated) none)))) ≡ code_from a b c d
+code_first : (a b c d : Bool) → code_of (cond a (Some TooLarge) (cond b (Some Overweight) (cond c (Some OutOfRange) (cond d (Some Repeated) None)))) ≡ code_from a b c d
 unfolding code_from
 code_first true b c d = refl
 code_first false true c d = refl
@@ -147,28 +148,28 @@ small m n o counts e =
     )
 
 pub positive : (r : Refusal) → 1 ≤ number_of r
-positive truncated = omega arith
-positive wrong_tag = omega arith
-positive too_large = omega arith
-positive overweight = omega arith
-positive out_of_range = omega arith
-positive repeated = omega arith
-positive short_buffer = omega arith
-positive invalid_tree = omega arith
-positive invalid_flags = omega arith
-positive total_beyond = omega arith
-positive dangling_index = omega arith
-positive table_too_wide = omega arith
-positive draws_exhausted = omega arith
+positive Truncated = omega arith
+positive WrongTag = omega arith
+positive TooLarge = omega arith
+positive Overweight = omega arith
+positive OutOfRange = omega arith
+positive Repeated = omega arith
+positive ShortBuffer = omega arith
+positive InvalidTree = omega arith
+positive InvalidFlags = omega arith
+positive TotalBeyond = omega arith
+positive DanglingIndex = omega arith
+positive TableTooWide = omega arith
+positive DrawsExhausted = omega arith
 
 -- the number 0 is no refusal's
-pub code_zero : (k : Option Refusal) → 0 ≡ code_of k → k ≡ none
-code_zero none e = refl
-code_zero (some r) e = absurd (omega (arith, positive r))
+pub code_zero : (k : Option Refusal) → 0 ≡ code_of k → k ≡ None
+code_zero None e = refl
+code_zero (Some r) e = absurd (omega (arith, positive r))
 
 -- of an accepted network that lists with counts stand for
 pub record Facts (m n o : ℕ) (weights counts cells outputs : List ℕ) : Type 0 where
-  pub passed : refusal_of (network_of m n o weights counts cells outputs) ≡ none
+  pub passed : refusal_of (network_of m n o weights counts cells outputs) ≡ None
   pub accepted : Accepted (network_of m n o weights counts cells outputs)
   pub few_indices : m ≤ max_indices
   pub few_leaves : n ≤ max_leaves
@@ -226,7 +227,7 @@ pub accepted_facts : (m n o : ℕ) (weights counts cells outputs : List ℕ)
     → Facts m n o weights counts cells outputs
 accepted_facts m n o weights counts cells outputs e =
     let N = network_of m n o weights counts cells outputs in
-    let p : refusal_of N ≡ none = code_zero (refusal_of N) e in
+    let p : refusal_of N ≡ None = code_zero (refusal_of N) e in
     let a : Accepted N = (accepted_means N).0 (ap passes p) in
     let lc : leaf_count N ≡ n = layout_leaf_count m n o weights counts cells outputs in
     let ic : index_count N ≡ m = layout_index_count m n o weights counts cells outputs in

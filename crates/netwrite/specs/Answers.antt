@@ -1,13 +1,13 @@
 -- The writer's answer, and what it puts where nothing is refused. Assumes nothing.
-use Rattle.std.specs.Prelude.{◌≡◌, refl, Bool, true, false, not, cond, List, ◌++◌, ℕ, ◌+◌, ◌%◌, ◌≤◌, ◌<◌, eqb, ltb}
+use Rattle.std.specs.Prelude.{◌≡◌, refl, Bool, true, false, not, cond, List, ◌++◌, ℕ, ◌+◌, ◌%◌, ◌≤◌, ◌<◌, eqb, ltb, Option, None, Some, Result, Err, Ok}
 use Rattle.std.proofs.Common.{sym, ◌∙◌, arith, length-append, ltb-false}
 use Rattle.std.proofs.Math.Path.{ap, subst}
-use Rattle.std.proofs.Math.Option.{Option, none, some}
+use Rattle.spec.specs.declared.Refusal.{Refusal}
 use Rattle.std.proofs.Math.Decide.{ℕ_discrete}
 use Rattle.std.proofs.Math.ListN.{length}
 use Rattle.std.proofs.lemmas.Bool.{eqb-false}
 use Rattle.spec.specs.Lists.{anyb}
-use Rattle.spec.specs.Refusal.{Refusal, Result, refused, done, decide, first, code_of, number_of}
+use Rattle.spec.specs.Refusal.{decide, first, code_of, number_of}
 use Rattle.spec.specs.Network.{refusal_of}
 use Rattle.spec.specs.Tree.{valid, pairs_of}
 use Rattle.spec.specs.Layout.{network_of}
@@ -25,9 +25,9 @@ use Rattle.netwrite.specs.Numbers.{tree_is_wrong, flags_are_wrong, others, numbe
 use Rattle.netwrite.specs.declared.Wrote.{Wrote}
 
 -- the number of the refusal, or 0 and the cursor past the file
-abbrev pub wrote_of : Result ℕ → Wrote
-wrote_of (refused k) = record { number = number_of k; next = 0 }
-wrote_of (done x) = record { number = 0; next = x }
+abbrev pub wrote_of : Result ℕ Refusal → Wrote
+wrote_of (Err k) = record { number = number_of k; next = 0 }
+wrote_of (Ok x) = record { number = 0; next = x }
 
 -- the answer, and the buffer afterwards
 pub record Writes (c : Contents) (cursor : ℕ) (before after : List ℕ) (r : Wrote) : Type 0 where
@@ -37,9 +37,9 @@ pub record Writes (c : Contents) (cursor : ℕ) (before after : List ℕ) (r : W
 -- ---- a refusal ----
 
 refused_as : (c : Contents) (cursor : ℕ) (d : List ℕ) (o : Option Refusal) (x : ℕ) {k : ℕ} → k ≡ code_of o → (k ≡ 0 → ⊥)
-    → ◌≡◌ {A = Wrote} (record { number = k; next = 0 }) (wrote_of (decide o (done x))) × (d ≡ buffer_after c cursor (decide o (done x)) d)
-refused_as c cursor d none x e z = absurd (z e)
-refused_as c cursor d (some r) x e z = (ap (λ (k : ℕ). record { number = k; next = 0 }) e, refl)
+    → ◌≡◌ {A = Wrote} (record { number = k; next = 0 }) (wrote_of (decide o (Ok x))) × (d ≡ buffer_after c cursor (decide o (Ok x)) d)
+refused_as c cursor d None x e z = absurd (z e)
+refused_as c cursor d (Some r) x e z = (ap (λ (k : ℕ). record { number = k; next = 0 }) e, refl)
 
 pub writes_refused : (c : Contents) (cursor : ℕ) (d : List ℕ) {k : ℕ} → k ≡ code_of (first (write_checks c (length d) cursor)) → (k ≡ 0 → ⊥)
     → Writes c cursor d d (record { number = k; next = 0 })
@@ -146,9 +146,9 @@ module _ (m n o : ℕ) (weights counts cells outputs : List ℕ) {tree : Bool} {
       writes_done {o₃} {end} r =
           let c = contents_of m n o weights counts cells outputs tree kids tag payload in
           let w : Put d o₃ cursor end (file_of c) = subst (Put d o₃ cursor end) (sym (file_fields m n o weights counts cells outputs tree kids tag payload)) (put_both p (put_both q r)) in
-          let e : write_of c (length d) cursor ≡ done (cursor + length (file_of c))
-          = ap (λ (x : Option Refusal). decide x (done (cursor + length (file_of c)))) (code_zero (first (write_checks c (length d) cursor)) (sym zero ∙ code)) in
+          let e : write_of c (length d) cursor ≡ Ok (cursor + length (file_of c))
+          = ap (λ (x : Option Refusal). decide x (Ok (cursor + length (file_of c)))) (code_zero (first (write_checks c (length d) cursor)) (sym zero ∙ code)) in
           record {
             answer = ap (λ (x : ℕ). record { number = 0; next = x }) w.past ∙ ap wrote_of (sym e);
-            buffer = w.bytes ∙ ap (λ (x : Result ℕ). buffer_after c cursor x d) (sym e);
+            buffer = w.bytes ∙ ap (λ (x : Result ℕ Refusal). buffer_after c cursor x d) (sym e);
           }

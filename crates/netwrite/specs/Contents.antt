@@ -1,6 +1,5 @@
 -- What lists and numbers that are handed to the writer stand for. Assumes nothing.
-use Rattle.std.specs.Prelude.{Bool, true, false, cond, List, [], ◌∷◌, ◌++◌, ℕ, eqb, get_or}
-use Rattle.std.proofs.Math.Option.{Option, none, some}
+use Rattle.std.specs.Prelude.{Bool, true, false, cond, List, [], ◌∷◌, ◌++◌, ℕ, eqb, get_or, Option, None, Some}
 use Rattle.spec.specs.Network.{Network}
 use Rattle.spec.specs.Layout.{network_of}
 use Rattle.spec.specs.File.{Ask, plain, flagged, target, Contents, field, leaf_fields}
@@ -11,8 +10,8 @@ pub data TreeLent : Bool → List ℕ → Type 0 where
   present : (kids : List ℕ) → TreeLent true kids
 
 abbrev pub tree_of : Bool → List ℕ → Option (List ℕ)
-tree_of true kids = some kids
-tree_of false kids = none
+tree_of true kids = Some kids
+tree_of false kids = None
 
 -- what is asked, as a field's tag and payload; 0 and nothing where nothing is
 pub data AskLent : ℕ → List ℕ → Type 0 where

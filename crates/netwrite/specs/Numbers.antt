@@ -1,12 +1,13 @@
 -- The writer's refusals by number. Assumes nothing.
-use Rattle.std.specs.Prelude.{◌≡◌, Bool, true, not, ◌&&◌, ◌||◌, List, [], ◌∷◌, ◌++◌, ℕ, ◌+◌, ◌≤◌, ◌<◌, eqb, ltb}
+use Rattle.std.specs.Prelude.{◌≡◌, Bool, true, not, ◌&&◌, ◌||◌, List, [], ◌∷◌, ◌++◌, ℕ, ◌+◌, ◌≤◌, ◌<◌, eqb, ltb, Option, None, Some}
 use Rattle.std.proofs.Math.Path.{refl, ap}
 use Rattle.std.proofs.Common.{sym, ◌∙◌, arith, ne_eqb, eq-eqb, lt-ltb, le-ltb}
 use Rattle.std.proofs.Math.Bool.{false, cond, not-not}
-use Rattle.std.proofs.Math.Option.{Option, none, some}
+use Rattle.spec.specs.declared.Refusal.{Refusal}
+use Rattle.spec.specs.declared.Refusal.TheVariants.{ShortBuffer, InvalidTree, InvalidFlags}
 use Rattle.std.proofs.Math.ListN.{length}
 use Rattle.spec.specs.Lists.{anyb}
-use Rattle.spec.specs.Refusal.{Refusal, short_buffer, invalid_tree, invalid_flags, Check, first, code_of}
+use Rattle.spec.specs.Refusal.{Check, first, code_of}
 use Rattle.spec.specs.Network.{Network, leaf_count, index_count, network_checks, refusal_of}
 use Rattle.spec.specs.Calls.{wrong_tree, lent, length_check}
 use Rattle.spec.specs.Layout.{network_of}
@@ -53,7 +54,7 @@ other_flags tag m l e h f = f ∙ rw (eq-eqb tag 5 e, le-ltb m (length l) h)
 
 -- ---- the order of the conditions ----
 
-eight : (b : Bool) → code_of (cond b (some invalid_tree) none) ≡ cond b 8 0
+eight : (b : Bool) → code_of (cond b (Some InvalidTree) None) ≡ cond b 8 0
 eight true = refl
 eight false = refl
 
@@ -65,21 +66,21 @@ unfolding tree_is_wrong flags_are_wrong
 after_checks N absent nothing = refl
 after_checks N absent (flags l) = nine (ltb (index_count N) (length l) || anyb (λ b. ltb 1 b) l)
   where
-    nine : (b : Bool) → code_of (cond b (some invalid_flags) none) ≡ cond b 9 0
+    nine : (b : Bool) → code_of (cond b (Some InvalidFlags) None) ≡ cond b 9 0
     nine true = refl
     nine false = refl
 after_checks N absent (byte w) = refl
 after_checks N (present kids) nothing = eight (wrong_tree (leaf_count N) kids)
 after_checks N (present kids) (flags l) = both (wrong_tree (leaf_count N) kids) (ltb (index_count N) (length l) || anyb (λ b. ltb 1 b) l)
   where
-    both : (a b : Bool) → code_of (cond a (some invalid_tree) (cond b (some invalid_flags) none)) ≡ cond a 8 (cond b 9 0)
+    both : (a b : Bool) → code_of (cond a (Some InvalidTree) (cond b (Some InvalidFlags) None)) ≡ cond a 8 (cond b 9 0)
     both true b = refl
     both false true = refl
     both false false = refl
 after_checks N (present kids) (byte w) = eight (wrong_tree (leaf_count N) kids)
 
 -- 7, then those
-seven : (b : Bool) (o : Option Refusal) → code_of (cond (b || false) (some short_buffer) o) ≡ cond b 7 (code_of o)
+seven : (b : Bool) (o : Option Refusal) → code_of (cond (b || false) (Some ShortBuffer) o) ≡ cond b 7 (code_of o)
 seven true o = refl
 seven false o = refl
 
@@ -98,8 +99,8 @@ module _ (m n o : ℕ) (weights counts cells outputs : List ℕ) {tree : Bool} {
   rest = length_check (lent size (cursor + length (file_of contents)) ∷ []) ∷ after
 
   by_refusal : {k : ℕ} (r : Option Refusal) → refusal_of network ≡ r → k ≡ code_of r → (k ≡ 0 → ⊥) → k ≡ code_of (first (network_checks false network ++ rest))
-  by_refusal none q e z = absurd (z e)
-  by_refusal (some r) q e z = e ∙ ap code_of (sym (first_some (network_checks false network) rest r q))
+  by_refusal None q e z = absurd (z e)
+  by_refusal (Some r) q e z = e ∙ ap code_of (sym (first_some (network_checks false network) rest r q))
 
   -- the network is refused
   pub number_network : {k : ℕ} → k ≡ code_of (refusal_of network) → (k ≡ 0 → ⊥) → k ≡ code_of (first (write_checks contents size cursor))

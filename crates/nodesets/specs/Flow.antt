@@ -1,9 +1,8 @@
 -- Which indices are named below a node, and which are wanted outside it, from node to node: the recurrences that the passes run on.
 -- Assumes nothing.
-use Rattle.std.specs.Prelude.{◌≡◌, refl, Bool, true, not, ◌&&◌, ◌||◌, List, ℕ, ◌≤◌, ◌<◌, ltb}
+use Rattle.std.specs.Prelude.{◌≡◌, refl, Bool, true, not, ◌&&◌, ◌||◌, List, ℕ, ◌≤◌, ◌<◌, ltb, Some}
 use Rattle.std.proofs.Common.{sym, ◌∙◌, ap, arith}
 use Rattle.std.proofs.Math.Bool.{false, or_assoc, or-false}
-use Rattle.std.proofs.Math.Option.{some}
 use borrow.Author.Tests.{lt-ltb, ltb-true, ltb-false}
 use Rattle.spec.specs.Lists.{memb, range}
 use Rattle.spec.specs.Network.{Network, leaf_count, index_count, legs, named, InRange}
@@ -38,7 +37,7 @@ outer_right true y h = ap not (h refl)
 outer_right false true h = refl
 outer_right false false h = refl
 
-pub leaf_tree : (N : Network) (a : List Pair) (i : ℕ) → i < leaf_count N → tree_at (leaf_count N) a i ≡ some (leaf i)
+pub leaf_tree : (N : Network) (a : List Pair) (i : ℕ) → i < leaf_count N → tree_at (leaf_count N) a i ≡ Some (leaf i)
 unfolding tree_at
 leaf_tree N a i h = rw (lt-ltb i (leaf_count N) h)
 
@@ -82,6 +81,6 @@ pub listed_leaf : (N : Network) (a : List Pair) (i j : ℕ) → i < leaf_count N
 listed_leaf N a i j h = rw (leaf_tree N a i h) (sym (named_leaf N i j h))
 
 -- at the root only the outputs are wanted
-pub wanted-root : (N : Network) (a : List Pair) (t : Tree) → tree_at (leaf_count N) a (root (leaf_count N) a) ≡ some t → ValidTree (leaf_count N) a t
+pub wanted-root : (N : Network) (a : List Pair) (t : Tree) → tree_at (leaf_count N) a (root (leaf_count N) a) ≡ Some t → ValidTree (leaf_count N) a t
     → (j : ℕ) → wanted N a (root (leaf_count N) a) j ≡ memb j N.outputs
 wanted-root N a t w d j = rw (w, outside_none N t (valid_full N a t d) j) (or-false (memb j N.outputs))

@@ -2,7 +2,7 @@
 -- at a later place. Assumes nothing.
 use Rattle.std.specs.Prelude.{◌≡◌, refl, true, List, [], ◌∷◌, ◌++◌, ◌⊎◌, ℕ, zero, suc, ◌-◌, ◌<◌, eqb, length, get_or, take, drop}
 use Rattle.std.proofs.Common.{sym, ◌∙◌, ap, append_assoc, append-nil, inl, inr, arith, eqb-true}
-use Rattle.std.proofs.Math.Option.{some-injective}
+use Rattle.std.proofs.lemmas.Option.{same_Some}
 use Rattle.spec.specs.Lists.{memb}
 use Rattle.spec.specs.Tree.{Tree, leaf, node, number, numbers, inner, Pair, Describes, pairs_of}
 use Rattle.laws.specs.Booleans.{or_introl, or_intror, or_cases, clash}
@@ -22,7 +22,7 @@ module _ (n : ℕ) (kids : List ℕ) where
   a = pairs_of kids
 
   pair_is : (v : ℕ) (l r : Tree) → Describes n a (node v l r) → ◌≡◌ {A = Pair} (record { left = L v; right = R v }) (record { left = number l; right = number r })
-  pair_is v l r d = some-injective _ _ (sym (pair_at kids (v - n) (got_within a (v - n) _ d.1)) ∙ d.1)
+  pair_is v l r d = same_Some _ _ (sym (pair_at kids (v - n) (got_within a (v - n) _ d.1)) ∙ d.1)
 
   pub left_is : (v : ℕ) (l r : Tree) → Describes n a (node v l r) → L v ≡ number l
   left_is v l r d = ap (λ (p : Pair). p.left) (pair_is v l r d)

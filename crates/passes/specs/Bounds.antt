@@ -1,6 +1,5 @@
 -- How large the counts get: a visit rebuilds once at most and tries at most 3^12 splits. Assumes nothing.
-use Rattle.std.specs.Prelude.{Bool, ◌||◌, List, [], ◌∷◌, ℕ, ◌-◌, ◌*◌, ◌^◌, ◌≤◌, length}
-use Rattle.std.proofs.Math.Option.{Option, none, some}
+use Rattle.std.specs.Prelude.{Bool, ◌||◌, List, [], ◌∷◌, ℕ, ◌-◌, ◌*◌, ◌^◌, ◌≤◌, length, Option, None, Some}
 use Rattle.std.proofs.Common.{arith, div-le_self}
 use Rattle.std.proofs.Math.Nat.{pow-le-pow_right}
 use Rattle.std.proofs.Math.Dec.{ltb}
@@ -21,8 +20,8 @@ splits_bounded m h =
 
 module _ (N : Network) (flag : ℕ → Bool) (limit : Option ℕ) (t : Tree) (fr : Front) where
   settled_once : (q : Option Found) → (accept_best N flag limit t fr q).rebuilt ≤ 1
-  settled_once none = omega arith
-  settled_once (some f) =
+  settled_once None = omega arith
+  settled_once (Some f) =
       by_cases (undercuts f.cost (old_cost N flag fr.opened)) (λ z. rw z (omega arith)) (λ z. rw z (omega arith))
 
   rebuilt_once : (reconf_node N flag limit t fr).rebuilt ≤ 1
@@ -34,12 +33,12 @@ module _ (N : Network) (flag : ℕ → Bool) (limit : Option ℕ) (t : Tree) (fr
 
 module _ (N : Network) (flag : ℕ → Bool) (k : ℕ) (limit : Option ℕ) (low : 1 ≤ k) (high : k ≤ 12) where
   at_rebuilt : (v : ℕ) (t : Tree) (x : Option Tree) → (visit_at N flag k limit v t x).rebuilt ≤ 1
-  at_rebuilt v t none = omega arith
-  at_rebuilt v t (some s) = rebuilt_once N flag limit s (frontier N flag k s)
+  at_rebuilt v t None = omega arith
+  at_rebuilt v t (Some s) = rebuilt_once N flag limit s (frontier N flag k s)
 
   at_tried : (v : ℕ) (t : Tree) (x : Option Tree) → (visit_at N flag k limit v t x).tried ≤ most_tried
-  at_tried v t none = omega arith
-  at_tried v t (some s) =
+  at_tried v t None = omega arith
+  at_tried v t (Some s) =
       omega (
         arith,
         tried_most N flag limit s (frontier N flag k s),

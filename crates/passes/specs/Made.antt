@@ -1,6 +1,5 @@
 -- What visits, passes and all passes ask of the lent lists, and what they leave in them. Definitions only. Assumes nothing.
-use Rattle.std.specs.Prelude.{Bool, false, List, ◌≡◌, ℕ, ◌*◌, ◌≤◌}
-use Rattle.std.proofs.Math.Option.{Option}
+use Rattle.std.specs.Prelude.{Bool, false, List, ◌≡◌, ℕ, ◌*◌, ◌≤◌, Option}
 use Rattle.spec.specs.Layout.{network_of}
 use Rattle.spec.specs.Network.{Network, leaf_count}
 use Rattle.spec.specs.Calls.{dangling}

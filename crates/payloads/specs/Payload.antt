@@ -1,13 +1,14 @@
 -- Which refusal a field's payload brings: definitions, and laws of the loop that looks at indices. Assumes nothing.
-use Rattle.std.specs.Prelude.{Bool, not, ◌||◌, cond, List, [], ◌∷◌, ◌≡◌, refl, ℕ, zero, suc, ◌+◌, ◌<◌, ◌≤◌, eqb, ltb, leb, length, get_or, take, drop}
+use Rattle.std.specs.Prelude.{Bool, not, ◌||◌, cond, List, [], ◌∷◌, ◌≡◌, refl, ℕ, zero, suc, ◌+◌, ◌<◌, ◌≤◌, eqb, ltb, leb, length, get_or, take, drop, Option, None, Some}
 use Rattle.std.proofs.Math.Bool.{true, false}
-use Rattle.std.proofs.Math.Option.{Option, none, some}
+use Rattle.spec.specs.declared.Refusal.{Refusal}
+use Rattle.spec.specs.declared.Refusal.TheVariants.{TooLarge, OutOfRange, Repeated, InvalidTree, InvalidFlags}
 use Rattle.std.proofs.Common.{sym, ap, ◌∙◌, add-one, arith, drop-cons, ne_eqb}
 use Rattle.std.proofs.Math.Decide.{dec_le}
 use Rattle.std.proofs.Math.Seq.{drop-length}
 use Rattle.std.proofs.lemmas.Bool.{eqb-false}
 use Rattle.spec.specs.Lists.{memb, anyb}
-use Rattle.spec.specs.Refusal.{Refusal, too_large, out_of_range, repeated, invalid_tree, invalid_flags, check, first, code_of}
+use Rattle.spec.specs.Refusal.{check, first, code_of}
 use Rattle.spec.specs.Network.{max_leaves, max_legs, max_outputs}
 use Rattle.spec.specs.Calls.{wrong_tree}
 use Rattle.spec.specs.File.{weights_checks, index_checks, index_bytes}
@@ -21,17 +22,17 @@ weights_refusal l = first (weights_checks l)
 
 -- a leaf of a network of m indices that has n leaves already
 unfoldable pub leaf_refusal : ℕ → ℕ → List ℕ → Option Refusal
-leaf_refusal m n l = first (check (ltb max_legs (length l) || leb max_leaves n) too_large ∷ index_checks m [] l)
+leaf_refusal m n l = first (check (ltb max_legs (length l) || leb max_leaves n) TooLarge ∷ index_checks m [] l)
 
 unfoldable pub outputs_refusal : ℕ → List ℕ → Option Refusal
-outputs_refusal m l = first (check (ltb max_outputs (length l)) too_large ∷ index_checks m [] l)
+outputs_refusal m l = first (check (ltb max_outputs (length l)) TooLarge ∷ index_checks m [] l)
 
 unfoldable pub flags_refusal : ℕ → List ℕ → Option Refusal
-flags_refusal m l = first (check (ltb m (length l) || anyb (λ b. ltb 1 b) l) invalid_flags ∷ [])
+flags_refusal m l = first (check (ltb m (length l) || anyb (λ b. ltb 1 b) l) InvalidFlags ∷ [])
 
 -- a tree of n leaves
 unfoldable pub tree_refusal : ℕ → List ℕ → Option Refusal
-tree_refusal n l = first (check (wrong_tree n l) invalid_tree ∷ [])
+tree_refusal n l = first (check (wrong_tree n l) InvalidTree ∷ [])
 
 -- ---- indices, byte by byte ----
 
@@ -48,20 +49,20 @@ module _ (m : ℕ) (l : List ℕ) where
   -- what place k decides
   at_place : (k : ℕ) → k < length l → Clean k
       → index_bytes m [] l
-      ≡ cond (leb m (get_or l k 0)) (some out_of_range) (cond (memb (get_or l k 0) (before k l)) (some repeated) (index_bytes m (before (suc k) l) (drop (suc k) l)))
+      ≡ cond (leb m (get_or l k 0)) (Some OutOfRange) (cond (memb (get_or l k 0) (before k l)) (Some Repeated) (index_bytes m (before (suc k) l) (drop (suc k) l)))
   at_place k h e = e ∙ ap (index_bytes m (before k l)) (drop-cons l k 0 h)
 
-  pub clean_out : (k : ℕ) → k < length l → leb m (get_or l k 0) ≡ true → Clean k → index_bytes m [] l ≡ some out_of_range
+  pub clean_out : (k : ℕ) → k < length l → leb m (get_or l k 0) ≡ true → Clean k → index_bytes m [] l ≡ Some OutOfRange
   clean_out k h f e = rw f at (at_place k h e)
 
   pub clean_again : (k : ℕ) → k < length l → leb m (get_or l k 0) ≡ false → memb (get_or l k 0) (before k l) ≡ true → Clean k
-      → index_bytes m [] l ≡ some repeated
+      → index_bytes m [] l ≡ Some Repeated
   clean_again k h f g e = rw (f, g) at (at_place k h e)
 
   pub clean_next : (k : ℕ) → k < length l → leb m (get_or l k 0) ≡ false → memb (get_or l k 0) (before k l) ≡ false → Clean k → Clean (k + 1)
   clean_next k h f g e = rw add-one (rw (f, g) at (at_place k h e))
 
-  pub clean_end : (k : ℕ) → k ≡ length l → Clean k → index_bytes m [] l ≡ none
+  pub clean_end : (k : ℕ) → k ≡ length l → Clean k → index_bytes m [] l ≡ None
   clean_end k h e = e ∙ ap (λ n. index_bytes m (before k l) (drop n l)) h ∙ ap (index_bytes m (before k l)) (drop-length l)
 
   -- the search among the first i: found, and one more looked at

@@ -1,9 +1,9 @@
 -- How large the counts get: a pass visits each inner node once, and slicing makes no more passes than there are indices. Assumes nothing.
-use Rattle.std.specs.Prelude.{◌≡◌, Bool, true, false, eqb, leb}
+use Rattle.std.specs.Prelude.{◌≡◌, Bool, true, false, eqb, leb, Option, None, Some}
 use Rattle.std.proofs.Math.Path.{refl, subst}
 use Rattle.std.proofs.Common.{sym, ap, ◌∙◌, le_trans, mul-le-mul_left, mul-le-mul_right, length-append, le-ltb}
 use mathlib.Core.List.{List, [], ◌∷◌, ◌++◌, map}
-use Rattle.std.proofs.Math.Option.{Option, none, some, none-ne-some}
+use Rattle.std.proofs.lemmas.Option.{none-some}
 use Prim.Native.Nat.{ℕ, zero, suc, ◌+◌, ◌*◌, ◌≤◌}
 use native.Mathlib.Omega.{arith}
 use Rattle.std.proofs.Math.Decide.{dec_le}
@@ -76,7 +76,7 @@ module _ (N : Network) (flag : ℕ → Bool) (k : ℕ) (limit : Option ℕ) (low
 -- ---- improvement ----
 
 -- without leaves there is no tree
-no_tree : (n : ℕ) (a : List Pair) (v : ℕ) → n ≡ 0 → valid n a ≡ true → tree_at n a v ≡ none
+no_tree : (n : ℕ) (a : List Pair) (v : ℕ) → n ≡ 0 → valid n a ≡ true → tree_at n a v ≡ None
 unfolding tree_at
 no_tree zero [] v z e = rw (le-ltb v 0 (omega arith))
 no_tree zero (p ∷ a) v z e = absurd (omega (arith, valid_none (p ∷ a) e))
@@ -87,18 +87,18 @@ module _ (N : Network) (k passes : ℕ) (limit : Option ℕ) (flag : ℕ → Boo
   abbrev Few : Improved → Type 0
   Few d = (d.rebuilt ≤ passes * 127) × (d.tried ≤ passes * (127 * most_tried))
 
-  tree_few : (t : Tree) → tree_at (leaf_count N) a (root (leaf_count N) a) ≡ some t → Once t × (inners t ≤ 127)
+  tree_few : (t : Tree) → tree_at (leaf_count N) a (root (leaf_count N) a) ≡ Some t → Once t × (inners t ≤ 127)
   tree_few t e =
       elim (dec_le 1 (leaf_count N)) [
         | yes h ↦
             let d = tree_at_lem (leaf_count N) a t h fine e in
             (valid_once (leaf_count N) a t d, omega (arith, valid_inners (leaf_count N) a t d, d.inner))
-        | no h ↦ absurd (none-ne-some t (sym (no_tree (leaf_count N) a (root (leaf_count N) a) (omega arith) fine) ∙ e))
+        | no h ↦ absurd (none-some t (sym (no_tree (leaf_count N) a (root (leaf_count N) a) (omega arith) fine) ∙ e))
       ]
 
   at_few : (x : Option Tree) → tree_at (leaf_count N) a (root (leaf_count N) a) ≡ x → Few (improve_at N k passes limit flag a x)
-  at_few none e = (omega arith, omega arith)
-  at_few (some t) e =
+  at_few None e = (omega arith, omega arith)
+  at_few (Some t) e =
       let (once, low) = tree_few t e in
       let (x, y) = passes_few N flag (clamped k) limit (omega arith) (omega arith) passes t once in (
         le_trans x (mul-le-mul_left passes low),
@@ -122,7 +122,7 @@ module _ (N : Network) (target : ℕ) (few : leaf_count N ≤ 128) where
     next_few : (i : ℕ) → Within (suc fuel) p (slice_loop N target (one_pass N) fuel (chosen N target (one_pass N) p i))
     next_few i =
         let f : ℕ → Bool = also i p.flag in
-        let limit : Option ℕ = some (limit_at N target p i) in
+        let limit : Option ℕ = Some (limit_at N target p i) in
         let (a, b) = improve_few N 8 1 limit f p.tree fine few in
         let (x, y) = later (chosen N target (one_pass N) p i) (keeps_valid N 8 1 limit f p.tree fine) in
         (omega arith, omega arith)

@@ -1,6 +1,7 @@
 -- What is promised of the bytes that the program `plan` prints for a file. Definitions only. Assumes nothing.
-use Rattle.std.specs.Prelude.{◌≡◌, List, ℕ, ◌≤◌}
-use Rattle.spec.specs.Refusal.{Refusal, number_of, refused, done}
+use Rattle.std.specs.Prelude.{◌≡◌, List, ℕ, ◌≤◌, Err, Ok}
+use Rattle.spec.specs.Refusal.{number_of}
+use Rattle.spec.specs.declared.Refusal.{Refusal}
 use Rattle.spec.specs.Network.{Network, leaf_count, Sliceable}
 use Rattle.spec.specs.RunClaims.{RunsToDirectSum}
 use Rattle.spec.specs.Slicing.{Plan}
@@ -19,6 +20,6 @@ StepsSound N p =
 
 -- the bytes are the line of the file's refusal, or the text of a plan of what the file has, and its steps are sound
 pub data Prints (file bytes : List ℕ) : Type 0 where
-  refuses : (r : Refusal) → program_on file ≡ refused r → bytes ≡ refused_line (number_of r) → Prints file bytes
-  plans : (c : Contents) (p : Plan) → read_of 254 256 file ≡ done c → plan_of c.network c.tree c.ask ≡ done p
+  refuses : (r : Refusal) → program_on file ≡ Err r → bytes ≡ refused_line (number_of r) → Prints file bytes
+  plans : (c : Contents) (p : Plan) → read_of 254 256 file ≡ Ok c → plan_of c.network c.tree c.ask ≡ Ok p
       → bytes ≡ plan_text (printed c.network p) → StepsSound c.network p → Prints file bytes

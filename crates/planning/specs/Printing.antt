@@ -1,8 +1,8 @@
 -- A plan in lent lists, priced and printed. Assumes nothing.
-use Rattle.std.specs.Prelude.{◌≡◌, true, not, List, [], ◌∷◌, ℕ, suc, ◌*◌, ◌≤◌, ◌<◌, eqb, length, get_or}
+use Rattle.std.specs.Prelude.{◌≡◌, true, not, List, [], ◌∷◌, ℕ, suc, ◌*◌, ◌≤◌, ◌<◌, eqb, length, get_or, Some, Result, Ok}
 use Rattle.std.proofs.Common.{sym, ap, ◌∙◌, subst, arith}
 use Rattle.std.proofs.Math.Bool.{false}
-use Rattle.std.proofs.Math.Option.{some}
+use Rattle.spec.specs.declared.Refusal.{Refusal}
 use borrow.Author.Tests.{le-ltb}
 use Rattle.spec.specs.Memory.{over, placed}
 use Rattle.spec.specs.Members.{All}
@@ -10,7 +10,6 @@ use Rattle.spec.specs.Network.{Network, leaf_count, index_count, network_checks,
 use Rattle.spec.specs.Tree.{Pair, valid, pairs_of}
 use Rattle.spec.specs.Price as price
 use Rattle.spec.specs.Price.{price_of}
-use Rattle.spec.specs.Refusal.{Result, done}
 use Rattle.spec.specs.Calls.{plain_words, set_words, step_numbers, node_places, step_places, lent, length_check, flag_at, price_checks, price_call}
 use Rattle.spec.specs.Slicing.{Plan}
 use Rattle.spec.specs.File.{flagged}
@@ -65,7 +64,7 @@ pub record FullLists (sets sizes works steps : List ℕ) : Type 0 where
 -- what printing asks: an accepted network, a valid tree, a flag of 0 or 1 for each index
 pub record Printable (N : Network) (kids flags : List ℕ) : Type 0 where
   pub ok : accepted N ≡ true
-  pub lawful : LawfulTree N (some kids)
+  pub lawful : LawfulTree N (Some kids)
   pub low : (j : ℕ) → j < index_count N → get_or flags j 0 ≤ 1
   pub room : length flags ≡ index_count N
 
@@ -77,7 +76,7 @@ module _ {N : Network} {kids flags : List ℕ} {words : ℕ} (x : Printable N ki
   few_leaves = ((accepted_means N).0 x.ok).few_leaves
 
   -- pricing refuses nothing
-  pub price_done : price_call N words full_room flags kids ≡ done (price_of N (flag_at flags) (pairs_of kids))
+  pub price_done : price_call N words full_room flags kids ≡ Ok (price_of N (flag_at flags) (pairs_of kids))
   unfolding price_call
   price_done =
       let (a, (b, (c, (d, _)))) = passes_fails (network_checks false N) x.ok in
@@ -92,12 +91,12 @@ module _ {N : Network} {kids flags : List ℕ} {words : ℕ} (x : Printable N ki
         le-ltb 255 (node_places N) (omega (arith, few_leaves)),
         le-ltb 635 (step_places N * step_numbers) (omega (arith, few_leaves)),
       ) in
-      checked_none (price_checks N words full_room flags kids) (done (price_of N (flag_at flags) (pairs_of kids))) (a, (b, (c, (d, (l, (t, (f, tt)))))))
+      checked_none (price_checks N words full_room flags kids) (Ok (price_of N (flag_at flags) (pairs_of kids))) (a, (b, (c, (d, (l, (t, (f, tt)))))))
 
   -- so its answer is the price list
-  module _ {c : Result price.Prices} (same : c ≡ price_call N words full_room flags kids) {sets₀ sizes₀ works₀ steps₀ sets sizes works steps : List ℕ} {r : Priced}
+  module _ {c : Result price.Prices Refusal} (same : c ≡ price_call N words full_room flags kids) {sets₀ sizes₀ works₀ steps₀ sets sizes works steps : List ℕ} {r : Priced}
       (a : Answered N flags kids c sets₀ sizes₀ works₀ steps₀ sets sizes works steps r) where
-    is_done : c ≡ done (price_of N (flag_at flags) (pairs_of kids))
+    is_done : c ≡ Ok (price_of N (flag_at flags) (pairs_of kids))
     is_done = same ∙ price_done
 
     pub not_refused : {k : ℕ} → r ≡ Refused k → ⊥

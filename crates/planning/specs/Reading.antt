@@ -1,10 +1,10 @@
 -- From what the reader answers to the plan. Assumes nothing.
-use Rattle.std.specs.Prelude.{◌≡◌, refl, true, List, [], ◌∷◌, ℕ, zero, suc, ◌≤◌, ◌<◌, length, get_or, take, drop, replicate}
+use Rattle.std.specs.Prelude.{◌≡◌, refl, true, List, [], ◌∷◌, ℕ, zero, suc, ◌≤◌, ◌<◌, length, get_or, take, drop, replicate, Option, None, Some, Result, Err, Ok}
 use Rattle.std.proofs.Common.{sym, ap, ap₂, ◌∙◌, subst, arith, take_at, get_or-take, length-take-le, ext_get_or}
-use Rattle.std.proofs.Math.Option.{Option, none, some}
+use Rattle.spec.specs.declared.Refusal.{Refusal}
 use Rattle.spec.specs.Members.{All}
 use Rattle.spec.specs.Network.{Network, leaf_count, index_count, accepted}
-use Rattle.spec.specs.Refusal.{Refusal, number_of, Result, refused, done}
+use Rattle.spec.specs.Refusal.{number_of}
 use Rattle.spec.specs.Calls.{tree_places}
 use Rattle.spec.specs.File.{Ask, plain, flagged, target, Contents, read_of}
 use Rattle.spec.specs.FileClaims.{Bytes, LawfulTree, LawfulAsk, TreeLeft, FlagsLeft}
@@ -27,10 +27,10 @@ use Rattle.planning.specs.Stages.{FlagsHeld, given_tree, FoundIn}
 -- ---- the tree ----
 
 tree_given : (N : Network) (t : Option (List ℕ)) (l kids : List ℕ) → LawfulTree N t → TreeLeft t l kids → given_tree (tree_answer t) (take (tree_places N) kids) ≡ t
-tree_given N none l kids h e = refl
-tree_given N (some k) l kids (e, v) q =
+tree_given N None l kids h e = refl
+tree_given N (Some k) l kids (e, v) q =
     let n : length k ≡ tree_places N = omega (arith, valid_length (leaf_count N) k e v) in
-    ap some (ap (take (tree_places N)) q ∙ take_at k (drop (length k) l) (tree_places N) n)
+    ap Some (ap (take (tree_places N)) q ∙ take_at k (drop (length k) l) (tree_places N) n)
 
 -- ---- the flags ----
 
@@ -80,11 +80,11 @@ zeros zero j = refl
 zeros (suc n) zero = refl
 zeros (suc n) (suc j) = zeros n j
 
-on_done : (file : List ℕ) (c : Contents) → read_of 254 256 file ≡ done c → program_on file ≡ program c.network c.tree c.ask
+on_done : (file : List ℕ) (c : Contents) → read_of 254 256 file ≡ Ok c → program_on file ≡ program c.network c.tree c.ask
 unfolding program_on
 on_done file c e = rw e
 
-on_refused : (file : List ℕ) (r : Refusal) → read_of 254 256 file ≡ refused r → plan_bytes file ≡ refused_line (number_of r)
+on_refused : (file : List ℕ) (r : Refusal) → read_of 254 256 file ≡ Err r → plan_bytes file ≡ refused_line (number_of r)
 unfolding plan_bytes program_on
 on_refused file r e = rw e
 
@@ -93,14 +93,14 @@ module _ (file a b : List ℕ) (h : length a ≡ 254) (k : length b ≡ 256) (cl
   same_read : read_of (length a) (length b) file ≡ read_of 254 256 file
   same_read = cc
 
-  refused_cases : (x : Result Contents) {n : ℕ} → x ≡ read_of 254 256 file → Refused n ≡ answer_of x → plan_bytes file ≡ refused_line n
-  refused_cases (refused r) {n} e q = let w : n ≡ number_of r = cc in on_refused file r (sym e) ∙ ap refused_line (sym w)
-  refused_cases (done c) e q = absurd (let w : ◌≡◌ {A = ℕ} 0 1 = cc in omega arith)
+  refused_cases : (x : Result Contents Refusal) {n : ℕ} → x ≡ read_of 254 256 file → Refused n ≡ answer_of x → plan_bytes file ≡ refused_line n
+  refused_cases (Err r) {n} e q = let w : n ≡ number_of r = cc in on_refused file r (sym e) ∙ ap refused_line (sym w)
+  refused_cases (Ok c) e q = absurd (let w : ◌≡◌ {A = ℕ} 0 1 = cc in omega arith)
 
-  done_cases : (x : Result Contents) {f : Found} {R : Record} {kids flags : List ℕ} → x ≡ read_of (length a) (length b) file → ((i : ℕ) → get_or file i 0 < 256)
+  done_cases : (x : Result Contents Refusal) {f : Found} {R : Record} {kids flags : List ℕ} → x ≡ read_of (length a) (length b) file → ((i : ℕ) → get_or file i 0 < 256)
       → Done f ≡ answer_of x → net_of R ≡ network_in x → kids ≡ tree_after x a → flags ≡ flags_after x b → Whole file f R kids flags
-  done_cases (refused r) e bytes q n s t = absurd (let w : ◌≡◌ {A = ℕ} 0 1 = cc in omega arith)
-  done_cases (done c) {f} {R} {kids} {flags} e bytes q n s t =
+  done_cases (Err r) e bytes q n s t = absurd (let w : ◌≡◌ {A = ℕ} 0 1 = cc in omega arith)
+  done_cases (Ok c) {f} {R} {kids} {flags} e bytes q n s t =
       let found : f ≡ record { tree = tree_answer c.tree; ask = ask_answer c.ask } = cc in
       let d : Bytes file = all_bytes file (λ i _. bytes i) in
       let (lawful, _, _) = (reads_just (length a) (length b) file c d).0 (sym e) in
@@ -112,7 +112,7 @@ module _ (file a b : List ℕ) (h : length a ≡ 254) (k : length b ≡ 256) (cl
       ask_given c.network b flags clear (omega arith) c.ask lawful.ask (subst (FlagsLeft (index_count c.network) c.ask b) (sym t) set) in
       subst (λ (y : Found). Whole file y R kids flags) (sym found) (of_parts c R kids flags (sym n) lawful.network (sym same_read ∙ sym e) given asked held few)
     where
-      of_parts : (c : Contents) (R : Record) (kids flags : List ℕ) → c.network ≡ net_of R → accepted c.network ≡ true → read_of 254 256 file ≡ done c
+      of_parts : (c : Contents) (R : Record) (kids flags : List ℕ) → c.network ≡ net_of R → accepted c.network ≡ true → read_of 254 256 file ≡ Ok c
           → given_tree (tree_answer c.tree) (take (tree_places c.network) kids) ≡ c.tree → ask_handed (ask_answer c.ask) flags ≡ c.ask
           → FlagsHeld c.network (flags_of c.ask) flags → flag_count (ask_answer c.ask) ≤ index_count c.network
           → Whole file (record { tree = tree_answer c.tree; ask = ask_answer c.ask }) R kids flags

@@ -1,13 +1,13 @@
 -- The last stage: slicing to a target, or the plan as it stands. Assumes nothing.
-use Rattle.std.specs.Prelude.{◌≡◌, refl, false, cond, List, [], ◌∷◌, ◌++◌, map, ℕ, ◌+◌, ◌*◌, ◌≤◌, length}
+use Rattle.std.specs.Prelude.{◌≡◌, refl, false, cond, List, [], ◌∷◌, ◌++◌, map, ℕ, ◌+◌, ◌*◌, ◌≤◌, length, Some, Result, Err, Ok}
 use Rattle.std.proofs.Common.{sym, ap, ◌∙◌, subst, le_trans, mul-le-mul_right, arith, le-ltb}
 use Rattle.std.proofs.Math.Bool.{true}
-use Rattle.std.proofs.Math.Option.{some}
+use Rattle.spec.specs.declared.Refusal.{Refusal}
 use Rattle.spec.specs.Lists.{range}
 use Rattle.spec.specs.Memory.{over}
 use Rattle.spec.specs.Network.{Network, leaf_count, index_count, network_checks}
 use Rattle.spec.specs.Tree.{valid, pairs_of, flat_of}
-use Rattle.spec.specs.Refusal.{number_of, Check, Result, refused, done, and_then, checked}
+use Rattle.spec.specs.Refusal.{number_of, Check, and_then, checked}
 use Rattle.spec.specs.Slicing.{Plan, slice, one_pass}
 use Rattle.spec.specs.Calls.{lent, length_check, slice_words, tree_check, beyond_check, dangling_if, follow_up, slice_checks, slice_call, sliced_tree, sliced_flags}
 use Rattle.spec.specs.File.{Ask, plain, target}
@@ -38,7 +38,7 @@ Stands N kids flags v a =
     FlagsHeld N (flags_of (ask_handed a flags)) flags → Answers N (slice_for N (ask_handed a flags) (improved_in kids v)) kids flags (Done v)
 
 module _ {N : Network} {kids flags : List ℕ} {v : Visited} (held : ImprovedHeld N kids v) where
-  stands : (ask : Ask) → slice_for N ask (improved_in kids v) ≡ done (flagged_plan (flags_of ask) (improved_in kids v)) → FlagsHeld N (flags_of ask) flags
+  stands : (ask : Ask) → slice_for N ask (improved_in kids v) ≡ Ok (flagged_plan (flags_of ask) (improved_in kids v)) → FlagsHeld N (flags_of ask) flags
       → Answers N (slice_for N ask (improved_in kids v)) kids flags (Done v)
   stands ask e h =
       record {
@@ -67,32 +67,32 @@ slice_same N w words places kids h q =
     ≡ length_check (lent (slice_words true) (slice_words true) ∷ lent (index_count N) (index_count N) ∷ []) =
     rw (le-ltb words (slice_words true) h, le-ltb places (index_count N) q, le-ltb (index_count N) (index_count N) (omega arith)) in
     let rest : List Check = tree_check N kids ∷ beyond_check N (λ j. false) (pairs_of kids) ∷ dangling_if N true in
-    ap (λ (x : Check). checked (network_checks false N ++ (x ∷ rest)) (done (slice N w (follow_up N true) (pairs_of kids)))) e
+    ap (λ (x : Check). checked (network_checks false N ++ (x ∷ rest)) (Ok (slice N w (follow_up N true) (pairs_of kids)))) e
 
 module _ (N : Network) (w : ℕ) (kids₀ flags₀ : List ℕ) (v : Visited) (words : ℕ) (enough : slice_words true ≤ words) (ready : Ready N (length flags₀)) (held : ImprovedHeld N kids₀ v) where
-  abbrev call : Result Plan
+  abbrev call : Result Plan Refusal
   call = slice_call N true w words (length flags₀) kids₀
 
-  abbrev whole : Result Plan
+  abbrev whole : Result Plan Refusal
   whole = slice_for N (target w) (improved_in kids₀ v)
 
-  whole_is : whole ≡ and_then call λ p. done (counted (improved_in kids₀ v) p)
+  whole_is : whole ≡ and_then call λ p. Ok (counted (improved_in kids₀ v) p)
   whole_is =
-      ap (λ (x : Result Plan). and_then x (λ p. done (counted (improved_in kids₀ v) p)))
+      ap (λ (x : Result Plan Refusal). and_then x (λ p. Ok (counted (improved_in kids₀ v) p)))
       (ap (slice_call N true w (slice_words true) (index_count N)) held.flat
       ∙ sym (slice_same N w words (length flags₀) kids₀ enough ready.room))
 
-  module _ (p : Plan) (e : call ≡ done p) where
+  module _ (p : Plan) (e : call ≡ Ok p) where
     is_slice : slice N w (one_pass N) (pairs_of kids₀) ≡ p
     unfolding slice_call
     is_slice =
-        let (_, q) = checked_done (slice_checks N true words (length flags₀) kids₀) (done (slice N w (one_pass N) (pairs_of kids₀))) p e in
+        let (_, q) = checked_done (slice_checks N true words (length flags₀) kids₀) (Ok (slice N w (one_pass N) (pairs_of kids₀))) p e in
         done_same (slice N w (one_pass N) (pairs_of kids₀)) p q
 
     sliced_fine : valid (leaf_count N) p.tree ≡ true
     sliced_fine =
         subst (λ (x : Plan). valid (leaf_count N) x.tree ≡ true) is_slice
-        (stays_valid N w (one_pass N) (λ f limit b h. keeps_valid N 8 1 (some limit) f b h) (pairs_of kids₀) held.fine)
+        (stays_valid N w (one_pass N) (λ f limit b h. keeps_valid N 8 1 (Some limit) f b h) (pairs_of kids₀) held.fine)
 
     sliced_few : (p.rebuilt ≤ 256 * 127) × (p.tried ≤ 256 * (127 * most_tried))
     sliced_few =
@@ -106,7 +106,7 @@ module _ (N : Network) (w : ℕ) (kids₀ flags₀ : List ℕ) (v : Visited) (wo
         over_tree (leaf_count N) kids₀ p.tree
         (ap length (sym held.flat) ∙ flat_length (pairs_of kids₀) ∙ ap (λ (n : ℕ). n * 2) (valid_length (leaf_count N) (pairs_of kids₀) held.fine)) sliced_fine
 
-    sliced_flags_lem : FlagsHeld N p.flag (sliced_flags N (done p) flags₀)
+    sliced_flags_lem : FlagsHeld N p.flag (sliced_flags N (Ok p) flags₀)
     sliced_flags_lem j h =
         let f : ℕ → ℕ = λ i. cond (p.flag i) 1 0 in
         over_at flags₀ (map f (range (index_count N))) j 0 (omega (arith, ready.room)) (omega (arith, map_range_length f (index_count N)))
@@ -115,18 +115,18 @@ module _ (N : Network) (w : ℕ) (kids₀ flags₀ : List ℕ) (v : Visited) (wo
   pub slice_refused : {k : ℕ} {kids flags : List ℕ} → Sliced.Refused k ≡ sliced_of call → Answers N whole kids flags (Refused k)
   slice_refused {k} {kids} {flags} q = by_result call refl q
     where
-      by_result : (x : Result Plan) → call ≡ x → Sliced.Refused k ≡ sliced_of x → Answers N whole kids flags (Refused k)
-      by_result (refused r) e f =
-          answers_refused r (whole_is ∙ ap (λ (x : Result Plan). and_then x (λ p. done (counted (improved_in kids₀ v) p))) e) (let z : k ≡ number_of r = cc in z)
-      by_result (done p) e f = absurd (let z : ◌≡◌ {A = ℕ} 0 1 = cc in omega arith)
+      by_result : (x : Result Plan Refusal) → call ≡ x → Sliced.Refused k ≡ sliced_of x → Answers N whole kids flags (Refused k)
+      by_result (Err r) e f =
+          answers_refused r (whole_is ∙ ap (λ (x : Result Plan Refusal). and_then x (λ p. Ok (counted (improved_in kids₀ v) p))) e) (let z : k ≡ number_of r = cc in z)
+      by_result (Ok p) e f = absurd (let z : ◌≡◌ {A = ℕ} 0 1 = cc in omega arith)
 
   -- the counts
   pub slice_counts : {a b : ℕ} → Sliced.Done a b ≡ sliced_of call → (a ≤ 256 * 127) × (b ≤ 256 * (127 * most_tried))
   slice_counts {a} {b} q = by_result call refl q
     where
-      by_result : (x : Result Plan) → call ≡ x → Sliced.Done a b ≡ sliced_of x → (a ≤ 256 * 127) × (b ≤ 256 * (127 * most_tried))
-      by_result (refused r) e f = absurd (let z : ◌≡◌ {A = ℕ} 0 1 = cc in omega arith)
-      by_result (done p) e f =
+      by_result : (x : Result Plan Refusal) → call ≡ x → Sliced.Done a b ≡ sliced_of x → (a ≤ 256 * 127) × (b ≤ 256 * (127 * most_tried))
+      by_result (Err r) e f = absurd (let z : ◌≡◌ {A = ℕ} 0 1 = cc in omega arith)
+      by_result (Ok p) e f =
           let y : a ≡ p.rebuilt = cc in
           let z : b ≡ p.tried = cc in
           (omega (arith, (sliced_few p e).0), omega (arith, (sliced_few p e).1))
@@ -135,14 +135,14 @@ module _ (N : Network) (w : ℕ) (kids₀ flags₀ : List ℕ) (v : Visited) (wo
       → u ≡ record { rebuilt = v.rebuilt + a; tried = v.tried + b } → Answers N whole kids flags (Done u)
   slice_done {a} {b} {kids} {flags} {u} q s t y = by_result call refl q s t
     where
-      by_result : (x : Result Plan) → call ≡ x → Sliced.Done a b ≡ sliced_of x → kids ≡ sliced_tree x kids₀ → flags ≡ sliced_flags N x flags₀
+      by_result : (x : Result Plan Refusal) → call ≡ x → Sliced.Done a b ≡ sliced_of x → kids ≡ sliced_tree x kids₀ → flags ≡ sliced_flags N x flags₀
           → Answers N whole kids flags (Done u)
-      by_result (refused r) e f k l = absurd (let z : ◌≡◌ {A = ℕ} 0 1 = cc in omega arith)
-      by_result (done p) e f k l =
+      by_result (Err r) e f k l = absurd (let z : ◌≡◌ {A = ℕ} 0 1 = cc in omega arith)
+      by_result (Ok p) e f k l =
           let m : a ≡ p.rebuilt = cc in
           let n : b ≡ p.tried = cc in
-          let g : whole ≡ done (counted (improved_in kids₀ v) p) =
-          whole_is ∙ ap (λ (x : Result Plan). and_then x (λ p. done (counted (improved_in kids₀ v) p))) e in
+          let g : whole ≡ Ok (counted (improved_in kids₀ v) p) =
+          whole_is ∙ ap (λ (x : Result Plan Refusal). and_then x (λ p. Ok (counted (improved_in kids₀ v) p))) e in
           record {
             answer = ap Done (y ∙ (λ i. record { rebuilt = v.rebuilt + m i; tried = v.tried + n i })) ∙ sym (ap plan_answer g);
             held = λ o z.

@@ -1,8 +1,7 @@
 -- What is printed is a refusal's line or a plan's text, and the printed steps run to the direct sum. Assumes nothing.
-use Rattle.std.specs.Prelude.{◌≡◌, refl, List, ℕ, ◌≤◌, length, take, drop}
+use Rattle.std.specs.Prelude.{◌≡◌, refl, List, ℕ, ◌≤◌, length, take, drop, Option, Result, Err, Ok}
 use Rattle.std.proofs.Common.{sym, ap, ◌∙◌, subst, arith, take_at}
-use Rattle.std.proofs.Math.Option.{Option}
-use Rattle.spec.specs.Refusal.{Result, refused, done}
+use Rattle.spec.specs.declared.Refusal.{Refusal}
 use Rattle.spec.specs.Network.{Network, Sliceable}
 use Rattle.spec.specs.Slicing.{Plan}
 use Rattle.spec.specs.File.{Ask, plain, flagged, target, Contents, read_of}
@@ -15,23 +14,23 @@ use Rattle.laws.specs.ProgramLaws.{plan_right, clear_fine, target_fine, flags_st
 use Rattle.planning.specs.Output.{StepsSound, Prints}
 
 -- given flags stand, and without them there is nothing to ask
-given_fine : (N : Network) (given : Option (List ℕ)) (ask : Ask) (p : Plan) → plan_of N given ask ≡ done p → Sliceable N p.flag → Sliceable N (flags_of ask)
+given_fine : (N : Network) (given : Option (List ℕ)) (ask : Ask) (p : Plan) → plan_of N given ask ≡ Ok p → Sliceable N p.flag → Sliceable N (flags_of ask)
 given_fine N given plain p e h = clear_fine N
 given_fine N given (flagged l) p e h = subst (Sliceable N) (flags_stand N given l p e) h
 given_fine N given (target w) p e h = target_fine N w
 
-steps_sound : (N : Network) (given : Option (List ℕ)) (ask : Ask) (p : Plan) → plan_of N given ask ≡ done p → StepsSound N p
+steps_sound : (N : Network) (given : Option (List ℕ)) (ask : Ask) (p : Plan) → plan_of N given ask ≡ Ok p → StepsSound N p
 steps_sound N given ask p e fine two tables = (plan_right N given ask p e).runs (given_fine N given ask p e fine) two ℤ_semiring tables
 
-by_plan : (file : List ℕ) (c : Contents) → read_of 254 256 file ≡ done c → (x : Result Plan) → plan_of c.network c.tree c.ask ≡ x → Prints file (plan_bytes file)
+by_plan : (file : List ℕ) (c : Contents) → read_of 254 256 file ≡ Ok c → (x : Result Plan Refusal) → plan_of c.network c.tree c.ask ≡ x → Prints file (plan_bytes file)
 unfolding plan_bytes program_on
-by_plan file c e (refused r) q = Prints.refuses r (rw (e, q)) (rw (e, q))
-by_plan file c e (done p) q = Prints.plans c p e q (rw (e, q)) (steps_sound c.network c.tree c.ask p q)
+by_plan file c e (Err r) q = Prints.refuses r (rw (e, q)) (rw (e, q))
+by_plan file c e (Ok p) q = Prints.plans c p e q (rw (e, q)) (steps_sound c.network c.tree c.ask p q)
 
-by_reading : (file : List ℕ) (x : Result Contents) → read_of 254 256 file ≡ x → Prints file (plan_bytes file)
+by_reading : (file : List ℕ) (x : Result Contents Refusal) → read_of 254 256 file ≡ x → Prints file (plan_bytes file)
 unfolding plan_bytes program_on
-by_reading file (refused r) e = Prints.refuses r (rw e) (rw e)
-by_reading file (done c) e = by_plan file c e (plan_of c.network c.tree c.ask) refl
+by_reading file (Err r) e = Prints.refuses r (rw e) (rw e)
+by_reading file (Ok c) e = by_plan file c e (plan_of c.network c.tree c.ask) refl
 
 -- WHAT IS PRINTED IS SOUND
 pub prints : (file : List ℕ) → Prints file (plan_bytes file)

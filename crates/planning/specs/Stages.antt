@@ -1,13 +1,13 @@
 -- A plan in lent lists, stage by stage: the given tree or greedy's, improvement, slicing. Assumes nothing.
 use Rattle.std.proofs.Math.Path.{◌≡◌, refl, ap}
 use Rattle.std.proofs.Common.{sym, ◌∙◌, subst, arith, le-ltb}
-use Rattle.std.specs.Prelude.{Bool, true, false, cond, ℕ, ◌-◌, ◌*◌, ◌%◌, ◌≤◌, ◌<◌, length, get_or, take}
+use Rattle.std.specs.Prelude.{Bool, true, false, cond, ℕ, ◌-◌, ◌*◌, ◌%◌, ◌≤◌, ◌<◌, length, get_or, take, Option, None, Some, Result, Err, Ok}
 use mathlib.Core.List.{List, [], ◌∷◌, ◌++◌}
-use Rattle.std.proofs.Math.Option.{Option, none, some}
+use Rattle.spec.specs.declared.Refusal.{Refusal}
 use Rattle.spec.specs.Memory.{over}
 use Rattle.spec.specs.Network.{Network, leaf_count, index_count, network_checks, accepted}
 use Rattle.spec.specs.Tree.{Pair, valid, pairs_of, flat_of}
-use Rattle.spec.specs.Refusal.{Refusal, number_of, Check, Result, refused, done, and_then, checked}
+use Rattle.spec.specs.Refusal.{number_of, Check, and_then, checked}
 use Rattle.spec.specs.Improve as spec
 use Rattle.spec.specs.Improve.{improve}
 use Rattle.spec.specs.Greedy.{greedy}
@@ -52,14 +52,14 @@ pub record PlanHeld (N : Network) (p : Plan) (kids flags : List ℕ) : Type 0 wh
   pub flagged : FlagsHeld N p.flag flags
 
 -- refused by number, or the counts
-abbrev pub plan_answer : Result Plan → Improved
-plan_answer (refused r) = Refused (number_of r)
-plan_answer (done p) = Done (record { rebuilt = p.rebuilt; tried = p.tried })
+abbrev pub plan_answer : Result Plan Refusal → Improved
+plan_answer (Err r) = Refused (number_of r)
+plan_answer (Ok p) = Done (record { rebuilt = p.rebuilt; tried = p.tried })
 
 -- the answer is that of c, and so is the plan in the lists
-pub record Answers (N : Network) (c : Result Plan) (kids flags : List ℕ) (r : Improved) : Type 0 where
+pub record Answers (N : Network) (c : Result Plan Refusal) (kids flags : List ℕ) (r : Improved) : Type 0 where
   pub answer : r ≡ plan_answer c
-  pub held : (p : Plan) → c ≡ done p → PlanHeld N p kids flags
+  pub held : (p : Plan) → c ≡ Ok p → PlanHeld N p kids flags
 
 -- what a stage asks: an accepted network, a place an index for flags
 pub record Ready (N : Network) (places : ℕ) : Type 0 where
@@ -68,8 +68,8 @@ pub record Ready (N : Network) (places : ℕ) : Type 0 where
 
 -- the tree that a list has, if the file has one
 abbrev pub given_tree : Tree → List ℕ → Option (List ℕ)
-given_tree Absent kids = none
-given_tree (Present n) kids = some kids
+given_tree Absent kids = None
+given_tree (Present n) kids = Some kids
 
 given_flags : (a : Asked) (l : List ℕ) → take (flag_count a) l ≡ flag_bytes (ask_handed a l)
 given_flags Plain l = refl
@@ -92,17 +92,17 @@ found_flags {N} x = omega (arith, x.few_flags, x.flag_room, ((accepted_means N).
 
 -- ---- answers ----
 
-pub answers_refused : {N : Network} {c : Result Plan} {kids flags : List ℕ} {k : ℕ} (r : Refusal) → c ≡ refused r → k ≡ number_of r
+pub answers_refused : {N : Network} {c : Result Plan Refusal} {kids flags : List ℕ} {k : ℕ} (r : Refusal) → c ≡ Err r → k ≡ number_of r
     → Answers N c kids flags (Refused k)
 answers_refused {k = k} r e q = record { answer = ap Refused q ∙ ap plan_answer (sym e); held = λ p f. absurd (apart r p (sym e ∙ f)) }
   where
-    apart : (r : Refusal) (p : Plan) → ◌≡◌ {A = Result Plan} (refused r) (done p) → ⊥
+    apart : (r : Refusal) (p : Plan) → ◌≡◌ {A = Result Plan Refusal} (Err r) (Ok p) → ⊥
     apart r p e = let z : ◌≡◌ {A = ℕ} 0 1 = cc in omega arith
 
-pub answers_as : {N : Network} {c d : Result Plan} {kids flags : List ℕ} {r : Improved} → c ≡ d → Answers N d kids flags r → Answers N c kids flags r
-answers_as {N} {kids = kids} {flags = flags} {r = r} e a = subst (λ (x : Result Plan). Answers N x kids flags r) (sym e) a
+pub answers_as : {N : Network} {c d : Result Plan Refusal} {kids flags : List ℕ} {r : Improved} → c ≡ d → Answers N d kids flags r → Answers N c kids flags r
+answers_as {N} {kids = kids} {flags = flags} {r = r} e a = subst (λ (x : Result Plan Refusal). Answers N x kids flags r) (sym e) a
 
-pub answers_at : {N : Network} {c : Result Plan} {kids flags : List ℕ} {r s : Improved} → r ≡ s → Answers N c kids flags r → Answers N c kids flags s
+pub answers_at : {N : Network} {c : Result Plan Refusal} {kids flags : List ℕ} {r s : Improved} → r ≡ s → Answers N c kids flags r → Answers N c kids flags s
 answers_at {N} {c} {kids} {flags} e a = subst (Answers N c kids flags) e a
 
 -- ---- improvement ----
@@ -119,7 +119,7 @@ pub record ImprovedHeld (N : Network) (kids : List ℕ) (v : Visited) : Type 0 w
   pub few_tried : v.tried ≤ 4 * (127 * most_tried)
 
 -- improvement, and what follows it
-unfoldable pub from_tree : Network → Ask → List ℕ → Result Plan
+unfoldable pub from_tree : Network → Ask → List ℕ → Result Plan Refusal
 from_tree N ask kids = and_then (improve_for N ask kids) λ d. slice_for N ask d
 
 even_length : (n : ℕ) (kids : List ℕ) → length kids % 2 ≡ 0 → valid n (pairs_of kids) ≡ true → length kids ≡ (n - 1) * 2
@@ -130,28 +130,28 @@ pub over_tree : (n : ℕ) (kids₀ : List ℕ) (a : List Pair) → length kids�
 over_tree n kids₀ a e v = over_all kids₀ (flat_of a) (omega (arith, flat_length a, valid_length n a v))
 
 module _ (N : Network) (ask : Ask) (few : leaf_count N ≤ 128) (kids₀ : List ℕ) where
-  module _ (d : spec.Improved) (e : improve_for N ask kids₀ ≡ done d) where
-    improved_facts : LawfulTree N (some kids₀) × (improve N 8 4 none (flags_of ask) (pairs_of kids₀) ≡ d)
+  module _ (d : spec.Improved) (e : improve_for N ask kids₀ ≡ Ok d) where
+    improved_facts : LawfulTree N (Some kids₀) × (improve N 8 4 None (flags_of ask) (pairs_of kids₀) ≡ d)
     unfolding improve_call
     improved_facts =
-        let (f, q) = checked_done (improve_checks N 8 4 (improve_words 8) (flag_bytes ask) kids₀) (done (improve N 8 4 none (flags_of ask) (pairs_of kids₀))) d e in
-        (fails_tree N kids₀ (f.1.1.1.1.1.0, tt), done_same (improve N 8 4 none (flags_of ask) (pairs_of kids₀)) d q)
+        let (f, q) = checked_done (improve_checks N 8 4 (improve_words 8) (flag_bytes ask) kids₀) (Ok (improve N 8 4 None (flags_of ask) (pairs_of kids₀))) d e in
+        (fails_tree N kids₀ (f.1.1.1.1.1.0, tt), done_same (improve N 8 4 None (flags_of ask) (pairs_of kids₀)) d q)
 
     improved_fine : valid (leaf_count N) d.tree ≡ true
     improved_fine =
         subst (λ (x : spec.Improved). valid (leaf_count N) x.tree ≡ true) improved_facts.1
-        (keeps_valid N 8 4 none (flags_of ask) (pairs_of kids₀) improved_facts.0.1)
+        (keeps_valid N 8 4 None (flags_of ask) (pairs_of kids₀) improved_facts.0.1)
 
     improved_few : (d.rebuilt ≤ 4 * 127) × (d.tried ≤ 4 * (127 * most_tried))
     improved_few =
         subst (λ (x : spec.Improved). (x.rebuilt ≤ 4 * 127) × (x.tried ≤ 4 * (127 * most_tried))) improved_facts.1
-        (improve_few N 8 4 none (flags_of ask) (pairs_of kids₀) improved_facts.0.1 few)
+        (improve_few N 8 4 None (flags_of ask) (pairs_of kids₀) improved_facts.0.1 few)
 
     improved_tree_lem : over kids₀ (flat_of d.tree) ≡ flat_of d.tree
     improved_tree_lem =
         over_tree (leaf_count N) kids₀ d.tree (even_length (leaf_count N) kids₀ improved_facts.0.0 improved_facts.0.1) improved_fine
 
-    improved_held : {kids : List ℕ} {v : Visited} → kids ≡ improved_tree (done d) kids₀ → v ≡ counts_of d → ImprovedHeld N kids v × (improved_in kids v ≡ d)
+    improved_held : {kids : List ℕ} {v : Visited} → kids ≡ improved_tree (Ok d) kids₀ → v ≡ counts_of d → ImprovedHeld N kids v × (improved_in kids v ≡ d)
     improved_held {kids} {v} t q =
         let k : kids ≡ flat_of d.tree = t ∙ improved_tree_lem in
         let a : pairs_of kids ≡ d.tree = ap pairs_of k ∙ pairs_flat d.tree in
@@ -167,35 +167,35 @@ module _ (N : Network) (ask : Ask) (few : leaf_count N ≤ 128) (kids₀ : List 
         )
 
   -- by what improvement answers
-  module _ {c : Result spec.Improved} (same : c ≡ improve_for N ask kids₀) where
+  module _ {c : Result spec.Improved Refusal} (same : c ≡ improve_for N ask kids₀) where
     improve_refused : {k : ℕ} {kids flags : List ℕ} → Refused k ≡ answer_of c → Answers N (from_tree N ask kids₀) kids flags (Refused k)
     unfolding from_tree
     improve_refused {k} {kids} {flags} q = by_result c refl q
       where
-        by_result : (x : Result spec.Improved) → c ≡ x → Refused k ≡ answer_of x
+        by_result : (x : Result spec.Improved Refusal) → c ≡ x → Refused k ≡ answer_of x
             → Answers N (and_then (improve_for N ask kids₀) λ d. slice_for N ask d) kids flags (Refused k)
-        by_result (refused r) e p =
-            answers_refused r (ap (λ (x : Result spec.Improved). and_then x (λ d. slice_for N ask d)) (sym same ∙ e)) (let z : k ≡ number_of r = cc in z)
-        by_result (done d) e p = absurd (let z : ◌≡◌ {A = ℕ} 0 1 = cc in omega arith)
+        by_result (Err r) e p =
+            answers_refused r (ap (λ (x : Result spec.Improved Refusal). and_then x (λ d. slice_for N ask d)) (sym same ∙ e)) (let z : k ≡ number_of r = cc in z)
+        by_result (Ok d) e p = absurd (let z : ◌≡◌ {A = ℕ} 0 1 = cc in omega arith)
 
     improve_done : {v : Visited} {kids : List ℕ} → Done v ≡ answer_of c → kids ≡ improved_tree c kids₀
         → ImprovedHeld N kids v × (from_tree N ask kids₀ ≡ slice_for N ask (improved_in kids v))
     unfolding from_tree
     improve_done {v} {kids} q t = by_result c refl q t
       where
-        by_result : (x : Result spec.Improved) → c ≡ x → Done v ≡ answer_of x → kids ≡ improved_tree x kids₀
+        by_result : (x : Result spec.Improved Refusal) → c ≡ x → Done v ≡ answer_of x → kids ≡ improved_tree x kids₀
             → ImprovedHeld N kids v × ((and_then (improve_for N ask kids₀) λ d. slice_for N ask d) ≡ slice_for N ask (improved_in kids v))
-        by_result (refused r) e p s = absurd (let z : ◌≡◌ {A = ℕ} 0 1 = cc in omega arith)
-        by_result (done d) e p s =
+        by_result (Err r) e p s = absurd (let z : ◌≡◌ {A = ℕ} 0 1 = cc in omega arith)
+        by_result (Ok d) e p s =
             let (h, g) = improved_held d (sym same ∙ e) s (let z : v ≡ counts_of d = cc in z) in
-            (h, ap (λ (x : Result spec.Improved). and_then x (λ y. slice_for N ask y)) (sym same ∙ e) ∙ ap (slice_for N ask) (sym g))
+            (h, ap (λ (x : Result spec.Improved Refusal). and_then x (λ y. slice_for N ask y)) (sym same ∙ e) ∙ ap (slice_for N ask) (sym g))
 
 -- the call of improvement, with the stated words and the given flags
 improve_same : (N : Network) (a : Asked) (kids flags : List ℕ) (words count : ℕ) → words ≡ improve_words 8 → count ≡ flag_count a
-    → improve_call N 8 4 none words (take count flags) kids ≡ improve_for N (ask_handed a flags) kids
+    → improve_call N 8 4 None words (take count flags) kids ≡ improve_for N (ask_handed a flags) kids
 improve_same N a kids flags words count e f =
-    ap (λ (w : ℕ). improve_call N 8 4 none w (take count flags) kids) e
-    ∙ ap (λ (l : List ℕ). improve_call N 8 4 none (improve_words 8) l kids) (ap (λ (n : ℕ). take n flags) f ∙ given_flags a flags)
+    ap (λ (w : ℕ). improve_call N 8 4 None w (take count flags) kids) e
+    ∙ ap (λ (l : List ℕ). improve_call N 8 4 None (improve_words 8) l kids) (ap (λ (n : ℕ). take n flags) f ∙ given_flags a flags)
 
 -- the tree in the list is improved, and the plan goes on from it; or it is refused
 pub record ImprovedTo (N : Network) (ask : Ask) (kids₀ kids : List ℕ) (r : Improved) : Type 0 where
@@ -203,8 +203,8 @@ pub record ImprovedTo (N : Network) (ask : Ask) (kids₀ kids : List ℕ) (r : I
   pub goes : {v : Visited} → r ≡ Done v → ImprovedHeld N kids v × (from_tree N ask kids₀ ≡ slice_for N ask (improved_in kids v))
 
 pub improved_to : (N : Network) (a : Asked) (kids₀ flags : List ℕ) (words count : ℕ) → accepted N ≡ true → words ≡ improve_words 8 → count ≡ flag_count a
-    → {kids : List ℕ} {r : Improved} → r ≡ answer_of (improve_call N 8 4 none words (take count flags) kids₀)
-    → kids ≡ improved_tree (improve_call N 8 4 none words (take count flags) kids₀) kids₀ → ImprovedTo N (ask_handed a flags) kids₀ kids r
+    → {kids : List ℕ} {r : Improved} → r ≡ answer_of (improve_call N 8 4 None words (take count flags) kids₀)
+    → kids ≡ improved_tree (improve_call N 8 4 None words (take count flags) kids₀) kids₀ → ImprovedTo N (ask_handed a flags) kids₀ kids r
 improved_to N a kids₀ flags words count ok e f q t =
     let few : leaf_count N ≤ 128 = ((accepted_means N).0 ok).few_leaves in
     let same = improve_same N a kids₀ flags words count e f in
@@ -224,33 +224,33 @@ greedy_same N words places h q =
     ap (λ (x : Check). checked (network_checks false N ++ (x ∷ [])) (greedy N)) e
 
 -- a given tree is improved as it is
-plan_given : (N : Network) (ask : Ask) (kids : List ℕ) → plan_of N (some kids) ask ≡ from_tree N ask kids
+plan_given : (N : Network) (ask : Ask) (kids : List ℕ) → plan_of N (Some kids) ask ≡ from_tree N ask kids
 unfolding plan_of from_tree
 plan_given N ask kids = refl
 
 module _ (N : Network) (ask : Ask) (kids₀ : List ℕ) (long : length kids₀ ≡ tree_places N) (words : ℕ) (h : plain_words ≤ words) where
   greedy_refused : {k : ℕ} {kids flags : List ℕ} → Planned.Refused k ≡ planned_of (greedy_call N words (length kids₀))
-      → Answers N (plan_of N none ask) kids flags (Refused k)
+      → Answers N (plan_of N None ask) kids flags (Refused k)
   unfolding plan_of
   greedy_refused {k} {kids} {flags} q = by_result (greedy_call N words (length kids₀)) (greedy_same N words (length kids₀) h (omega arith)) q
     where
-      by_result : (x : Result (List Pair)) → x ≡ greedy_call N plain_words (tree_places N) → Planned.Refused k ≡ planned_of x
-          → Answers N (and_then (tree_for N none) λ kids. and_then (improve_for N ask kids) λ d. slice_for N ask d) kids flags (Refused k)
-      by_result (refused r) e p = answers_refused r (rw (sym e)) (let z : k ≡ number_of r = cc in z)
-      by_result (done a) e p = absurd (let z : ◌≡◌ {A = ℕ} 0 1 = cc in omega arith)
+      by_result : (x : Result (List Pair) Refusal) → x ≡ greedy_call N plain_words (tree_places N) → Planned.Refused k ≡ planned_of x
+          → Answers N (and_then (tree_for N None) λ kids. and_then (improve_for N ask kids) λ d. slice_for N ask d) kids flags (Refused k)
+      by_result (Err r) e p = answers_refused r (rw (sym e)) (let z : k ≡ number_of r = cc in z)
+      by_result (Ok a) e p = absurd (let z : ◌≡◌ {A = ℕ} 0 1 = cc in omega arith)
 
   greedy_done : {kids : List ℕ} → Planned.Done ≡ planned_of (greedy_call N words (length kids₀)) → kids ≡ greedy_tree (greedy_call N words (length kids₀)) kids₀
-      → plan_of N none ask ≡ from_tree N ask kids
+      → plan_of N None ask ≡ from_tree N ask kids
   unfolding plan_of from_tree greedy_call
   greedy_done {kids} q t = by_result (greedy_call N words (length kids₀)) (greedy_same N words (length kids₀) h (omega arith)) q t
     where
-      by_result : (x : Result (List Pair)) → x ≡ greedy_call N plain_words (tree_places N) → Planned.Done ≡ planned_of x → kids ≡ greedy_tree x kids₀
-          → (and_then (tree_for N none) λ kids. and_then (improve_for N ask kids) λ d. slice_for N ask d) ≡ (and_then (improve_for N ask kids) λ d. slice_for N ask d)
-      by_result (refused r) e p s = absurd (let z : ◌≡◌ {A = ℕ} 0 1 = cc in omega arith)
-      by_result (done a) e p s =
+      by_result : (x : Result (List Pair) Refusal) → x ≡ greedy_call N plain_words (tree_places N) → Planned.Done ≡ planned_of x → kids ≡ greedy_tree x kids₀
+          → (and_then (tree_for N None) λ kids. and_then (improve_for N ask kids) λ d. slice_for N ask d) ≡ (and_then (improve_for N ask kids) λ d. slice_for N ask d)
+      by_result (Err r) e p s = absurd (let z : ◌≡◌ {A = ℕ} 0 1 = cc in omega arith)
+      by_result (Ok a) e p s =
           let (_, g) = checked_done (greedy_checks N plain_words (tree_places N)) (greedy N) a (sym e) in
           let k : kids ≡ flat_of a = s ∙ over_tree (leaf_count N) kids₀ a (omega arith) (greedy_valid N a g) in
-          ap (λ (x : Result (List Pair)). and_then (and_then x (λ b. done (flat_of b))) (λ kids. and_then (improve_for N ask kids) (λ d. slice_for N ask d))) (sym e)
+          ap (λ (x : Result (List Pair) Refusal). and_then (and_then x (λ b. Ok (flat_of b))) (λ kids. and_then (improve_for N ask kids) (λ d. slice_for N ask d))) (sym e)
           ∙ ap (λ (l : List ℕ). and_then (improve_for N ask l) (λ d. slice_for N ask d)) (sym k)
 
 -- the tree to improve is in the list, and the plan goes on from it; or it is refused
@@ -258,7 +258,7 @@ pub record Started (N : Network) (given : Option (List ℕ)) (kids : List ℕ) (
   pub refuses : {k : ℕ} → r ≡ Planned.Refused k → (ask : Ask) (flags : List ℕ) → Answers N (plan_of N given ask) kids flags (Refused k)
   pub goes : r ≡ Planned.Done → (ask : Ask) → plan_of N given ask ≡ from_tree N ask kids
 
-pub started_given : (N : Network) (kids : List ℕ) → Started N (some kids) kids Planned.Done
+pub started_given : (N : Network) (kids : List ℕ) → Started N (Some kids) kids Planned.Done
 started_given N kids =
     record {
       refuses = λ e ask flags. absurd (let z : ◌≡◌ {A = ℕ} 0 1 = cc in omega arith);
@@ -266,7 +266,7 @@ started_given N kids =
     }
 
 pub started_greedy : (N : Network) (kids₀ : List ℕ) (words : ℕ) → length kids₀ ≡ tree_places N → plain_words ≤ words → {kids : List ℕ} {r : Planned}
-    → r ≡ planned_of (greedy_call N words (length kids₀)) → kids ≡ greedy_tree (greedy_call N words (length kids₀)) kids₀ → Started N none kids r
+    → r ≡ planned_of (greedy_call N words (length kids₀)) → kids ≡ greedy_tree (greedy_call N words (length kids₀)) kids₀ → Started N None kids r
 started_greedy N kids₀ words long h q t =
     record {
       refuses = λ e ask flags. greedy_refused N ask kids₀ long words h (sym e ∙ q);

@@ -1,10 +1,10 @@
 -- From a plan's answer to what is written of it. Assumes nothing.
-use Rattle.std.specs.Prelude.{◌≡◌, refl, true, List, ℕ, ◌≤◌, ◌<◌, length, get_or, take}
+use Rattle.std.specs.Prelude.{◌≡◌, refl, true, List, ℕ, ◌≤◌, ◌<◌, length, get_or, take, Option, Some, Result, Err, Ok}
 use Rattle.std.proofs.Common.{sym, ap, ◌∙◌, subst, arith, get_or-take, length-take-le}
-use Rattle.std.proofs.Math.Option.{Option, some}
+use Rattle.spec.specs.declared.Refusal.{Refusal}
 use Rattle.spec.specs.Network.{Network, leaf_count, index_count, accepted}
 use Rattle.spec.specs.Tree.{Pair, valid, pairs_of, flat_of}
-use Rattle.spec.specs.Refusal.{number_of, Result, refused, done}
+use Rattle.spec.specs.Refusal.{number_of}
 use Rattle.spec.specs.Slicing.{Plan}
 use Rattle.spec.specs.File.{Ask}
 use Rattle.spec.specs.FileClaims.{LawfulTree}
@@ -23,14 +23,14 @@ module _ (N : Network) (given : Option (List ℕ)) (ask : Ask) (kids flags : Lis
   pub refusal_text : {k : ℕ} → Answers N (plan_of N given ask) kids flags (Refused k) → refused_line k ≡ output_of (program N given ask)
   refusal_text {k} a = by_result (plan_of N given ask) refl a.answer
     where
-      by_result : (x : Result Plan) → plan_of N given ask ≡ x → Refused k ≡ plan_answer x → refused_line k ≡ output_of (program N given ask)
-      by_result (refused r) e q = let z : k ≡ number_of r = cc in rw e (ap refused_line z)
-      by_result (done p) e q = absurd (let z : ◌≡◌ {A = ℕ} 0 1 = cc in omega arith)
+      by_result : (x : Result Plan Refusal) → plan_of N given ask ≡ x → Refused k ≡ plan_answer x → refused_line k ≡ output_of (program N given ask)
+      by_result (Err r) e q = let z : k ≡ number_of r = cc in rw e (ap refused_line z)
+      by_result (Ok p) e q = absurd (let z : ◌≡◌ {A = ℕ} 0 1 = cc in omega arith)
 
   -- the plan behind counts
   record Behind (v : Visited) : Type 0 where
     plan : Plan
-    is : plan_of N given ask ≡ done plan
+    is : plan_of N given ask ≡ Ok plan
     rebuilt : plan.rebuilt ≡ v.rebuilt
     tried : plan.tried ≡ v.tried
     held : PlanHeld N plan kids flags
@@ -38,9 +38,9 @@ module _ (N : Network) (given : Option (List ℕ)) (ask : Ask) (kids flags : Lis
   behind : {v : Visited} → Answers N (plan_of N given ask) kids flags (Done v) → Behind v
   behind {v} a = by_result (plan_of N given ask) refl a.answer
     where
-      by_result : (x : Result Plan) → plan_of N given ask ≡ x → Done v ≡ plan_answer x → Behind v
-      by_result (refused r) e q = absurd (let z : ◌≡◌ {A = ℕ} 0 1 = cc in omega arith)
-      by_result (done p) e q =
+      by_result : (x : Result Plan Refusal) → plan_of N given ask ≡ x → Done v ≡ plan_answer x → Behind v
+      by_result (Err r) e q = absurd (let z : ◌≡◌ {A = ℕ} 0 1 = cc in omega arith)
+      by_result (Ok p) e q =
           let z : v ≡ record { rebuilt = p.rebuilt; tried = p.tried } = cc in
           record { plan = p; is = e; rebuilt = sym (ap (λ (u : Visited). u.rebuilt) z); tried = sym (ap (λ (u : Visited). u.tried) z); held = a.held p e }
 
@@ -60,7 +60,7 @@ module _ (N : Network) (given : Option (List ℕ)) (ask : Ask) (kids flags : Lis
         subst (λ (l : List Pair). valid (leaf_count N) l ≡ true) (sym (pairs_flat p.tree)) (plan_right N given ask p b.is).is_valid in
         record {
           ok = ok;
-          lawful = subst (λ (l : List ℕ). LawfulTree N (some l)) (sym b.held.tree) (flat_even p.tree, fine);
+          lawful = subst (λ (l : List ℕ). LawfulTree N (Some l)) (sym b.held.tree) (flat_even p.tree, fine);
           low = λ j h. omega (arith, cut_at j h, b.held.flagged j h, cond_most (p.flag j) 1);
           room = length-take-le m flags (omega arith) ∙ same;
         }

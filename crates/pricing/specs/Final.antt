@@ -7,6 +7,7 @@ use Rattle.spec.specs.Layout.{firsts, network_of}
 use Rattle.spec.specs.Network.{Network, leaf_count, index_count, weight}
 use Rattle.spec.specs.Tree.{Pair, pairs_of, valid}
 use Rattle.spec.specs.Price.{list_at, listing, work, up_to, widest, slice_bits, price_of}
+use Rattle.spec.specs.declared.Total.{Total}
 use Rattle.spec.specs.Calls.{flag_at, node_places}
 use Rattle.laws.specs.Integers.{ℤ_semiring}
 use Rattle.spec.specs.RunClaims.{RunsToDirectSum}
@@ -20,7 +21,6 @@ use Rattle.nodesets.specs.Passes.{nodes, with_sets}
 use Rattle.nodesets.specs.Sets.{held-with_sets}
 use Rattle.nodesets.specs.Lists.{ordered_steps, SetsAre}
 use Rattle.nodebits.specs.Bits.{Effective, Known, size_of, node_work}
-use Rattle.pricing.specs.declared.Total.{Total}
 use Rattle.pricing.specs.declared.Widest.{Widest}
 use Rattle.pricing.specs.declared.Prices.{Prices}
 use Rattle.pricing.specs.Answers.{total_of, widest_of, widest_in, prices_of}

@@ -3,6 +3,7 @@ use Rattle.std.specs.Prelude.{not, cond, ◌≡◌, refl, List, [], ◌∷◌, �
 use Rattle.std.proofs.Common.{sym, ◌∙◌, ap, ap₂, arith, pow_mono, eq-eqb, ne_eqb, lt-ltb, le-ltb}
 use Rattle.std.proofs.Math.Decide.{dec_le}
 use Rattle.std.proofs.Math.ListN.{get_or-eq_default}
+use Rattle.spec.specs.declared.Total.TheVariants.{Exact, Beyond}
 use Rattle.spec.specs.Lists.{from, range, sum_of}
 use Rattle.spec.specs.Layout.{firsts}
 use Rattle.spec.specs.Price.{up_to, largest}
@@ -10,7 +11,6 @@ use Rattle.laws.specs.ListLaws.{sum_append}
 use Rattle.laws.specs.LayoutLaws.{firsts_length, firsts_at, firsts_none, firsts_more}
 use Rattle.bits.specs.Bit.{one_shl}
 use Rattle.slots.specs.Weigh.{Light}
-use Rattle.pricing.specs.declared.Total.TheVariants.{Exact, Beyond}
 use Rattle.pricing.specs.declared.Widest.TheVariants.{NoLeaves, Bits}
 use Rattle.pricing.specs.Answers.{total_of, widest_of, widest_in}
 

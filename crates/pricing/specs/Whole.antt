@@ -1,10 +1,9 @@
 -- From the nodes' sets and effective weights to the price list and the answer. Assumes nothing.
-use Rattle.std.specs.Prelude.{Bool, cond, ◌≡◌, eqb, length}
+use Rattle.std.specs.Prelude.{Bool, cond, ◌≡◌, eqb, length, None, Some}
 use Rattle.std.proofs.Math.Bool.{true}
 use Rattle.std.proofs.Math.Path.{refl, sym, ap, ap₂}
 use Rattle.std.proofs.Common.{◌∙◌, subst, arith, le-ltb, eq-eqb, ne_eqb}
 use mathlib.Core.List.{List, [], ◌∷◌, map, map-append, map-map}
-use Rattle.std.proofs.Math.Option.{none, some}
 use Prim.Native.Nat.{ℕ, ◌+◌, ◌*◌, ◌^◌, ◌≤◌, ◌<◌, max}
 use Rattle.std.proofs.Math.Decide.{ℕ_discrete}
 use Rattle.std.proofs.Math.ListN.{get_or}
@@ -166,7 +165,7 @@ module _ {N : Network} {x W : ℕ} {kids order sets flags effective : List ℕ} 
           ∙ ap (λ (l : List Step). largest (map (λ s. s.size_bits) l)) (sym r.listed)
 
   pub widest_is : widest_in (firsts m sizes) ≡ widest N flag (listing N flag a)
-  widest_is = ap₂ (λ b y. cond b none (some y)) no_nodes widest_split
+  widest_is = ap₂ (λ b y. cond b None (Some y)) no_nodes widest_split
     where
       count : length (firsts m sizes) ≡ m
       count = firsts_length m sizes

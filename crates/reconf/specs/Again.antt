@@ -1,6 +1,5 @@
 -- A visit and the pricing after it: the price list of the tree that then stands, whose total is not beyond. Assumes nothing.
-use Rattle.std.specs.Prelude.{Bool, false, List, ◌≡◌, ℕ, ◌+◌, ◌-◌, ◌^◌, ◌≤◌, ◌<◌}
-use Rattle.std.proofs.Math.Option.{Option}
+use Rattle.std.specs.Prelude.{Bool, false, List, ◌≡◌, ℕ, ◌+◌, ◌-◌, ◌^◌, ◌≤◌, ◌<◌, Option}
 use Rattle.std.proofs.Common.{sym, ap, subst, arith}
 use Rattle.spec.specs.Network.{Network, leaf_count}
 use Rattle.spec.specs.Layout.{network_of}

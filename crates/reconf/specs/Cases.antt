@@ -1,7 +1,6 @@
 -- A visit of the definition, case by case: the node is left, nothing cheaper is found, or the region is rebuilt. Assumes nothing.
-use Rattle.std.specs.Prelude.{Bool, true, ◌&&◌, ◌||◌, List, map, ◌≡◌, ℕ, ◌-◌, ◌≤◌, ◌<◌, ltb, length}
+use Rattle.std.specs.Prelude.{Bool, true, ◌&&◌, ◌||◌, List, map, ◌≡◌, ℕ, ◌-◌, ◌≤◌, ◌<◌, ltb, length, Option}
 use Rattle.std.proofs.Math.Bool.{false}
-use Rattle.std.proofs.Math.Option.{Option}
 use Rattle.std.proofs.Common.{sym, ◌∙◌}
 use Rattle.std.proofs.Math.Path.{ap}
 use borrow.Author.Tests.{lt-ltb, le-ltb}

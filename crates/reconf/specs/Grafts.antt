@@ -1,6 +1,5 @@
 -- A region rebuilt in the array: it then has the tree with the region grafted, which is valid again. Assumes nothing.
-use Rattle.std.specs.Prelude.{Bool, cond, List, [], ◌∷◌, map, ◌≡◌, refl, ℕ, suc, ◌+◌, ◌-◌, ◌≤◌, ◌<◌, eqb, length, get_or}
-use Rattle.std.proofs.Math.Option.{none}
+use Rattle.std.specs.Prelude.{Bool, cond, List, [], ◌∷◌, map, ◌≡◌, refl, ℕ, suc, ◌+◌, ◌-◌, ◌≤◌, ◌<◌, eqb, length, get_or, None}
 use Rattle.std.proofs.Common.{ap, ap₂, ◌∙◌, lt_of_not-le, arith, eqb-true}
 use Rattle.std.proofs.lemmas.List.{length-map}
 use mathlib.Mathlib.Data.Bool.Basic.{eq-false_of_not-eq-true}
@@ -89,7 +88,7 @@ module _ (N : Network) (flag : ℕ → Bool) (n : ℕ) (a : List Pair) (t : Tree
     grafted = graft v new.tree t
 
     kept_part : Kept spot.s new.tree
-    kept_part = build_kept N flag 0 none spot.s fr front x every two once
+    kept_part = build_kept N flag 0 None spot.s fr front x every two once
 
     swapped : Swapped spot.s new.tree t grafted
     swapped = graft_swapped v new.tree t spot.s (valid_once n a t valid v) spot.found

@@ -1,7 +1,6 @@
 -- From what the calls of a visit answer to its promise. Assumes nothing.
-use Rattle.std.specs.Prelude.{Bool, true, false, ◌&&◌, List, map, ◌≡◌, refl, ℕ, zero, suc, ◌+◌, ◌-◌, ◌*◌, ◌^◌, ◌≤◌, ◌<◌, ltb, get_or, set}
+use Rattle.std.specs.Prelude.{Bool, true, false, ◌&&◌, List, map, ◌≡◌, refl, ℕ, zero, suc, ◌+◌, ◌-◌, ◌*◌, ◌^◌, ◌≤◌, ◌<◌, ltb, get_or, set, None, Some}
 use Rattle.std.proofs.Math.Bool.{cond}
-use Rattle.std.proofs.Math.Option.{none, some}
 use Rattle.std.proofs.Math.Path.{sym, ap, subst}
 use Rattle.std.proofs.Common.{◌∙◌, arith, pow_mono, lt-ltb, ltb-true}
 use Rattle.std.proofs.Math.ListN.{length}
@@ -154,9 +153,9 @@ module _ {N : Network} {x : ℕ} {weights flags kids sets works : List ℕ} (h :
           abbrev region : Region
           region = region_of (split_at words (2 ^ m)) (2 ^ m - 1)
 
-          found_some : r ≡ true → searched N flag (limit_of limit) s front_at ≡ some (record { cost = cost; tree = region })
+          found_some : r ≡ true → searched N flag (limit_of limit) s front_at ≡ Some (record { cost = cost; tree = region })
           unfolding found_at
-          found_some z = sym found_is ∙ ap (λ b. cond b (some (record { cost = cost; tree = region })) none) (and_left (ltb cost infinite) _ (sym er ∙ z))
+          found_some z = sym found_is ∙ ap (λ b. cond b (Some (record { cost = cost; tree = region })) None) (and_left (ltb cost infinite) _ (sym er ∙ z))
 
           module _ (z : r ≡ true) where
             once : (f : ℕ → ℕ) → over f region ≡ sum_of f (range (length ms))

@@ -1,7 +1,7 @@
 -- What the lent lists say of a node's subtree and of its frontier's members: children, work bits, lists of indices. Assumes nothing.
-use Rattle.std.specs.Prelude.{Bool, true, ◌≡◌, ℕ, zero, suc, ◌+◌, ◌-◌, ◌≤◌, ◌<◌, length}
+use Rattle.std.specs.Prelude.{Bool, true, ◌≡◌, ℕ, zero, suc, ◌+◌, ◌-◌, ◌≤◌, ◌<◌, length, Option, None, Some}
 use mathlib.Core.List.{List, [], ◌∷◌}
-use Rattle.std.proofs.Math.Option.{Option, none, some, some-injective}
+use Rattle.std.proofs.lemmas.Option.{same_Some}
 use Rattle.std.proofs.Common.{sym, ◌∙◌, arith, le-ltb}
 use Rattle.std.proofs.Math.Path.{ap, ap₂}
 use Rattle.spec.specs.Lists.{memb, range}
@@ -37,13 +37,13 @@ module _ (P : Tree → Type 0) (left : (v : ℕ) (l r : Tree) → P (node v l r)
       all_append P (swap_remove p fr.members) (l ∷ r ∷ []) (all_swap P p fr.members h) (left v l r d, (right v l r d, tt))
 
   at_all : (fr : Front) (o : Option MostWork) → All P fr.members → All P (open_at fr o).members
-  at_all fr none h = h
-  at_all fr (some s) h = node_all fr s.place (member fr.members s.place) (member_all fr.members h s.place) h
+  at_all fr None h = h
+  at_all fr (Some s) h = node_all fr s.place (member fr.members s.place) (member_all fr.members h s.place) h
 
   expand_all : (N : Network) (flag : ℕ → Bool) (times : ℕ) (fr : Front) → All P fr.members → All P (expand N flag times fr).members
   expand_all N flag zero fr h = h
   expand_all N flag (suc times) fr h =
-      expand_all N flag times (open_at fr (most_work N flag none 0 fr.members)) (at_all fr (most_work N flag none 0 fr.members) h)
+      expand_all N flag times (open_at fr (most_work N flag None 0 fr.members)) (at_all fr (most_work N flag None 0 fr.members) h)
 
   pub frontier_has : (N : Network) (flag : ℕ → Bool) (k : ℕ) (t : Tree) → P t → (p : ℕ) → P (member (frontier N flag k t).members p)
   unfolding frontier
@@ -91,7 +91,7 @@ module _ {N : Network} {flag : ℕ → Bool} {kids sets sizes works : List ℕ} 
     reads (node v l r) d p =
         let b : v - n < length a = got_within a (v - n) _ d.1 in
         let e : ◌≡◌ {A = Pair} (record { left = left_of kids n v; right = right_of kids n v }) (record { left = number l; right = number r }) =
-        some-injective _ _ (sym (pair_at kids (v - n) b) ∙ d.1) in (
+        same_Some _ _ (sym (pair_at kids (v - n) b) ∙ d.1) in (
           d.0,
           ap (λ (c : Pair). c.left) e,
           ap (λ (c : Pair). c.right) e,

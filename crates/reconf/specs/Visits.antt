@@ -1,6 +1,5 @@
 -- What one visit of a node promises. Definitions only. Assumes nothing.
-use Rattle.std.specs.Prelude.{Bool, false, List, ◌≡◌, ℕ, ◌^◌, ◌<◌, get_or}
-use Rattle.std.proofs.Math.Option.{Option}
+use Rattle.std.specs.Prelude.{Bool, false, List, ◌≡◌, ℕ, ◌^◌, ◌<◌, get_or, Option}
 use Rattle.spec.specs.Network.{Network, leaf_count}
 use Rattle.spec.specs.Calls.{wrong_tree}
 use Rattle.spec.specs.Improve.{visit}

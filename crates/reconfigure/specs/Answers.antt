@@ -1,7 +1,7 @@
 -- What improvement's entry answers, number and values of each case, and what it leaves in each lent list. Assumes nothing.
-use Rattle.std.specs.Prelude.{List, [], ◌∷◌, ◌≡◌, ℕ, length}
-use Rattle.std.proofs.Math.Option.{Option, none, some}
-use Rattle.spec.specs.Refusal.{number_of, Result, refused, done, checked}
+use Rattle.std.specs.Prelude.{List, [], ◌∷◌, ◌≡◌, ℕ, length, Option, None, Some, Result, Err, Ok}
+use Rattle.spec.specs.declared.Refusal.{Refusal}
+use Rattle.spec.specs.Refusal.{number_of, checked}
 use Rattle.spec.specs.Network.{Network}
 use Rattle.spec.specs.Tree.{pairs_of}
 use Rattle.spec.specs.Improve as spec
@@ -15,19 +15,19 @@ use Rattle.reconfigure.specs.declared.Improved.TheVariants.{Refused, Done}
 
 -- a limit of whole bits, or none
 abbrev pub limit_from : Limit → Option ℕ
-limit_from Unlimited = none
-limit_from (Bits x) = some x
+limit_from Unlimited = None
+limit_from (Bits x) = Some x
 
 abbrev pub counts_of : spec.Improved → Visited
 counts_of d = record { rebuilt = d.rebuilt; tried = d.tried }
 
 -- refused by number, or the counts
-abbrev pub answer_of : Result spec.Improved → Improved
-answer_of (refused r) = Refused (number_of r)
-answer_of (done d) = Done (counts_of d)
+abbrev pub answer_of : Result spec.Improved Refusal → Improved
+answer_of (Err r) = Refused (number_of r)
+answer_of (Ok d) = Done (counts_of d)
 
 -- the answer and the tree follow the call c
-pub record Answered (c : Result spec.Improved) (kids₀ kids : List ℕ) (r : Improved) : Type 0 where
+pub record Answered (c : Result spec.Improved Refusal) (kids₀ kids : List ℕ) (r : Improved) : Type 0 where
   pub answer : r ≡ answer_of c
   pub tree : kids ≡ improved_tree c kids₀
 
@@ -40,12 +40,12 @@ pub record Reconfigures (N : Network) (k passes : ℕ) (limit : Option ℕ) (fla
 
 module _ (N : Network) (k passes : ℕ) (limit : Option ℕ) (flags kids : List ℕ) where
   -- the network is accepted, the count of passes too, and the workspace is long enough
-  unfoldable pub rest_call : Result spec.Improved
+  unfoldable pub rest_call : Result spec.Improved Refusal
   rest_call =
       checked (tree_check N kids ∷ flags_check N flags ∷ beyond_check N (flag_at flags) (pairs_of kids) ∷ dangling_check N ∷ [])
-      (done (improve N k passes limit (flag_at flags) (pairs_of kids)))
+      (Ok (improve N k passes limit (flag_at flags) (pairs_of kids)))
 
   -- the tree is valid too, and the flags are right
-  unfoldable pub last_call : Result spec.Improved
+  unfoldable pub last_call : Result spec.Improved Refusal
   last_call =
-      checked (beyond_check N (flag_at flags) (pairs_of kids) ∷ dangling_check N ∷ []) (done (improve N k passes limit (flag_at flags) (pairs_of kids)))
+      checked (beyond_check N (flag_at flags) (pairs_of kids) ∷ dangling_check N ∷ []) (Ok (improve N k passes limit (flag_at flags) (pairs_of kids)))

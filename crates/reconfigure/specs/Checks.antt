@@ -1,12 +1,13 @@
 -- The checks of improvement's call, in their order. Assumes nothing.
-use Rattle.std.specs.Prelude.{Bool, false, ◌≡◌, refl, ℕ, ◌+◌, ◌*◌, ◌^◌, ◌≤◌, ◌<◌, ltb, length}
+use Rattle.std.specs.Prelude.{Bool, false, ◌≡◌, refl, ℕ, ◌+◌, ◌*◌, ◌^◌, ◌≤◌, ◌<◌, ltb, length, Option, None, Some, Result, Err, Ok}
 use Rattle.std.proofs.Math.Bool.{true}
 use mathlib.Core.List.{List, [], ◌∷◌, ◌++◌}
-use Rattle.std.proofs.Math.Option.{Option, none, some}
+use Rattle.spec.specs.declared.Refusal.{Refusal}
+use Rattle.spec.specs.declared.Refusal.TheVariants.{TooLarge, InvalidTree, InvalidFlags, TotalBeyond, DanglingIndex}
 use Rattle.std.proofs.Common.{sym, ◌∙◌, subst, arith, lt-ltb, le-ltb}
 use Rattle.std.proofs.Math.Path.{ap}
 use Rattle.spec.specs.Memory.{cleared}
-use Rattle.spec.specs.Refusal.{Refusal, too_large, invalid_tree, invalid_flags, total_beyond, dangling_index, number_of, code_of, Check, check, Result, refused, done, checked}
+use Rattle.spec.specs.Refusal.{number_of, code_of, Check, check, checked}
 use Rattle.spec.specs.Network.{Network, leaf_count, index_count, network_checks, refusal_of}
 use Rattle.spec.specs.Tree.{Tree, Pair, tree_at, root, pairs_of}
 use Rattle.spec.specs.Improve as spec
@@ -27,8 +28,8 @@ clamped_again k = omega arith
 
 at_clamped : (N : Network) (k j passes : ℕ) (limit : Option ℕ) (flag : ℕ → Bool) (a : List Pair) (t : Option Tree) → clamped j ≡ clamped k
     → improve_at N j passes limit flag a t ≡ improve_at N k passes limit flag a t
-at_clamped N k j passes limit flag a none e = refl
-at_clamped N k j passes limit flag a (some t) e = rw e
+at_clamped N k j passes limit flag a None e = refl
+at_clamped N k j passes limit flag a (Some t) e = rw e
 
 pub improve-clamped : (N : Network) (k passes : ℕ) (limit : Option ℕ) (flag : ℕ → Bool) (a : List Pair)
     → improve N (clamped k) passes limit flag a ≡ improve N k passes limit flag a
@@ -47,21 +48,21 @@ as_long l e h = subst (λ (z : ℕ). z ≤ l) e h
 
 -- ---- the limit ----
 
-pub no_limit : limit_of 65536 ≡ none
+pub no_limit : limit_of 65536 ≡ None
 unfolding limit_of
 no_limit = refl
 
-pub some_limit : (x : ℕ) → x < 65536 → limit_of x ≡ some x
+pub some_limit : (x : ℕ) → x < 65536 → limit_of x ≡ Some x
 unfolding limit_of
 some_limit x h = rw (lt-ltb x 65536 h)
 
 -- ---- refused or not, check by check ----
 
 module _ (N : Network) (k passes : ℕ) (limit : Option ℕ) (flags kids : List ℕ) where
-  abbrev result : Result spec.Improved
-  result = done (improve N k passes limit (flag_at flags) (pairs_of kids))
+  abbrev result : Result spec.Improved Refusal
+  result = Ok (improve N k passes limit (flag_at flags) (pairs_of kids))
 
-  pub rest_tree : (n : ℕ) → leaf_count N ≡ n → wrong_tree n kids ≡ true → rest_call N k passes limit flags kids ≡ refused invalid_tree
+  pub rest_tree : (n : ℕ) → leaf_count N ≡ n → wrong_tree n kids ≡ true → rest_call N k passes limit flags kids ≡ Err InvalidTree
   unfolding rest_call
   rest_tree n q h = holds_first (tree_check N kids) (flags_check N flags ∷ beyond_check N (flag_at flags) (pairs_of kids) ∷ dangling_check N ∷ []) result (rw q h)
 
@@ -70,7 +71,7 @@ module _ (N : Network) (k passes : ℕ) (limit : Option ℕ) (flags kids : List 
     unfolding rest_call
     past_tree = passes_first (tree_check N kids) (flags_check N flags ∷ beyond_check N (flag_at flags) (pairs_of kids) ∷ dangling_check N ∷ []) result (rw qn right)
 
-    pub rest_flags : wrong_flags m flags ≡ true → rest_call N k passes limit flags kids ≡ refused invalid_flags
+    pub rest_flags : wrong_flags m flags ≡ true → rest_call N k passes limit flags kids ≡ Err InvalidFlags
     unfolding wrong_flags
     rest_flags h = past_tree ∙ holds_first (flags_check N flags) (beyond_check N (flag_at flags) (pairs_of kids) ∷ dangling_check N ∷ []) result (rw qm h)
 
@@ -78,12 +79,12 @@ module _ (N : Network) (k passes : ℕ) (limit : Option ℕ) (flags kids : List 
     unfolding wrong_flags last_call
     rest_last h = past_tree ∙ passes_first (flags_check N flags) (beyond_check N (flag_at flags) (pairs_of kids) ∷ dangling_check N ∷ []) result (rw qm h)
 
-  pub last_beyond : total_is_beyond N (flag_at flags) (pairs_of kids) ≡ true → last_call N k passes limit flags kids ≡ refused total_beyond
+  pub last_beyond : total_is_beyond N (flag_at flags) (pairs_of kids) ≡ true → last_call N k passes limit flags kids ≡ Err TotalBeyond
   unfolding last_call
   last_beyond h = holds_first (beyond_check N (flag_at flags) (pairs_of kids)) (dangling_check N ∷ []) result h
 
   module _ (b : total_is_beyond N (flag_at flags) (pairs_of kids) ≡ false) where
-    pub last_dangling : dangling N ≡ true → last_call N k passes limit flags kids ≡ refused dangling_index
+    pub last_dangling : dangling N ≡ true → last_call N k passes limit flags kids ≡ Err DanglingIndex
     unfolding last_call
     last_dangling h =
         passes_first (beyond_check N (flag_at flags) (pairs_of kids)) (dangling_check N ∷ []) result b ∙ holds_first (dangling_check N) [] result h
@@ -96,7 +97,7 @@ module _ (N : Network) (k passes : ℕ) (limit : Option ℕ) (flags kids : List 
   -- ---- 3 to 7 ----
 
   module _ (words : ℕ) where
-    abbrev call : Result spec.Improved
+    abbrev call : Result spec.Improved Refusal
     call = improve_call N k passes limit words flags kids
 
     abbrev last : List Check
@@ -109,13 +110,13 @@ module _ (N : Network) (k passes : ℕ) (limit : Option ℕ) (flags kids : List 
     unfolding improve_call
     call_large h =
         record {
-          refusal = too_large;
+          refusal = TooLarge;
           is = holds_large (ltb 255 passes) (lt-ltb 255 passes h);
           number = refl;
           quiet = refl;
         }
       where
-        holds_large : (b : Bool) → b ≡ true → checked (network_checks b N ++ later) result ≡ refused too_large
+        holds_large : (b : Bool) → b ≡ true → checked (network_checks b N ++ later) result ≡ Err TooLarge
         holds_large b e = rw e
 
     module _ (few : passes ≤ 255) where
@@ -126,7 +127,7 @@ module _ (N : Network) (k passes : ℕ) (limit : Option ℕ) (flags kids : List 
       pub call_refused : (c : ℕ) → c ≡ code_of (refusal_of N) → (c ≡ 0 → ⊥) → Untouched c call
       call_refused c e z = subst (Untouched c) (sym few_passes) (by_network N later result c e z)
 
-      module _ (ok : refusal_of N ≡ none) where
+      module _ (ok : refusal_of N ≡ None) where
         past_checks : call ≡ checked later result
         past_checks = few_passes ∙ past_network N later result ok
 
@@ -142,14 +143,14 @@ module _ (N : Network) (k passes : ℕ) (limit : Option ℕ) (flags kids : List 
 
 -- ---- what an answer leaves ----
 
-pub answered_refused : {c : Result spec.Improved} {kids : List ℕ} (r : Refusal) (x : ℕ) → c ≡ refused r → x ≡ number_of r → Answered c kids kids (Refused x)
+pub answered_refused : {c : Result spec.Improved Refusal} {kids : List ℕ} (r : Refusal) (x : ℕ) → c ≡ Err r → x ≡ number_of r → Answered c kids kids (Refused x)
 answered_refused r x e q = record { answer = rw (e, q); tree = rw e }
 
-pub answered_as : {c d : Result spec.Improved} {kids₀ kids : List ℕ} {r : Improved} → c ≡ d → Answered d kids₀ kids r → Answered c kids₀ kids r
-answered_as {kids₀ = kids₀} {kids = kids} {r = r} e a = subst (λ (x : Result spec.Improved). Answered x kids₀ kids r) (sym e) a
+pub answered_as : {c d : Result spec.Improved Refusal} {kids₀ kids : List ℕ} {r : Improved} → c ≡ d → Answered d kids₀ kids r → Answered c kids₀ kids r
+answered_as {kids₀ = kids₀} {kids = kids} {r = r} e a = subst (λ (x : Result spec.Improved Refusal). Answered x kids₀ kids r) (sym e) a
 
 module _ (N : Network) (k passes : ℕ) (limit : Option ℕ) (flags kids₀ ws₀ : List ℕ) where
-  abbrev whole : Result spec.Improved
+  abbrev whole : Result spec.Improved Refusal
   whole = improve_call N k passes limit (length ws₀) flags kids₀
 
   -- a call that is refused with nothing touched
@@ -161,7 +162,7 @@ module _ (N : Network) (k passes : ℕ) (limit : Option ℕ) (flags kids₀ ws�
       }
 
   after_rest : (x y z w : Bool) (p : spec.Improved) (stated : ℕ) (ws : List ℕ)
-      → cleared ws stated ≡ workspace_after stated (checked (check x invalid_tree ∷ check y invalid_flags ∷ check z total_beyond ∷ check w dangling_index ∷ []) (done p)) ws
+      → cleared ws stated ≡ workspace_after stated (checked (check x InvalidTree ∷ check y InvalidFlags ∷ check z TotalBeyond ∷ check w DanglingIndex ∷ []) (Ok p)) ws
   after_rest true y z w p stated ws = refl
   after_rest false true z w p stated ws = refl
   after_rest false false true w p stated ws = refl
@@ -179,7 +180,7 @@ module _ (N : Network) (k passes : ℕ) (limit : Option ℕ) (flags kids₀ ws�
             q
             ∙ after_rest (tree_check N kids₀).holds (flags_check N flags).holds (beyond_check N (flag_at flags) (pairs_of kids₀)).holds (dangling_check N).holds
             (improve N k passes limit (flag_at flags) (pairs_of kids₀)) (improve_words k) ws₀
-            ∙ ap (λ (c : Result spec.Improved). workspace_after (improve_words k) c ws₀) (sym e);
+            ∙ ap (λ (c : Result spec.Improved Refusal). workspace_after (improve_words k) c ws₀) (sym e);
       }
 
   -- by the clamped k
@@ -187,7 +188,7 @@ module _ (N : Network) (k passes : ℕ) (limit : Option ℕ) (flags kids₀ ws�
   unfolding rest_call
   rest_clamped =
       ap
-      (λ (d : spec.Improved). checked (tree_check N kids₀ ∷ flags_check N flags ∷ beyond_check N (flag_at flags) (pairs_of kids₀) ∷ dangling_check N ∷ []) (done d))
+      (λ (d : spec.Improved). checked (tree_check N kids₀ ∷ flags_check N flags ∷ beyond_check N (flag_at flags) (pairs_of kids₀) ∷ dangling_check N ∷ []) (Ok d))
       (improve-clamped N k passes limit (flag_at flags) (pairs_of kids₀))
 
   pub rest_same : (size : ℕ) (lim : Option ℕ) → size ≡ clamped k → lim ≡ limit

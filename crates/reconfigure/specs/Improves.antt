@@ -1,12 +1,12 @@
 -- What the passes leave is what the definition answers. Assumes nothing.
-use Rattle.std.specs.Prelude.{Bool, true, false, not, ◌≡◌, refl, ℕ, zero, suc, ◌+◌, ◌-◌, ◌*◌, ◌^◌, ◌≤◌, ◌<◌, length}
+use Rattle.std.specs.Prelude.{Bool, true, false, not, ◌≡◌, refl, ℕ, zero, suc, ◌+◌, ◌-◌, ◌*◌, ◌^◌, ◌≤◌, ◌<◌, length, Option, None, Some, Result, Ok}
 use mathlib.Core.List.{List, [], ◌∷◌}
-use Rattle.std.proofs.Math.Option.{Option, none, some}
+use Rattle.spec.specs.declared.Total.TheVariants.{Exact, Beyond}
+use Rattle.spec.specs.declared.Refusal.{Refusal}
 use Rattle.std.proofs.Math.Path.{sym, ap}
 use Rattle.std.proofs.Common.{◌∙◌, subst, arith, eqb-true, le-ltb}
 use Rattle.std.proofs.Math.Decide.{dec_le}
 use Rattle.spec.specs.Memory.{over}
-use Rattle.spec.specs.Refusal.{Result, done}
 use Rattle.spec.specs.Network.{Network, leaf_count}
 use Rattle.spec.specs.Tree.{leaf, Pair, tree_at, root, pairs_of, flat_of}
 use Rattle.spec.specs.Improve as spec
@@ -14,7 +14,7 @@ use Rattle.spec.specs.Improve.{Visited, untouched, clamped, pass, improve_tree, 
 use Rattle.spec.specs.Lists.{count}
 use Rattle.spec.specs.Layout.{row_at, network_of}
 use Rattle.spec.specs.Price as price
-use Rattle.spec.specs.Price.{exact, beyond, up_to}
+use Rattle.spec.specs.Price.{up_to}
 use Rattle.spec.specs.Calls.{wrong_tree, flag_at, is_beyond, total_is_beyond, dangling, improved_tree}
 use Rattle.laws.specs.Walks.{valid_tree}
 use Rattle.laws.specs.ListLaws.{no_members}
@@ -27,7 +27,6 @@ use Rattle.network.specs.Codes.{Facts}
 use Rattle.network.specs.Layouts.{layout_legs, layout_leaf_count}
 use Rattle.pricing.specs.Sums.{work_sum}
 use Rattle.pricing.specs.Answers.{total_of}
-use Rattle.pricing.specs.declared.Total.TheVariants.{Exact, Beyond}
 use Rattle.cost.specs.Checks.{row_places}
 use Rattle.passes.specs.Made.{Ready, Improves}
 use Rattle.reconf.specs.declared.Visited.{Visited as Counts}
@@ -53,11 +52,11 @@ tree_length n kids e =
 
 -- ---- with no leaves ----
 
-no_tree : (n v : ℕ) → n ≡ 0 → tree_at n [] v ≡ none
+no_tree : (n v : ℕ) → n ≡ 0 → tree_at n [] v ≡ None
 unfolding tree_at
 no_tree n v z = rw (le-ltb v n (omega arith))
 
-empty_walk : (n : ℕ) (kids : List ℕ) → n ≡ 0 → kids ≡ [] → tree_at n (pairs_of kids) (root n (pairs_of kids)) ≡ none
+empty_walk : (n : ℕ) (kids : List ℕ) → n ≡ 0 → kids ≡ [] → tree_at n (pairs_of kids) (root n (pairs_of kids)) ≡ None
 unfolding pairs_of
 empty_walk n kids z e = ap (λ (l : List ℕ). tree_at n (pairs_of l) (root n (pairs_of l))) e ∙ no_tree n (root n []) z
 
@@ -84,7 +83,7 @@ module _ (N : Network) (k passes : ℕ) (limit : Option ℕ) (flag : ℕ → Boo
   same_k = omega arith
 
   -- the definition's answer, where the walk finds the tree
-  found : tree_at n (pairs_of kids₀) (root n (pairs_of kids₀)) ≡ some (tree_of n kids₀)
+  found : tree_at n (pairs_of kids₀) (root n (pairs_of kids₀)) ≡ Some (tree_of n kids₀)
       → improve N k passes limit flag (pairs_of kids₀)
       ≡ record { tree = array_for n (tree_of n kids); rebuilt = rebuilt; tried = tried }
   unfolding improve
@@ -110,7 +109,7 @@ module _ (N : Network) (k passes : ℕ) (limit : Option ℕ) (flag : ℕ → Boo
   with_leaves : 1 ≤ n → improve N k passes limit flag (pairs_of kids₀) ≡ record { tree = pairs_of kids; rebuilt = rebuilt; tried = tried }
   with_leaves h =
       let (t, w, ok) = valid_tree n (pairs_of kids₀) h (not_wrong n kids₀ right) in
-      found (w ∙ ap some (sym (tree_of_lem n kids₀ t ok)))
+      found (w ∙ ap Some (sym (tree_of_lem n kids₀ t ok)))
       ∙ ap (λ (a : List Pair). record { tree = a; rebuilt = rebuilt; tried = tried }) (standing_array h x.standing)
 
   with_none : n ≡ 0 → improve N k passes limit flag (pairs_of kids₀) ≡ record { tree = pairs_of kids; rebuilt = rebuilt; tried = tried }
@@ -127,17 +126,17 @@ module _ (N : Network) (k passes : ℕ) (limit : Option ℕ) (flag : ℕ → Boo
   improved_is = elim (dec_le 1 n) [ yes h ↦ with_leaves h | no h ↦ with_none (omega arith) ]
 
 -- THE ANSWER AND THE TREE
-pub answered_done : (N : Network) (k passes : ℕ) (limit : Option ℕ) (flags : List ℕ) {kids₀ kids sets sizes works : List ℕ} (r : Counts) (c : Result spec.Improved)
+pub answered_done : (N : Network) (k passes : ℕ) (limit : Option ℕ) (flags : List ℕ) {kids₀ kids sets sizes works : List ℕ} (r : Counts) (c : Result spec.Improved Refusal)
     → 3 ≤ k → k ≤ 12 → wrong_tree (leaf_count N) kids₀ ≡ false → length kids ≡ length kids₀
     → Improves N (flag_at flags) k limit passes kids₀ kids sets sizes works r.rebuilt r.tried
-    → c ≡ done (improve N k passes limit (flag_at flags) (pairs_of kids₀)) → Answered c kids₀ kids (Done r)
+    → c ≡ Ok (improve N k passes limit (flag_at flags) (pairs_of kids₀)) → Answered c kids₀ kids (Done r)
 answered_done N k passes limit flags {kids₀} {kids} {sets} {sizes} {works} r c low high right long x q =
-    let e : c ≡ done (record { tree = pairs_of kids; rebuilt = r.rebuilt; tried = r.tried }) =
-    q ∙ ap done (improved_is N k passes limit (flag_at flags) kids₀ kids sets sizes works r.rebuilt r.tried low high right long x) in
+    let e : c ≡ Ok (record { tree = pairs_of kids; rebuilt = r.rebuilt; tried = r.tried }) =
+    q ∙ ap Ok (improved_is N k passes limit (flag_at flags) kids₀ kids sets sizes works r.rebuilt r.tried low high right long x) in
     record {
       answer = sym (ap answer_of e);
       tree =
-          sym (ap (λ (y : Result spec.Improved). improved_tree y kids₀) e
+          sym (ap (λ (y : Result spec.Improved Refusal). improved_tree y kids₀) e
           ∙ back N k passes limit (flag_at flags) kids₀ kids sets sizes works r.rebuilt r.tried low high right long x);
     }
 
@@ -153,12 +152,12 @@ beyond_is {N} {flag} {kids} {sets} {sizes} {works} n q right h =
     ap (λ (y : ℕ). is_beyond (up_to y)) (ap (λ (i : ℕ). work_sum works i (i - 1)) (sym q) ∙ total_held (right_here N n kids q right) h)
 
 pub beyond_exact : (y : price.Total) (x : ℕ) → Exact x ≡ total_of y → false ≡ is_beyond y
-beyond_exact (exact z) x e = refl
-beyond_exact beyond x e = absurd (let w : ◌≡◌ {A = ℕ} 0 1 = cc in omega arith)
+beyond_exact (Exact z) x e = refl
+beyond_exact Beyond x e = absurd (let w : ◌≡◌ {A = ℕ} 0 1 = cc in omega arith)
 
 pub beyond_beyond : (y : price.Total) → Beyond ≡ total_of y → true ≡ is_beyond y
-beyond_beyond (exact z) e = absurd (let w : ◌≡◌ {A = ℕ} 0 1 = cc in omega arith)
-beyond_beyond beyond e = refl
+beyond_beyond (Exact z) e = absurd (let w : ◌≡◌ {A = ℕ} 0 1 = cc in omega arith)
+beyond_beyond Beyond e = refl
 
 pub standing_start : {N : Network} {flag : ℕ → Bool} {kids sets sizes works : List ℕ} (n : ℕ) → leaf_count N ≡ n → wrong_tree n kids ≡ false
     → PriceHeld N flag kids sets sizes works → total_is_beyond N flag (pairs_of kids) ≡ false → Standing N flag kids sets sizes works

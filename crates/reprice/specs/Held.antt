@@ -1,6 +1,5 @@
 -- A tree in a flat list of children, and its price list in lent lists. Definitions only. Assumes nothing.
-use Rattle.std.specs.Prelude.{Bool, false, List, ◌≡◌, ℕ, ◌+◌, ◌*◌, ◌^◌, ◌≤◌, ◌<◌, get_or}
-use Rattle.std.proofs.Math.Option.{Option, none, some}
+use Rattle.std.specs.Prelude.{Bool, false, List, ◌≡◌, ℕ, ◌+◌, ◌*◌, ◌^◌, ◌≤◌, ◌<◌, get_or, Option, None, Some}
 use Rattle.spec.specs.Lists.{memb}
 use Rattle.spec.specs.Network.{Network, leaf_count}
 use Rattle.spec.specs.Tree.{Tree, leaf, tree_at, root, pairs_of}
@@ -10,8 +9,8 @@ use Rattle.slots.specs.Slots.{held}
 
 -- the tree that a flat list of children has
 abbrev pub or_leaf : Option Tree → Tree
-or_leaf none = leaf 0
-or_leaf (some t) = t
+or_leaf None = leaf 0
+or_leaf (Some t) = t
 
 unfoldable pub tree_of : ℕ → List ℕ → Tree
 tree_of n kids = or_leaf (tree_at n (pairs_of kids) (root n (pairs_of kids)))

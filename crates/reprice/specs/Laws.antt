@@ -1,13 +1,12 @@
 -- The tree that stands: it is valid, its array is the one at hand, each of its numbers is a node's, and its total is the sum of the works.
 -- Assumes nothing.
-use Rattle.std.specs.Prelude.{Bool, false, cond, ◌≡◌, eqb, length}
+use Rattle.std.specs.Prelude.{Bool, false, cond, ◌≡◌, eqb, length, None, Some, slice_get}
 use mathlib.Core.List.{List, [], ◌∷◌, map}
-use Rattle.std.proofs.Math.Option.{none, some}
 use Rattle.std.proofs.Math.Path.{refl, sym, ap}
 use Rattle.std.proofs.Common.{◌∙◌, subst, arith, ext_get_or, eqb-true, le-ltb}
 use Prim.Native.Nat.{ℕ, ◌+◌, ◌-◌, ◌^◌, ◌≤◌, ◌<◌}
 use Rattle.std.proofs.Math.Decide.{dec_le}
-use Rattle.std.proofs.Math.ListN.{get_or, get_elem?}
+use Rattle.std.proofs.Math.ListN.{get_or}
 use Rattle.spec.specs.Lists.{count, from, range}
 use Rattle.spec.specs.Network.{Network, leaf_count}
 use Rattle.spec.specs.Tree.{Tree, leaf, node, number, numbers, Pair, tree_at, pairs_of, step_order, Describes, ValidTree}
@@ -34,7 +33,7 @@ use Rattle.reprice.specs.Held.{or_leaf, tree_of, PriceHeld, Standing}
 pub record Spot (n : ℕ) (a : List Pair) (v : ℕ) (t : Tree) : Type 0 where
   pub s : Tree
   pub name : number s ≡ v
-  pub found : subtree v t ≡ some s
+  pub found : subtree v t ≡ Some s
   pub described : Describes n a s
   pub placed : Placed n a s
 
@@ -43,7 +42,7 @@ module _ (n : ℕ) (a : List Pair) (v : ℕ) where
   on_left u l r e x =
       record { s = x.s; name = x.name; found = rw (e, x.found); described = x.described; placed = x.placed }
 
-  on_right : (u : ℕ) (l r : Tree) → eqb u v ≡ false → subtree v l ≡ none → Spot n a v r → Spot n a v (node u l r)
+  on_right : (u : ℕ) (l r : Tree) → eqb u v ≡ false → subtree v l ≡ None → Spot n a v r → Spot n a v (node u l r)
   on_right u l r e f x =
       record { s = x.s; name = x.name; found = rw (e, f, x.found); described = x.described; placed = x.placed }
 
@@ -71,16 +70,16 @@ pub array_of : (n : ℕ) (a : List Pair) (t : Tree) → ValidTree n a t → arra
 unfolding array_for
 array_of n a t d =
     let z : length (map (λ j. children_of (subtree (n + j) t)) (range (n - 1))) ≡ n - 1 = map_range_length (λ j. children_of (subtree (n + j) t)) (n - 1) in
-    ext_get_or (children_of none) (map (λ j. children_of (subtree (n + j) t)) (range (n - 1))) a (omega (arith, d.inner)) (λ j h.
-    map_range_at (λ j. children_of (subtree (n + j) t)) (children_of none) (n - 1) j (omega arith)
+    ext_get_or (children_of None) (map (λ j. children_of (subtree (n + j) t)) (range (n - 1))) a (omega (arith, d.inner)) (λ j h.
+    map_range_at (λ j. children_of (subtree (n + j) t)) (children_of None) (n - 1) j (omega arith)
     ∙ at j (valid_spot n a t d (n + j) (omega (arith, d.inner))))
   where
-    here : (j : ℕ) (s : Tree) → number s ≡ n + j → Describes n a s → children_of (some s) ≡ get_or a j (children_of none)
+    here : (j : ℕ) (s : Tree) → number s ≡ n + j → Describes n a s → children_of (Some s) ≡ get_or a j (children_of None)
     here j (leaf i) e h = absurd (omega arith)
     here j (node v l r) e h =
-        sym (get_or_there a j _ (children_of none) (ap (get_elem? a) (let z : j ≡ v - n = omega arith in z) ∙ h.1))
+        sym (get_or_there a j _ (children_of None) (ap (slice_get a) (let z : j ≡ v - n = omega arith in z) ∙ h.1))
 
-    at : (j : ℕ) → Spot n a (n + j) t → children_of (subtree (n + j) t) ≡ get_or a j (children_of none)
+    at : (j : ℕ) → Spot n a (n + j) t → children_of (subtree (n + j) t) ≡ get_or a j (children_of None)
     at j x = ap children_of x.found ∙ here j x.s x.name x.described
 
 -- ---- what stands ----

@@ -1,13 +1,14 @@
 -- What slicing's entry answers, number and values of each case; the call step by step, and what it leaves behind. Assumes nothing.
-use Rattle.std.specs.Prelude.{Bool, true, false, ◌&&◌, cond, ◌≡◌, List, [], ◌∷◌, ℕ, ◌≤◌, ◌<◌, length}
+use Rattle.std.specs.Prelude.{Bool, true, false, ◌&&◌, cond, ◌≡◌, List, [], ◌∷◌, ℕ, ◌≤◌, ◌<◌, length, None, Result, Err, Ok}
 use Rattle.std.proofs.Math.Path.{refl, ap}
 use Rattle.std.proofs.Common.{sym, ◌∙◌, subst, arith}
-use Rattle.std.proofs.Math.Option.{none}
+use Rattle.spec.specs.declared.Refusal.{Refusal}
+use Rattle.spec.specs.declared.Refusal.TheVariants.{InvalidTree, TotalBeyond, DanglingIndex}
 use borrow.Author.Tests.{lt-ltb, le-ltb}
 use Rattle.spec.specs.Memory.{cleared}
 use Rattle.spec.specs.Network.{Network, leaf_count, index_count, refusal_of}
 use Rattle.spec.specs.Tree.{pairs_of, flat_of}
-use Rattle.spec.specs.Refusal.{Refusal, invalid_tree, total_beyond, dangling_index, number_of, code_of, Check, check, Result, refused, done, checked}
+use Rattle.spec.specs.Refusal.{number_of, code_of, Check, check, checked}
 use Rattle.spec.specs.Calls.{Lent, lent, length_check, plain_words, slice_words, wrong_tree, tree_check, beyond_check, total_is_beyond, dangling, dangling_check, dangling_if, slice_call, sliced_tree, sliced_flags, workspace_after}
 use Rattle.spec.specs.Slicing.{Plan}
 use Rattle.laws.specs.Booleans.{by_cases}
@@ -16,9 +17,9 @@ use Rattle.slicetree.specs.declared.Sliced.{Sliced}
 use Rattle.slicetree.specs.Clear.{flags_for, plan_of, SlicedTo}
 
 -- refused by number, or the counts
-abbrev pub sliced_of : Result Plan → Sliced
-sliced_of (refused r) = Sliced.Refused (number_of r)
-sliced_of (done p) = Sliced.Done p.rebuilt p.tried
+abbrev pub sliced_of : Result Plan Refusal → Sliced
+sliced_of (Err r) = Sliced.Refused (number_of r)
+sliced_of (Ok p) = Sliced.Done p.rebuilt p.tried
 
 -- the number of the refusal of an unsliced total, or of a dangling index, and 0 for neither
 abbrev pub late_number : Network → Bool → List ℕ → ℕ
@@ -29,20 +30,20 @@ abbrev pub tree_number : Network → Bool → ℕ → List ℕ → ℕ
 tree_number N improving n kids = cond (wrong_tree n kids) 8 (late_number N improving kids)
 
 module _ (N : Network) (improving : Bool) (target : ℕ) (kids : List ℕ) where
-  abbrev sliced : Result Plan
-  sliced = done (plan_of N improving target kids)
+  abbrev sliced : Result Plan Refusal
+  sliced = Ok (plan_of N improving target kids)
 
   abbrev late : List Check
   late = beyond_check N (λ j. false) (pairs_of kids) ∷ dangling_if N improving
 
   -- the call where the network is accepted and the lists are long enough; and where it is accepted
-  unfoldable pub rest_call : Result Plan
+  unfoldable pub rest_call : Result Plan Refusal
   rest_call = checked (tree_check N kids ∷ late) sliced
 
   abbrev in_checks : ℕ → ℕ → List Check
   in_checks words places = length_check (lent words (slice_words improving) ∷ lent places (index_count N) ∷ []) ∷ tree_check N kids ∷ late
 
-  unfoldable pub slice_in : ℕ → ℕ → Result Plan
+  unfoldable pub slice_in : ℕ → ℕ → Result Plan Refusal
   slice_in words places = checked (in_checks words places) sliced
 
   -- the network's own checks
@@ -50,7 +51,7 @@ module _ (N : Network) (improving : Bool) (target : ℕ) (kids : List ℕ) where
   unfolding slice_call
   call_refused words places k e z = by_network N (in_checks words places) sliced k e z
 
-  pub call_accepted : (words places : ℕ) → refusal_of N ≡ none → slice_call N improving target words places kids ≡ slice_in words places
+  pub call_accepted : (words places : ℕ) → refusal_of N ≡ None → slice_call N improving target words places kids ≡ slice_in words places
   unfolding slice_call slice_in
   call_accepted words places e = past_network N (in_checks words places) sliced e
 
@@ -84,15 +85,15 @@ module _ (N : Network) (improving : Bool) (target : ℕ) (kids₀ flags₀ ws₀
         workspace = same_words u (slice_words improving) ws₀;
       }
 
-  pub slices_accepted : refusal_of N ≡ none → {kids flags ws : List ℕ} {r : Sliced}
+  pub slices_accepted : refusal_of N ≡ None → {kids flags ws : List ℕ} {r : Sliced}
       → Answers N improving target kids₀ flags₀ ws₀ kids flags ws r → Slices N improving target kids₀ flags₀ ws₀ kids flags ws r
   slices_accepted h q =
       let e = call_accepted N improving target kids₀ (length ws₀) (length flags₀) h in
       record {
         answer = q.answer ∙ sym (ap sliced_of e);
-        tree = q.tree ∙ sym (ap (λ (c : Result Plan). sliced_tree c kids₀) e);
-        flags_are = q.flags_are ∙ sym (ap (λ (c : Result Plan). sliced_flags N c flags₀) e);
-        workspace = q.workspace ∙ sym (ap (λ (c : Result Plan). workspace_after (slice_words improving) c ws₀) e);
+        tree = q.tree ∙ sym (ap (λ (c : Result Plan Refusal). sliced_tree c kids₀) e);
+        flags_are = q.flags_are ∙ sym (ap (λ (c : Result Plan Refusal). sliced_flags N c flags₀) e);
+        workspace = q.workspace ∙ sym (ap (λ (c : Result Plan Refusal). workspace_after (slice_words improving) c ws₀) e);
       }
 
 -- ---- the stated workspace ----
@@ -144,7 +145,7 @@ module _ (N : Network) (improving : Bool) (n : ℕ) (kids : List ℕ) where
       go false x e = (refl, e)
 
 module _ (N : Network) (improving : Bool) (target : ℕ) (kids₀ flags₀ : List ℕ) where
-  answered : (c : Result Plan) (kids flags : List ℕ) (r : Sliced) → rest_call N improving target kids₀ ≡ c → r ≡ sliced_of c → kids ≡ sliced_tree c kids₀
+  answered : (c : Result Plan Refusal) (kids flags : List ℕ) (r : Sliced) → rest_call N improving target kids₀ ≡ c → r ≡ sliced_of c → kids ≡ sliced_tree c kids₀
       → flags ≡ sliced_flags N c flags₀ → Answered N improving target kids₀ flags₀ kids flags r
   answered c kids flags r e f g h =
       record {
@@ -156,7 +157,7 @@ module _ (N : Network) (improving : Bool) (target : ℕ) (kids₀ flags₀ : Lis
   answered_tree : (n : ℕ) → leaf_count N ≡ n → wrong_tree n kids₀ ≡ true → Answered N improving target kids₀ flags₀ kids₀ flags₀ (Sliced.Refused 8)
   unfolding rest_call
   answered_tree n q h =
-      answered (refused invalid_tree) kids₀ flags₀ (Sliced.Refused 8)
+      answered (Err InvalidTree) kids₀ flags₀ (Sliced.Refused 8)
       (holds_first (tree_check N kids₀) (late N improving target kids₀) (sliced N improving target kids₀) (rw q h)) refl refl refl
 
   module _ (n : ℕ) (q : leaf_count N ≡ n) (right : wrong_tree n kids₀ ≡ false) where
@@ -164,14 +165,14 @@ module _ (N : Network) (improving : Bool) (target : ℕ) (kids₀ flags₀ : Lis
     unfolding rest_call
     past_tree = passes_first (tree_check N kids₀) (late N improving target kids₀) (sliced N improving target kids₀) (rw q right)
 
-    late_cases : (b i : Bool) (p : Result Plan) (x : ℕ) → x ≡ cond b 10 (cond (i && dangling N) 11 0) → (x ≡ 0 → ⊥)
-        → rest_call N improving target kids₀ ≡ checked (check b total_beyond ∷ dangling_if N i) p
+    late_cases : (b i : Bool) (p : Result Plan Refusal) (x : ℕ) → x ≡ cond b 10 (cond (i && dangling N) 11 0) → (x ≡ 0 → ⊥)
+        → rest_call N improving target kids₀ ≡ checked (check b TotalBeyond ∷ dangling_if N i) p
         → Answered N improving target kids₀ flags₀ kids₀ flags₀ (Sliced.Refused x)
-    late_cases true i p x e z f = answered (refused total_beyond) kids₀ flags₀ (Sliced.Refused x) f (rw e) refl refl
+    late_cases true i p x e z f = answered (Err TotalBeyond) kids₀ flags₀ (Sliced.Refused x) f (rw e) refl refl
     late_cases false false p x e z f = absurd (z e)
     late_cases false true p x e z f =
         by_cases (dangling N)
-        (λ h. answered (refused dangling_index) kids₀ flags₀ (Sliced.Refused x) (f ∙ holds_first (dangling_check N) [] p h)
+        (λ h. answered (Err DanglingIndex) kids₀ flags₀ (Sliced.Refused x) (f ∙ holds_first (dangling_check N) [] p h)
         (ap (λ (k : ℕ). Sliced.Refused k) (e ∙ ap (λ (d : Bool). cond d 11 0) h)) refl refl)
         (λ h. absurd (z (e ∙ ap (λ (d : Bool). cond d 11 0) h)))
 
@@ -180,7 +181,7 @@ module _ (N : Network) (improving : Bool) (target : ℕ) (kids₀ flags₀ : Lis
     answered_late x e z =
         late_cases (total_is_beyond N (λ j. false) (pairs_of kids₀)) improving (sliced N improving target kids₀) x e z past_tree
 
-    none_dangling : (i : Bool) (p : Result Plan) → (i ≡ true → dangling N ≡ false) → checked (dangling_if N i) p ≡ p
+    none_dangling : (i : Bool) (p : Result Plan Refusal) → (i ≡ true → dangling N ≡ false) → checked (dangling_if N i) p ≡ p
     none_dangling false p f = refl
     none_dangling true p f = passes_first (dangling_check N) [] p (f refl)
 
@@ -207,12 +208,12 @@ module _ (N : Network) (improving : Bool) (target : ℕ) (kids₀ flags₀ : Lis
 -- ---- 7, and the rest ----
 
 after_dangling : (d : Bool) (p : Plan) (stated : ℕ) (ws : List ℕ)
-    → cleared ws stated ≡ workspace_after stated (checked (check d dangling_index ∷ []) (done p)) ws
+    → cleared ws stated ≡ workspace_after stated (checked (check d DanglingIndex ∷ []) (Ok p)) ws
 after_dangling true p stated ws = refl
 after_dangling false p stated ws = refl
 
 after_rest : (N : Network) (improving x y : Bool) (p : Plan) (stated : ℕ) (ws : List ℕ)
-    → cleared ws stated ≡ workspace_after stated (checked (check x invalid_tree ∷ check y total_beyond ∷ dangling_if N improving) (done p)) ws
+    → cleared ws stated ≡ workspace_after stated (checked (check x InvalidTree ∷ check y TotalBeyond ∷ dangling_if N improving) (Ok p)) ws
 after_rest N improving true y p stated ws = refl
 after_rest N improving false true p stated ws = refl
 after_rest N true false false p stated ws = after_dangling (dangling N) p stated ws

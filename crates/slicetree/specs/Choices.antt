@@ -1,6 +1,5 @@
 -- A choice and the pass after it, and choice after choice. Assumes nothing.
-use Rattle.std.specs.Prelude.{Bool, true, false, List, ◌≡◌, refl, ℕ, suc, ◌+◌, ◌*◌, ◌≤◌, ◌<◌, length, set}
-use Rattle.std.proofs.Math.Option.{some}
+use Rattle.std.specs.Prelude.{Bool, true, false, List, ◌≡◌, refl, ℕ, suc, ◌+◌, ◌*◌, ◌≤◌, ◌<◌, length, set, Some}
 use Rattle.std.proofs.Common.{sym, ◌∙◌, ap, subst, arith, length-set}
 use Rattle.spec.specs.Network.{Network}
 use Rattle.spec.specs.Tree.{pairs_of}
@@ -75,7 +74,7 @@ module _ {N : Network} {n target : ℕ} {kids₀ flags₀ flags : List ℕ} {r :
 
         next : (x y : ℕ) → chosen N target (one_pass N) (plan_with flags₀ kids₀ x y) t.index ≡ plan_with flags kids (x + a) (y + b)
         next x y =
-            ap (λ (f : ℕ → Bool). joined f x y (improve N 8 1 (some (limit_for N target f kids₀)) f (pairs_of kids₀))) (sym is_also)
+            ap (λ (f : ℕ → Bool). joined f x y (improve N 8 1 (Some (limit_for N target f kids₀)) f (pairs_of kids₀))) (sym is_also)
             ∙ ap (joined (flag_at flags) x y) o.is
 
 -- ---- choice after choice ----

@@ -1,12 +1,12 @@
 -- One pass of improvement after a choice. Assumes nothing.
-use Rattle.std.specs.Prelude.{Bool, false, cond, List, map, ◌≡◌, refl, ℕ, ◌+◌, ◌-◌, ◌*◌, ◌^◌, ◌≤◌, ◌<◌, max, eqb, length}
-use Rattle.std.proofs.Math.Option.{Option, some}
+use Rattle.std.specs.Prelude.{Bool, false, cond, List, map, ◌≡◌, refl, ℕ, ◌+◌, ◌-◌, ◌*◌, ◌^◌, ◌≤◌, ◌<◌, max, eqb, length, Option, Some}
+use Rattle.spec.specs.declared.Total.{Total}
 use Rattle.std.proofs.Common.{sym, ◌∙◌, ap, subst, arith, lt-ltb, le-ltb}
 use Rattle.std.proofs.Math.Decide.{dec_le}
 use Rattle.spec.specs.Layout.{firsts}
 use Rattle.spec.specs.Network.{Network, leaf_count}
 use Rattle.spec.specs.Tree.{Tree, number, pairs_of, step_order}
-use Rattle.spec.specs.Price.{Total, up_to, listing, work, widest}
+use Rattle.spec.specs.Price.{up_to, listing, work, widest}
 use Rattle.spec.specs.Calls.{wrong_tree, is_beyond}
 use Rattle.spec.specs.Improve.{inner_trees, falling, visits, pass, improve_tree, improve}
 use Rattle.spec.specs.Slicing.{or_zero}
@@ -27,7 +27,7 @@ limit_for N target flag kids = max (or_zero (widest N flag (listing N flag (pair
 
 -- the tree in `kids` and the counts are those of one pass at k = 8, and the total is still exact
 pub record Once (N : Network) (n target : ℕ) (flag : ℕ → Bool) (kids₀ kids : List ℕ) (rebuilt tried : ℕ) : Type 0 where
-  pub is : improve N 8 1 (some (limit_for N target flag kids₀)) flag (pairs_of kids₀) ≡ record { tree = pairs_of kids; rebuilt = rebuilt; tried = tried }
+  pub is : improve N 8 1 (Some (limit_for N target flag kids₀)) flag (pairs_of kids₀) ≡ record { tree = pairs_of kids; rebuilt = rebuilt; tried = tried }
   pub right : wrong_tree n kids ≡ false
   pub total : work (listing N flag (pairs_of kids)) < 9007199254740992
   pub few_rebuilt : rebuilt ≤ 127
@@ -58,11 +58,11 @@ standing_of {N} {n} {flag} {kids} q t right h =
 
 -- the limit that the size bits set
 pub limit_is : {N : Network} {n : ℕ} (target : ℕ) {flag : ℕ → Bool} {kids sets sizes works : List ℕ} → leaf_count N ≡ n → PriceHeld N flag kids sets sizes works
-    → wrong_tree n kids ≡ false → (limit : Option ℕ) → limit ≡ some (max (or_zero (widest_in (firsts (n + (n - 1)) sizes))) target)
-    → limit ≡ some (limit_for N target flag kids)
+    → wrong_tree n kids ≡ false → (limit : Option ℕ) → limit ≡ Some (max (or_zero (widest_in (firsts (n + (n - 1)) sizes))) target)
+    → limit ≡ Some (limit_for N target flag kids)
 limit_is {N} {n} target {flag} {kids} {sizes = sizes} q h right limit e =
-    e ∙ ap (λ (i : ℕ). some (max (or_zero (widest_in (firsts (i + (i - 1)) sizes))) target)) (sym q)
-    ∙ ap (λ (w : Option ℕ). some (max (or_zero w) target)) (widest_held (right_here N n kids q right) h)
+    e ∙ ap (λ (i : ℕ). Some (max (or_zero (widest_in (firsts (i + (i - 1)) sizes))) target)) (sym q)
+    ∙ ap (λ (w : Option ℕ). Some (max (or_zero w) target)) (widest_held (right_here N n kids q right) h)
 
 -- ---- the counts of one pass ----
 
@@ -102,7 +102,7 @@ node_count {N} {n} {flag} {kids} {sets} {sizes} {works} q few s =
 
 module _ {N : Network} {n : ℕ} (target : ℕ) {flag : ℕ → Bool} {kids₀ sets₀ sizes₀ works₀ kids sets sizes works : List ℕ} {rebuilt tried : ℕ}
     (q : leaf_count N ≡ n) (few : n ≤ 128) (s : Standing N flag kids₀ sets₀ sizes₀ works₀) where
-  pub once : (limit : Option ℕ) → limit ≡ some (limit_for N target flag kids₀) → length kids ≡ length kids₀
+  pub once : (limit : Option ℕ) → limit ≡ Some (limit_for N target flag kids₀) → length kids ≡ length kids₀
       → Improves N flag 8 limit 1 kids₀ kids sets sizes works rebuilt tried → Once N n target flag kids₀ kids rebuilt tried
   once limit e long x =
       record {

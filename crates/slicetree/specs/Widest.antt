@@ -1,7 +1,6 @@
 -- The widest table, from the size bits of a tree's price list. Assumes nothing.
-use Rattle.std.specs.Prelude.{Bool, false, cond, ◌≡◌, refl, eqb, length}
+use Rattle.std.specs.Prelude.{Bool, false, cond, ◌≡◌, refl, eqb, length, None, Some}
 use mathlib.Core.List.{List, map, map-append, map-map}
-use Rattle.std.proofs.Math.Option.{none, some}
 use Rattle.std.proofs.Common.{sym, ◌∙◌, eq-eqb, ne_eqb}
 use Rattle.std.proofs.Math.Path.{ap, ap₂}
 use Prim.Native.Nat.{ℕ, ◌+◌, ◌-◌, max}
@@ -56,7 +55,7 @@ module _ {N : Network} {flag : ℕ → Bool} {kids sets sizes works : List ℕ} 
       ∙ ap₂ max (ap largest on_leaves) on_nodes
 
   pub widest_held : widest_in (firsts (n + (n - 1)) sizes) ≡ widest N flag (listing N flag (pairs_of kids))
-  widest_held = ap₂ (λ b y. cond b none (some y)) no_nodes split
+  widest_held = ap₂ (λ b y. cond b None (Some y)) no_nodes split
     where
       places : length (firsts (n + (n - 1)) sizes) ≡ n + (n - 1)
       places = firsts_length (n + (n - 1)) sizes

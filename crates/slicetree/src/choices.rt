@@ -1,6 +1,5 @@
 // Slicing on lent lists with improvement: one pass follows each choice.
-ghost use Rattle.std.proofs.Math.Option.{some};
-ghost use Rattle.std.specs.Prelude.{◌≡◌, ◌+◌, ◌-◌, ◌≤◌, max, length};
+ghost use Rattle.std.specs.Prelude.{◌≡◌, ◌+◌, ◌-◌, ◌≤◌, max, length, Some};
 ghost use Rattle.spec.specs.Layout.{firsts, network_of};
 ghost use Rattle.spec.specs.Calls.{flag_at};
 ghost use Rattle.spec.specs.Slicing.{or_zero};
@@ -24,7 +23,7 @@ pub struct Turned {
 // The limit of the pass after a choice, as the search takes it: by the sizes of all nodes of a tree of `n` leaves, and the target.
 fn pass_limit(sizes: &[u16], n: usize, target: u16) -> u64
     requires { (n ≤ 128) × (n + (n - 1) ≤ length sizes.now) }
-    ensures { limit_of result ≡ some (max (or_zero (widest_in (firsts (n + (n - 1)) sizes.now))) target) }
+    ensures { limit_of result ≡ Some (max (or_zero (widest_in (firsts (n + (n - 1)) sizes.now))) target) }
 {
     let widest = pricing::widest_of(sizes, n + cells::less(n, 1));
     let bits = slicing::limit(widest, target);

@@ -6,7 +6,8 @@ use Rattle.std.proofs.Math.Decide.{ℕ_discrete}
 use Rattle.spec.specs.Lists.{memb, range}
 use Rattle.spec.specs.Network.{Network, index_count}
 use Rattle.spec.specs.Tree.{pairs_of}
-use Rattle.spec.specs.Price.{Total, up_to, listing, work}
+use Rattle.spec.specs.Price.{up_to, listing, work}
+use Rattle.spec.specs.declared.Total.{Total}
 use Rattle.spec.specs.Calls.{flag_at}
 use Rattle.spec.specs.Slicing.{Plan, FollowUp, within_target, also, widest_of, candidate, candidates, best, chosen, choose, slice_loop, as_is}
 use Rattle.cost.specs.Back.{exact_of}

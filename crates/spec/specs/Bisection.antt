@@ -1,12 +1,13 @@
 -- Recursive multilevel bisection: `initial`, `bisect`, `bisect_rec`, `bisection`. Definitions only. Assumes nothing.
-use Rattle.std.specs.Prelude.{Bool, true, false, not, ◌||◌, cond, List, [], ◌∷◌, ◌++◌, map, ℕ, zero, suc, ◌-◌, max, eqb, leb, length, get_or, set, replicate, Float}
-use Rattle.std.proofs.Math.Option.{Option, none, some}
+use Rattle.std.specs.Prelude.{Bool, true, false, not, ◌||◌, cond, List, [], ◌∷◌, ◌++◌, map, ℕ, zero, suc, ◌-◌, max, eqb, leb, length, get_or, set, replicate, Float, Option, None, Some, Result, Err, Ok}
+use Rattle.spec.specs.declared.Refusal.TheVariants.{DrawsExhausted}
+use Rattle.spec.specs.declared.Refusal.{Refusal}
 use Rattle.std.specs.Float.{binary64}
 use Rattle.std.specs.Float.Ieee.{add, mul, div, neg, lt, le}
 use Rattle.spec.specs.Lists.{range}
 use Rattle.spec.specs.Floats.{decimal, zero_float, micro, whole_float, greater, lesser}
 use Rattle.spec.specs.Draws.{Words, lent_words, Drawn, drawn, unit_draw, index_draw}
-use Rattle.spec.specs.Refusal.{draws_exhausted, Result, refused, done, and_then}
+use Rattle.spec.specs.Refusal.{and_then}
 use Rattle.spec.specs.Network.{Network, leaf_count}
 use Rattle.spec.specs.Tree.{Pair}
 use Rattle.spec.specs.Greedy.{Built, join_all, leaves_of, greedy_from}
@@ -37,12 +38,12 @@ module _ (G : Hypergraph) where
       let d = unit_draw c.words in
       let link = add binary64 (get_or links u zero_float) (mul binary64 micro d.value) in
       let better = lt c.link link in
-      let new : Strongest = record { link = cond better link c.link; vertex = cond better (some u) c.vertex; words = d.words } in
+      let new : Strongest = record { link = cond better link c.link; vertex = cond better (Some u) c.vertex; words = d.words } in
       cond (eqb (side_of part u) 0) new c
 
   abbrev pub strongest : List ℕ → List Float → Words → Strongest
   strongest part links ws =
-      fold_over (offered part links) (range (vertex_count G)) (record { link = neg (whole_float 1); vertex = none; words = ws })
+      fold_over (offered part links) (range (vertex_count G)) (record { link = neg (whole_float 1); vertex = None; words = ws })
 
   abbrev pub linked_by : Net → List Float → List Float
   linked_by e links = fold_over (λ u l. set l u (add binary64 (get_or l u zero_float) e.weight)) e.pins links
@@ -58,16 +59,16 @@ module _ (G : Hypergraph) where
   grown_by part w v g =
       let links = fold_over linked_by (nets_at G v) g.links in
       let on = grown_on part w links (strongest part links g.words) in
-      let end : Growth = record { part = part; weight = w; links = g.links; next = none; words = g.words } in
+      let end : Growth = record { part = part; weight = w; links = g.links; next = None; words = g.words } in
       cond (le half w) end on
 
   abbrev pub growth_turn : Option ℕ → Growth → Growth
-  growth_turn none g = g
-  growth_turn (some v) g = grown_by (set g.part v 1) (add binary64 g.weight (vertex_weight G v)) v g
+  growth_turn None g = g
+  growth_turn (Some v) g = grown_by (set g.part v 1) (add binary64 g.weight (vertex_weight G v)) v g
 
   abbrev pub ended : Option ℕ → Bool
-  ended none = true
-  ended (some v) = false
+  ended None = true
+  ended (Some v) = false
 
   abbrev pub grown : Words → Growth
   grown ws =
@@ -77,7 +78,7 @@ module _ (G : Hypergraph) where
         part = replicate (vertex_count G) 0;
         weight = zero_float;
         links = replicate (vertex_count G) zero_float;
-        next = some seed.value;
+        next = Some seed.value;
         words = seed.words;
       })
 
@@ -88,8 +89,8 @@ pub record Candidate : Type 0 where
   pub part : List ℕ
 
 abbrev pub better : Option Candidate → Candidate → Candidate
-better none c = c
-better (some b) c = cond (lt c.cut b.cut) c b
+better None c = c
+better (Some b) c = cond (lt c.cut b.cut) c b
 
 module _ (G : Hypergraph) (maxw : Float) where
   abbrev pub candidate_of : List ℕ → Candidate
@@ -106,15 +107,15 @@ module _ (G : Hypergraph) (maxw : Float) where
   tries zero best ws = drawn best ws
   tries (suc k) best ws =
       let c = candidate ws in
-      tries k (some (better best (candidate_of c.value))) c.words
+      tries k (Some (better best (candidate_of c.value))) c.words
 
   abbrev pub part_of : Option Candidate → List ℕ
-  part_of none = []
-  part_of (some c) = c.part
+  part_of None = []
+  part_of (Some c) = c.part
 
   unfoldable pub initial : Words → Drawn (List ℕ)
   initial ws =
-      let t = tries 8 none ws in
+      let t = tries 8 None ws in
       drawn (part_of t.value) t.words
 
 -- ---- through coarser hypergraphs and back ----
@@ -135,8 +136,8 @@ abbrev pub refined_from : Hypergraph → Float → Level → Drawn (List ℕ) �
 refined_from G maxw l d = fm G maxw 4 (map (side_of d.value) l.places) d.words
 
 abbrev pub through_level : Hypergraph → Float → Option Level → Words → (Hypergraph → Words → Drawn (List ℕ)) → Drawn (List ℕ)
-through_level G maxw none ws go = initial G maxw ws
-through_level G maxw (some l) ws go = refined_from G maxw l (go l.graph ws)
+through_level G maxw None ws go = initial G maxw ws
+through_level G maxw (Some l) ws go = refined_from G maxw l (go l.graph ws)
 
 -- a hypergraph of over 48 vertices is made coarser, as long as that is worthwhile
 abbrev pub multilevel : ℕ → Float → Hypergraph → Words → Drawn (List ℕ)
@@ -158,8 +159,8 @@ pub record Halved : Type 0 where
   pub built : Built
   pub words : Words
 
-abbrev pub with_words : Words → Result Built → Result Halved
-with_words ws r = and_then r (λ b. done (record { built = b; words = ws }))
+abbrev pub with_words : Words → Result Built Refusal → Result Halved Refusal
+with_words ws r = and_then r (λ b. Ok (record { built = b; words = ws }))
 
 -- the members whose place passes a test, the first one's place being k
 abbrev pub members_at : (ℕ → Bool) → ℕ → List ℕ → List ℕ
@@ -177,7 +178,7 @@ right_half part leaves = members_at (λ v. not (eqb (side_of part v) 0)) 0 leave
 
 module _ (N : Network) (eps : Float) (cutoff : ℕ) where
   -- small ends: greedy over the leaves
-  abbrev pub small_end : List ℕ → List Pair → Words → Result Halved
+  abbrev pub small_end : List ℕ → List Pair → Words → Result Halved Refusal
   small_end leaves a ws = with_words ws (greedy_from N a (leaves_of leaves))
 
   -- the two halves' trees are joined, the left half's first
@@ -185,22 +186,22 @@ module _ (N : Network) (eps : Float) (cutoff : ℕ) where
   join_halves x y = record { built = join_all N y.built.pairs (x.built.tops ++ y.built.tops); words = y.words }
 
   -- `go` is bisection of a half
-  abbrev pub halves : (List ℕ → List Pair → Words → Result Halved) → List ℕ → List ℕ → List Pair → Words → Result Halved
+  abbrev pub halves : (List ℕ → List Pair → Words → Result Halved Refusal) → List ℕ → List ℕ → List Pair → Words → Result Halved Refusal
   halves go left right a ws =
-      and_then (go left a ws) (λ x. and_then (go right x.built.pairs x.words) (λ y. done (join_halves x y)))
+      and_then (go left a ws) (λ x. and_then (go right x.built.pairs x.words) (λ y. Ok (join_halves x y)))
 
   -- 13 if a draw was due and no word was left; a partition with an empty side is no bisection
-  abbrev pub split : (List ℕ → List Pair → Words → Result Halved) → List ℕ → List Pair → Drawn (List ℕ) → Result Halved
+  abbrev pub split : (List ℕ → List Pair → Words → Result Halved Refusal) → List ℕ → List Pair → Drawn (List ℕ) → Result Halved Refusal
   split go leaves a d =
       let left = left_half d.value leaves in
       let right = right_half d.value leaves in
       let whole = small_end leaves a d.words in
       let parts = halves go left right a d.words in
       let answer = cond (eqb (length left) 0 || eqb (length right) 0) whole parts in
-      cond d.words.exhausted (refused draws_exhausted) answer
+      cond d.words.exhausted (Err DrawsExhausted) answer
 
   -- "any whole cutoff, read as at least 2"
-  abbrev pub bisect_rec : ℕ → List ℕ → List Pair → Words → Result Halved
+  abbrev pub bisect_rec : ℕ → List ℕ → List Pair → Words → Result Halved Refusal
   bisect_rec zero leaves a ws = small_end leaves a ws
   bisect_rec (suc fuel) leaves a ws =
       let parts = split (λ l b w. bisect_rec fuel l b w) leaves a (bisect (hypergraph_of N leaves) eps ws) in
@@ -216,6 +217,6 @@ abbrev pub bisected_from : List ℕ → Halved → Bisected
 bisected_from words h = record { pairs = h.built.pairs; taken = length words - length h.words.left }
 
 -- the plan of a network by bisection, with an imbalance of i thousandths
-unfoldable pub bisection : Network → ℕ → ℕ → List ℕ → Result Bisected
+unfoldable pub bisection : Network → ℕ → ℕ → List ℕ → Result Bisected Refusal
 bisection N i cutoff words =
-    and_then (bisect_rec N (imbalance i) cutoff (leaf_count N) (range (leaf_count N)) [] (lent_words words)) (λ h. done (bisected_from words h))
+    and_then (bisect_rec N (imbalance i) cutoff (leaf_count N) (range (leaf_count N)) [] (lent_words words)) (λ h. Ok (bisected_from words h))

@@ -1,8 +1,8 @@
 -- What is claimed of networks made step by step, and of networks as lists with counts. Definitions only; proofs in BuildingLaws and
 -- LayoutLaws of laws. Assumes nothing.
-use Rattle.std.specs.Prelude.{true, List, [], ◌∷◌, ◌↔◌, ◌≡◌, ℕ, ◌+◌, ◌*◌, ◌<◌, length, get_or}
-use Rattle.std.proofs.Math.Option.{some}
-use Rattle.spec.specs.Refusal.{Refusal, Result, refused, done, and_then}
+use Rattle.std.specs.Prelude.{true, List, [], ◌∷◌, ◌↔◌, ◌≡◌, ℕ, ◌+◌, ◌*◌, ◌<◌, length, get_or, Some, Result, Err, Ok}
+use Rattle.spec.specs.declared.Refusal.{Refusal}
+use Rattle.spec.specs.Refusal.{and_then}
 use Rattle.spec.specs.Network.{Network, leaf_count, index_count, weight, legs, max_legs, refusal_of, accepted}
 use Rattle.spec.specs.Layout.{network_of}
 use Rattle.spec.specs.Building.{with_weight, with_leaf, with_output, add_weight, add_leaf, add_output}
@@ -10,12 +10,12 @@ use Rattle.spec.specs.Building.{with_weight, with_leaf, with_output, add_weight,
 -- ---- step by step ----
 
 -- the members of a list are added one by one, in their order; a refusal ends it
-abbrev pub add_all : {A : Type 0} → (Network → A → Result Network) → Network → List A → Result Network
-add_all add N [] = done N
+abbrev pub add_all : {A : Type 0} → (Network → A → Result Network Refusal) → Network → List A → Result Network Refusal
+add_all add N [] = Ok N
 add_all add N (x ∷ l) = and_then (add N x) λ M. add_all add M l
 
 -- from the empty network the weights are added, then the leaves, then the outputs
-abbrev pub built : (weights : List ℕ) (leaves : List (List ℕ)) (outputs : List ℕ) → Result Network
+abbrev pub built : (weights : List ℕ) (leaves : List (List ℕ)) (outputs : List ℕ) → Result Network Refusal
 built weights leaves outputs =
     and_then (add_all add_weight (record { leaves = []; outputs = []; weights = [] }) weights) λ M.
     and_then (add_all add_leaf M leaves) λ L. add_all add_output L outputs
@@ -24,13 +24,13 @@ built weights leaves outputs =
 abbrev pub BuiltJust : Type 0
 BuiltJust =
     (weights : List ℕ) (leaves : List (List ℕ)) (outputs : List ℕ) (N : Network)
-    → (built weights leaves outputs ≡ done N) ↔ ((N ≡ record { leaves = leaves; outputs = outputs; weights = weights }) × (accepted N ≡ true))
+    → (built weights leaves outputs ≡ Ok N) ↔ ((N ≡ record { leaves = leaves; outputs = outputs; weights = weights }) × (accepted N ≡ true))
 
 -- an addition is refused as the network with it would be
 pub record AdditionRefused (N : Network) (r : Refusal) : Type 0 where
-  pub weight : (w : ℕ) → (add_weight N w ≡ refused r) ↔ (refusal_of (with_weight N w) ≡ some r)
-  pub leaf : (l : List ℕ) → (add_leaf N l ≡ refused r) ↔ (refusal_of (with_leaf N l) ≡ some r)
-  pub output : (j : ℕ) → (add_output N j ≡ refused r) ↔ (refusal_of (with_output N j) ≡ some r)
+  pub weight : (w : ℕ) → (add_weight N w ≡ Err r) ↔ (refusal_of (with_weight N w) ≡ Some r)
+  pub leaf : (l : List ℕ) → (add_leaf N l ≡ Err r) ↔ (refusal_of (with_leaf N l) ≡ Some r)
+  pub output : (j : ℕ) → (add_output N j ≡ Err r) ↔ (refusal_of (with_output N j) ≡ Some r)
 
 abbrev pub AdditionsRefused : Type 0
 AdditionsRefused = (N : Network) (r : Refusal) → AdditionRefused N r

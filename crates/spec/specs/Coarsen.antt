@@ -1,6 +1,5 @@
 -- A coarser hypergraph: vertices matched in pairs along heavy nets (`coarsen`). Definitions only. Assumes nothing.
-use Rattle.std.specs.Prelude.{Bool, not, ◌&&◌, cond, List, [], ◌∷◌, ◌++◌, map, ℕ, zero, suc, ◌-◌, max, min, eqb, leb, length, get_or, set, replicate, Float}
-use Rattle.std.proofs.Math.Option.{Option, none, some}
+use Rattle.std.specs.Prelude.{Bool, not, ◌&&◌, cond, List, [], ◌∷◌, ◌++◌, map, ℕ, zero, suc, ◌-◌, max, min, eqb, leb, length, get_or, set, replicate, Float, Option, None, Some}
 use Rattle.std.specs.Float.{binary64}
 use Rattle.std.specs.Float.Ieee.{add, mul, div, lt, le, eq}
 use Rattle.spec.specs.Lists.{memb, keep, range}
@@ -73,17 +72,17 @@ module _ (G : Hypergraph) (maxw : Float) where
       let better = lt c.best r && le (add binary64 (vertex_weight G v) (vertex_weight G u)) maxw in
       record {
         best = cond better r c.best;
-        mate = cond better (some u) c.mate;
+        mate = cond better (Some u) c.mate;
         rating = set c.rating u zero_float;
         words = d.words;
       }
 
   abbrev pub choice_of : ℕ → Ratings → Words → Choice
-  choice_of v t ws = fold_over (looked_at v) t.touched (record { best = zero_float; mate = none; rating = t.rating; words = ws })
+  choice_of v t ws = fold_over (looked_at v) t.touched (record { best = zero_float; mate = None; rating = t.rating; words = ws })
 
   abbrev pub mated : ℕ → Option ℕ → List ℕ → List ℕ
-  mated v none mates = set mates v v
-  mated v (some u) mates = set (set mates v u) u v
+  mated v None mates = set mates v v
+  mated v (Some u) mates = set (set mates v u) u v
 
   -- v is matched, unless it has a mate already
   abbrev pub matched : ℕ → Drawn (List ℕ) → Drawn (List ℕ)
@@ -130,7 +129,7 @@ module _ (G : Hypergraph) (maxw : Float) where
   -- none if over 95 of 100 vertices are left
   abbrev pub worthwhile : Level → Option Level
   worthwhile l =
-      cond (lt (mul binary64 (decimal 95 100) (whole_float (vertex_count G))) (whole_float (vertex_count l.graph))) none (some l)
+      cond (lt (mul binary64 (decimal 95 100) (whole_float (vertex_count G))) (whole_float (vertex_count l.graph))) None (Some l)
 
   unfoldable pub coarsen : Words → Drawn (Option Level)
   coarsen ws =

@@ -1,11 +1,12 @@
 -- What is claimed of greedy over any trees, onto any array, and of where bisection is refused. Definitions only; proofs in GreedyFrom and EndLaws of
 -- laws. Assumes nothing.
-use Rattle.std.specs.Prelude.{Bool, true, false, List, [], ◌∷◌, ◌⊎◌, ◌≡◌, ℕ, suc, ◌≤◌, ◌<◌, max, Float, length}
+use Rattle.std.specs.Prelude.{Bool, true, false, List, [], ◌∷◌, ◌⊎◌, ◌≡◌, ℕ, suc, ◌≤◌, ◌<◌, max, Float, length, Err, Ok}
 use Rattle.spec.specs.Lists.{count, range}
 use Rattle.spec.specs.Members.{All}
 use Rattle.spec.specs.Network.{Network, leaf_count}
 use Rattle.spec.specs.Tree.{Tree, Pair}
-use Rattle.spec.specs.Refusal.{Refusal, table_too_wide, draws_exhausted, refused, done}
+use Rattle.spec.specs.declared.Refusal.{Refusal}
+use Rattle.spec.specs.declared.Refusal.TheVariants.{TableTooWide, DrawsExhausted}
 use Rattle.spec.specs.Draws.{Words, Drawn, lent_words}
 use Rattle.spec.specs.Greedy.{Cand, sharing_pairs, least, any_wide, State, merge, by_size, Built, join_all, trees, start_of, leaves_of, greedy_from}
 use Rattle.spec.specs.Hypergraph.{hypergraph_of}
@@ -25,13 +26,13 @@ pub data ReachedFrom (N : Network) (a : List Pair) (ts : List Tree) : ℕ → St
 
 -- LAW G7. It refuses only by 12, and just if it comes to a state in which a pair that shares an index is too wide; else it answers.
 pub record RefusesWideFrom (N : Network) (a : List Pair) (ts : List Tree) : Type 0 where
-  pub only : (r : Refusal) → greedy_from N a ts ≡ refused r → r ≡ table_too_wide
-  pub because : (r : Refusal) → greedy_from N a ts ≡ refused r
+  pub only : (r : Refusal) → greedy_from N a ts ≡ Err r → r ≡ TableTooWide
+  pub because : (r : Refusal) → greedy_from N a ts ≡ Err r
       → (k : ℕ) × (s : State) × ReachedFrom N a ts k s × (any_wide N (pairs_after N (length ts) s) ≡ true)
   pub whenever : (k : ℕ) (s : State) → ReachedFrom N a ts k s → any_wide N (pairs_after N (length ts) s) ≡ true
-      → greedy_from N a ts ≡ refused table_too_wide
+      → greedy_from N a ts ≡ Err TableTooWide
   pub otherwise : ((k : ℕ) (s : State) → ReachedFrom N a ts k s → any_wide N (pairs_after N (length ts) s) ≡ false)
-      → (b : Built) × (greedy_from N a ts ≡ done b)
+      → (b : Built) × (greedy_from N a ts ≡ Ok b)
 
 abbrev pub RefusesFrom : Type 0
 RefusesFrom = (N : Network) (a : List Pair) (ts : List Tree) → RefusesWideFrom N a ts
@@ -45,7 +46,7 @@ pub record AnswersFrom (N : Network) (a : List Pair) (ts : List Tree) (b : Built
   pub joins : join_all N last.pairs (by_size N (trees last.live)) ≡ b
 
 abbrev pub EndsFrom : Type 0
-EndsFrom = (N : Network) (a : List Pair) (ts : List Tree) (b : Built) → greedy_from N a ts ≡ done b → AnswersFrom N a ts b
+EndsFrom = (N : Network) (a : List Pair) (ts : List Tree) (b : Built) → greedy_from N a ts ≡ Ok b → AnswersFrom N a ts b
 
 -- ---- where bisection is refused ----
 
@@ -69,7 +70,7 @@ pub data Comes (N : Network) (eps : Float) (cutoff : ℕ) : List ℕ → List Pa
       → Comes N eps cutoff (left_half d.value leaves) a d.words end onto rest → Comes N eps cutoff leaves a ws end onto rest
   in_right : {leaves : List ℕ} {a : List Pair} {ws : Words} {end : List ℕ} {onto : List Pair} {rest : Words} (d : Drawn (List ℕ))
       → Partitioned N eps cutoff leaves ws d false → TwoHalves leaves d.value
-      → (x : Halved) → bisect_rec N eps cutoff (length (left_half d.value leaves)) (left_half d.value leaves) a d.words ≡ done x
+      → (x : Halved) → bisect_rec N eps cutoff (length (left_half d.value leaves)) (left_half d.value leaves) a d.words ≡ Ok x
       → Comes N eps cutoff (right_half d.value leaves) x.built.pairs x.words end onto rest → Comes N eps cutoff leaves a ws end onto rest
 
 -- a small end: leaves that are at most the cutoff, or of which one half is empty
@@ -92,13 +93,13 @@ pub record WideEnd (N : Network) (i cutoff : ℕ) (words : List ℕ) : Type 0 wh
   pub rest : Words
   pub met : Met N i cutoff words end onto rest
   pub small : SmallEnd N (imbalance i) cutoff end rest
-  pub wide : greedy_from N onto (leaves_of end) ≡ refused table_too_wide
+  pub wide : greedy_from N onto (leaves_of end) ≡ Err TableTooWide
 
 pub record WideAtEnd (N : Network) (i cutoff : ℕ) (words : List ℕ) : Type 0 where
-  pub because : bisection N i cutoff words ≡ refused table_too_wide → WideEnd N i cutoff words
+  pub because : bisection N i cutoff words ≡ Err TableTooWide → WideEnd N i cutoff words
   pub whenever : (end : List ℕ) (onto : List Pair) (rest : Words)
       → Comes N (imbalance i) cutoff (range (leaf_count N)) [] (lent_words words) end onto rest → SmallEnd N (imbalance i) cutoff end rest
-      → greedy_from N onto (leaves_of end) ≡ refused table_too_wide → bisection N i cutoff words ≡ refused table_too_wide
+      → greedy_from N onto (leaves_of end) ≡ Err TableTooWide → bisection N i cutoff words ≡ Err TableTooWide
 
 abbrev pub WideByGreedy : Type 0
 WideByGreedy = (N : Network) (i cutoff : ℕ) (words : List ℕ) → WideAtEnd N i cutoff words
@@ -113,10 +114,10 @@ pub record ExhaustedPart (N : Network) (i cutoff : ℕ) (words : List ℕ) : Typ
   pub exhausted : Partitioned N (imbalance i) cutoff part rest d true
 
 pub record ExhaustedAtDraw (N : Network) (i cutoff : ℕ) (words : List ℕ) : Type 0 where
-  pub because : bisection N i cutoff words ≡ refused draws_exhausted → ExhaustedPart N i cutoff words
+  pub because : bisection N i cutoff words ≡ Err DrawsExhausted → ExhaustedPart N i cutoff words
   pub whenever : (part : List ℕ) (onto : List Pair) (rest : Words) (d : Drawn (List ℕ))
       → Comes N (imbalance i) cutoff (range (leaf_count N)) [] (lent_words words) part onto rest → Partitioned N (imbalance i) cutoff part rest d true
-      → bisection N i cutoff words ≡ refused draws_exhausted
+      → bisection N i cutoff words ≡ Err DrawsExhausted
 
 abbrev pub ExhaustedByDraws : Type 0
 ExhaustedByDraws = (N : Network) (i cutoff : ℕ) (words : List ℕ) → ExhaustedAtDraw N i cutoff words

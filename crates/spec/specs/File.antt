@@ -1,9 +1,10 @@
 -- The network file: its fields, what a reader answers, what a writer writes. Definitions only. Assumes nothing.
-use Rattle.std.specs.Prelude.{Bool, true, false, not, ◌||◌, cond, List, [], ◌∷◌, ◌++◌, ℕ, zero, suc, ◌+◌, ◌-◌, ◌*◌, ◌/◌, ◌%◌, eqb, ltb, leb, length, take, drop}
-use Rattle.std.proofs.Math.Option.{Option, none, some}
+use Rattle.std.specs.Prelude.{Bool, true, false, not, ◌||◌, cond, List, [], ◌∷◌, ◌++◌, ℕ, zero, suc, ◌+◌, ◌-◌, ◌*◌, ◌/◌, ◌%◌, eqb, ltb, leb, length, take, drop, Option, None, Some, Result, Err, Ok}
+use Rattle.spec.specs.declared.Refusal.{Refusal}
+use Rattle.spec.specs.declared.Refusal.TheVariants.{Truncated, WrongTag, TooLarge, Overweight, OutOfRange, Repeated}
 use Rattle.spec.specs.Lists.{memb, anyb}
 use Rattle.spec.specs.Memory.{filled, placed}
-use Rattle.spec.specs.Refusal.{Refusal, truncated, wrong_tag, too_large, overweight, out_of_range, repeated, Check, check, first, Result, refused, done, and_then, checked}
+use Rattle.spec.specs.Refusal.{Check, check, first, and_then, checked}
 use Rattle.spec.specs.Network.{Network, leaf_count, index_count, max_leaves, max_indices, max_legs, max_outputs, max_weight, network_checks}
 use Rattle.spec.specs.Calls.{Lent, lent, length_check, tree_places, tree_check, flags_check}
 
@@ -27,8 +28,8 @@ flag_bytes (target w) = []
 
 -- the given tree: none is a tree with no node
 abbrev pub tree_bytes : Option (List ℕ) → List ℕ
-tree_bytes none = []
-tree_bytes (some kids) = kids
+tree_bytes None = []
+tree_bytes (Some kids) = kids
 
 -- ---- the file of some contents ----
 
@@ -43,8 +44,8 @@ leaf_fields (l ∷ ls) = field 2 l ++ leaf_fields ls
 
 -- "optional 04 tree, two bytes a node"
 abbrev pub tree_field : Option (List ℕ) → List ℕ
-tree_field none = []
-tree_field (some kids) = field 4 kids
+tree_field None = []
+tree_field (Some kids) = field 4 kids
 
 abbrev pub ask_field : Ask → List ℕ
 ask_field plain = []
@@ -92,65 +93,65 @@ pub record Reading : Type 0 where
 
 -- of a field with tag t that says n bytes, where `there` are left: "header, tag, payload all there"
 abbrev pub header_checks : Due → ℕ → ℕ → ℕ → List Check
-header_checks due t n there = check (not (allowed due t)) wrong_tag ∷ check (ltb there n) truncated ∷ []
+header_checks due t n there = check (not (allowed due t)) WrongTag ∷ check (ltb there n) Truncated ∷ []
 
 -- "length and leaf count, then bytes left to right"
 abbrev pub weights_checks : List ℕ → List Check
-weights_checks l = check (ltb max_indices (length l)) too_large ∷ check (anyb (λ w. ltb max_weight w) l) overweight ∷ []
+weights_checks l = check (ltb max_indices (length l)) TooLarge ∷ check (anyb (λ w. ltb max_weight w) l) Overweight ∷ []
 
 -- the indices of a leaf, or the outputs: not below the index count m, or named before
 abbrev pub index_checks : ℕ → List ℕ → List ℕ → List Check
 index_checks m before [] = []
-index_checks m before (j ∷ l) = check (leb m j) out_of_range ∷ check (memb j before) repeated ∷ index_checks m (j ∷ before) l
+index_checks m before (j ∷ l) = check (leb m j) OutOfRange ∷ check (memb j before) Repeated ∷ index_checks m (j ∷ before) l
 
 abbrev pub index_bytes : ℕ → List ℕ → List ℕ → Option Refusal
 index_bytes m before l = first (index_checks m before l)
 
 abbrev pub leaf_checks : Network → List ℕ → List Check
-leaf_checks N l = check (ltb max_legs (length l) || leb max_leaves (leaf_count N)) too_large ∷ index_checks (index_count N) [] l
+leaf_checks N l = check (ltb max_legs (length l) || leb max_leaves (leaf_count N)) TooLarge ∷ index_checks (index_count N) [] l
 
 abbrev pub outputs_checks : Network → List ℕ → List Check
-outputs_checks N l = check (ltb max_outputs (length l)) too_large ∷ index_checks (index_count N) [] l
+outputs_checks N l = check (ltb max_outputs (length l)) TooLarge ∷ index_checks (index_count N) [] l
 
 -- ---- the fields ----
 
 -- a network alone
 abbrev pub bare : Network → Contents
-bare N = record { network = N; tree = none; ask = plain }
+bare N = record { network = N; tree = None; ask = plain }
 
-abbrev pub take_weights : List ℕ → Result Reading
+abbrev pub take_weights : List ℕ → Result Reading Refusal
 take_weights l =
     checked (weights_checks l)
-    (done (record { due = leaves_due; read = bare (record { leaves = []; outputs = []; weights = l }) }))
+    (Ok (record { due = leaves_due; read = bare (record { leaves = []; outputs = []; weights = l }) }))
 
 module _ (N : Network) where
-  abbrev pub take_leaf : List ℕ → Result Reading
+  abbrev pub take_leaf : List ℕ → Result Reading Refusal
   take_leaf l =
       checked (leaf_checks N l)
-      (done (record { due = leaves_due; read = bare (record { leaves = N.leaves ++ (l ∷ []); outputs = []; weights = N.weights }) }))
+      (Ok (record { due = leaves_due; read = bare (record { leaves = N.leaves ++ (l ∷ []); outputs = []; weights = N.weights }) }))
 
-  abbrev pub take_outputs : List ℕ → Result Reading
+  abbrev pub take_outputs : List ℕ → Result Reading Refusal
   take_outputs l =
       checked (outputs_checks N l)
-      (done (record { due = tree_due; read = bare (record { leaves = N.leaves; outputs = l; weights = N.weights }) }))
+      (Ok (record { due = tree_due; read = bare (record { leaves = N.leaves; outputs = l; weights = N.weights }) }))
 
   -- "8 for a tree that is not valid as its field ends"
-  abbrev pub take_tree : List ℕ → Result Reading
+  abbrev pub take_tree : List ℕ → Result Reading Refusal
   take_tree l =
-      checked (tree_check N l ∷ []) (done (record { due = ask_due; read = record { network = N; tree = some l; ask = plain } }))
+      checked (tree_check N l ∷ []) (Ok (record { due = ask_due; read = record { network = N; tree = Some l; ask = plain } }))
 
-  abbrev pub take_flags : Option (List ℕ) → List ℕ → Result Reading
+  abbrev pub take_flags : Option (List ℕ) → List ℕ → Result Reading Refusal
   take_flags tree l =
-      checked (flags_check N l ∷ []) (done (record { due = end_due; read = record { network = N; tree = tree; ask = flagged l } }))
+      checked (flags_check N l ∷ []) (Ok (record { due = end_due; read = record { network = N; tree = tree; ask = flagged l } }))
 
   -- "a target field not of one byte"
-  abbrev pub take_target : Option (List ℕ) → List ℕ → Result Reading
-  take_target tree [] = refused too_large
-  take_target tree (w ∷ []) = done (record { due = end_due; read = record { network = N; tree = tree; ask = target w } })
-  take_target tree (w ∷ v ∷ l) = refused too_large
+  abbrev pub take_target : Option (List ℕ) → List ℕ → Result Reading Refusal
+  take_target tree [] = Err TooLarge
+  take_target tree (w ∷ []) = Ok (record { due = end_due; read = record { network = N; tree = tree; ask = target w } })
+  take_target tree (w ∷ v ∷ l) = Err TooLarge
 
 -- a field whose tag t is allowed
-abbrev pub take_field : Reading → ℕ → List ℕ → Result Reading
+abbrev pub take_field : Reading → ℕ → List ℕ → Result Reading Refusal
 take_field s t l =
     cond (eqb t 1) (take_weights l)
     (cond (eqb t 2) (take_leaf s.read.network l)
@@ -160,11 +161,11 @@ take_field s t l =
 
 -- "The file is checked field by field: header, tag, payload all there, length and leaf count, then bytes left to right". Each field has
 -- three bytes or more, so the file's length is fuel enough.
-abbrev pub read_fields : ℕ → Reading → List ℕ → Result Contents
-read_fields zero s bytes = refused truncated
-read_fields (suc fuel) s [] = cond (may_end s.due) (done s.read) (refused truncated)
-read_fields (suc fuel) s (t ∷ []) = refused truncated
-read_fields (suc fuel) s (t ∷ high ∷ []) = refused truncated
+abbrev pub read_fields : ℕ → Reading → List ℕ → Result Contents Refusal
+read_fields zero s bytes = Err Truncated
+read_fields (suc fuel) s [] = cond (may_end s.due) (Ok s.read) (Err Truncated)
+read_fields (suc fuel) s (t ∷ []) = Err Truncated
+read_fields (suc fuel) s (t ∷ high ∷ []) = Err Truncated
 read_fields (suc fuel) s (t ∷ high ∷ low ∷ bytes) =
     let n = high * 256 + low in
     let rest = and_then (take_field s t (take n bytes)) λ s'. read_fields fuel s' (drop n bytes) in
@@ -176,8 +177,8 @@ nothing_read =
 
 -- "7, for lists the reader fills, at the file's end": the tree's if it has a tree, the flags' if it has flags, one place an index
 abbrev pub tree_lent : Network → ℕ → Option (List ℕ) → List Lent
-tree_lent N places none = []
-tree_lent N places (some kids) = lent places (tree_places N) ∷ []
+tree_lent N places None = []
+tree_lent N places (Some kids) = lent places (tree_places N) ∷ []
 
 abbrev pub flags_lent : Network → ℕ → Ask → List Lent
 flags_lent N flag_places plain = []
@@ -185,18 +186,18 @@ flags_lent N flag_places (flagged l) = lent flag_places (index_count N) ∷ []
 flags_lent N flag_places (target w) = []
 
 -- the reader: places and flag_places are the lengths of the lists that are lent for the tree and the flags
-unfoldable pub read_of : ℕ → ℕ → List ℕ → Result Contents
+unfoldable pub read_of : ℕ → ℕ → List ℕ → Result Contents Refusal
 read_of places flag_places file =
     and_then (read_fields (suc (length file)) nothing_read file) λ c.
-    checked (length_check (tree_lent c.network places c.tree ++ flags_lent c.network flag_places c.ask) ∷ []) (done c)
+    checked (length_check (tree_lent c.network places c.tree ++ flags_lent c.network flag_places c.ask) ∷ []) (Ok c)
 
 -- what the reader writes to the two lists: the children; the flags, and 0 up to one an index
 abbrev pub tree_written : Contents → List ℕ → List ℕ
 tree_written c l = written c.tree
   where
     written : Option (List ℕ) → List ℕ
-    written none = l
-    written (some kids) = placed l 0 kids
+    written None = l
+    written (Some kids) = placed l 0 kids
 
 abbrev pub flags_written : Contents → List ℕ → List ℕ
 flags_written c l = written c.ask
@@ -209,8 +210,8 @@ flags_written c l = written c.ask
 -- ---- writing ----
 
 abbrev pub tree_checks : Network → Option (List ℕ) → List Check
-tree_checks N none = []
-tree_checks N (some kids) = tree_check N kids ∷ []
+tree_checks N None = []
+tree_checks N (Some kids) = tree_check N kids ∷ []
 
 abbrev pub flags_checks : Network → Ask → List Check
 flags_checks N plain = []
@@ -224,10 +225,10 @@ write_checks c size cursor =
     ++ (length_check (lent size (cursor + length (file_of c)) ∷ []) ∷ (tree_checks c.network c.tree ++ flags_checks c.network c.ask))
 
 -- the writer: from the cursor on, into a buffer of `size` bytes; the answer is the cursor past the file
-unfoldable pub write_of : Contents → ℕ → ℕ → Result ℕ
-write_of c size cursor = checked (write_checks c size cursor) (done (cursor + length (file_of c)))
+unfoldable pub write_of : Contents → ℕ → ℕ → Result ℕ Refusal
+write_of c size cursor = checked (write_checks c size cursor) (Ok (cursor + length (file_of c)))
 
 -- "The writer fills only the part of the lent buffer from its cursor on."
-abbrev pub buffer_after : Contents → ℕ → Result ℕ → List ℕ → List ℕ
-buffer_after c cursor (refused r) out = out
-buffer_after c cursor (done next) out = placed out cursor (file_of c)
+abbrev pub buffer_after : Contents → ℕ → Result ℕ Refusal → List ℕ → List ℕ
+buffer_after c cursor (Err r) out = out
+buffer_after c cursor (Ok next) out = placed out cursor (file_of c)

@@ -1,8 +1,7 @@
 -- Refinement of a partition by moves of single vertices (Fiduccia and Mattheyses): `fm`. Definitions only. Assumes nothing.
 -- The Rust has a heap of entries (key, stamp, vertex), and passes over those that are stale. Here each vertex has at most one entry: the same
 -- (FmClaims, law B7).
-use Rattle.std.specs.Prelude.{Bool, true, false, not, ◌&&◌, ◌||◌, cond, List, [], ◌∷◌, ℕ, suc, ◌+◌, ◌-◌, ◌*◌, ◌/◌, eqb, ltb, length, get_or, set, take, replicate, Float}
-use Rattle.std.proofs.Math.Option.{Option, none, some}
+use Rattle.std.specs.Prelude.{Bool, true, false, not, ◌&&◌, ◌||◌, cond, List, [], ◌∷◌, ℕ, suc, ◌+◌, ◌-◌, ◌*◌, ◌/◌, eqb, ltb, length, get_or, set, take, replicate, Float, Option, None, Some}
 use Rattle.std.specs.Float.{binary64}
 use Rattle.std.specs.Float.Ieee.{add, sub, mul, lt, le, eq}
 use Rattle.spec.specs.Lists.{memb, range}
@@ -54,16 +53,16 @@ entry_of q v = record { key = get_or q.keys v zero_float; stamp = get_or q.stamp
 
 -- the entry that comes first, of the first one so far and of v's, if it has one
 abbrev pub or_above : Option Entry → Entry → Entry
-or_above none e = e
-or_above (some b) e = cond (above e b) e b
+or_above None e = e
+or_above (Some b) e = cond (above e b) e b
 
 abbrev pub offered : Queue → ℕ → Option Entry → Option Entry
 offered q v best =
-    let new = some (or_above best (entry_of q v)) in
+    let new = Some (or_above best (entry_of q v)) in
     cond (waits q v) new best
 
 abbrev pub largest : ℕ → Queue → Option Entry
-largest n q = fold_over (offered q) (range n) none
+largest n q = fold_over (offered q) (range n) None
 
 abbrev pub taken_out : ℕ → Queue → Queue
 taken_out v q = record { keys = q.keys; stamps = q.stamps; waiting = set q.waiting v 0; words = q.words }
@@ -155,8 +154,8 @@ module _ (G : Hypergraph) (maxw : Float) where
 
   -- without an entry the pass is over
   abbrev pub turn_of : Option Entry → Pass → Pass
-  turn_of none p = record { sides = p.sides; queue = p.queue; gains = p.gains; over = true }
-  turn_of (some e) p = taken_off e p
+  turn_of None p = record { sides = p.sides; queue = p.queue; gains = p.gains; over = true }
+  turn_of (Some e) p = taken_off e p
 
   abbrev pub pass_turn : Pass → Pass
   pass_turn p = turn_of (largest (vertex_count G) p.queue) p

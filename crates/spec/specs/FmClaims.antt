@@ -1,7 +1,6 @@
 -- What is claimed of gains, and of the heap that the Rust keeps entries in. Definitions only; proofs in GainLaws and HeapLaws of laws.
 -- Assumes nothing.
-use Rattle.std.specs.Prelude.{Bool, true, false, not, ◌&&◌, cond, List, [], ◌∷◌, ◌++◌, map, ◌≡◌, ℕ, suc, ◌^◌, ◌≤◌, ◌<◌, eqb, Float, length, get_or, set, replicate}
-use Rattle.std.proofs.Math.Option.{Option, none, some}
+use Rattle.std.specs.Prelude.{Bool, true, false, not, ◌&&◌, cond, List, [], ◌∷◌, ◌++◌, map, ◌≡◌, ℕ, suc, ◌^◌, ◌≤◌, ◌<◌, eqb, Float, length, get_or, set, replicate, Option, None, Some}
 use Rattle.std.proofs.Math.IntN.{sub_ℕ}
 use Rattle.std.specs.Float.{binary64}
 use Rattle.std.specs.Float.Ieee.{of_int, eq}
@@ -64,8 +63,8 @@ live moves q e = not (memb e.vertex moves) && eqb e.stamp (get_or q.stamps e.ver
 
 -- Entries come off, and stale ones are passed over: the first live one, if there is one, and the heap after it.
 pub data Gives (moves : List ℕ) (q : Queue) : List Entry → Option Entry → List Entry → Type 0 where
-  nothing : Gives moves q [] none []
-  alive : (heap : List Entry) (e : Entry) (rest : List Entry) → ComesOff heap e rest → live moves q e ≡ true → Gives moves q heap (some e) rest
+  nothing : Gives moves q [] None []
+  alive : (heap : List Entry) (e : Entry) (rest : List Entry) → ComesOff heap e rest → live moves q e ≡ true → Gives moves q heap (Some e) rest
   stale : (heap : List Entry) (e : Entry) (rest : List Entry) (o : Option Entry) (last : List Entry) → ComesOff heap e rest → live moves q e ≡ false
       → Gives moves q rest o last → Gives moves q heap o last
 
@@ -97,7 +96,7 @@ HeapRuns = (moves : List ℕ) (q : Queue) (heap : List Entry) → All Numbered h
 -- The heap is still the queue's after an entry was given (its vertex waits no more, whether it moves or not), after a vertex that does not
 -- wait is locked, and after one that is not locked is entered again.
 abbrev pub HeapTaken : Type 0
-HeapTaken = (n : ℕ) (moves : List ℕ) (q : Queue) (heap : List Entry) (e : Entry) (rest : List Entry) → HeapOf n moves q heap → Gives moves q heap (some e) rest
+HeapTaken = (n : ℕ) (moves : List ℕ) (q : Queue) (heap : List Entry) (e : Entry) (rest : List Entry) → HeapOf n moves q heap → Gives moves q heap (Some e) rest
     → HeapOf n moves (taken_out e.vertex q) rest
 
 abbrev pub HeapLocked : Type 0
@@ -138,8 +137,8 @@ pushed_again G part moves u h =
 
 module _ (G : Hypergraph) (maxw : Float) where
   abbrev pub heap_after : Option Entry → List Entry → Pass → List Entry
-  heap_after none rest p = rest
-  heap_after (some e) rest p =
+  heap_after None rest p = rest
+  heap_after (Some e) rest p =
       let t = taken_off G maxw e p in
       let from : Heaped = record { queue = taken_out e.vertex p.queue; heap = rest } in
       let again = (fold_over (pushed_again G t.sides.part t.gains.moves) (all_pins (nets_at G e.vertex)) from).heap in

@@ -1,7 +1,6 @@
 -- What is claimed of the hypergraphs and partitions that bisection comes to: they have what laws B3 and B7 (FmClaims) ask for. Definitions only;
 -- proofs in GraphLaws, SideLaws and PassLaws of laws. Assumes nothing.
-use Rattle.std.specs.Prelude.{true, false, List, map, ◌≡◌, ℕ, ◌*◌, ◌<◌, ◌≤◌, Float, length}
-use Rattle.std.proofs.Math.Option.{Option, some}
+use Rattle.std.specs.Prelude.{true, false, List, map, ◌≡◌, ℕ, ◌*◌, ◌<◌, ◌≤◌, Float, length, Option, Some}
 use Rattle.std.proofs.Math.IntN.{sub_ℕ}
 use Rattle.std.specs.Float.{binary64}
 use Rattle.std.specs.Float.Ieee.{of_int}
@@ -39,12 +38,12 @@ abbrev pub LevelLawful : Type 0
 LevelLawful = (G : Hypergraph) (maxw : Float) (mates : List ℕ) → Lawful G → Lawful (level_of G maxw mates).graph
 
 abbrev pub CoarserLawful : Type 0
-CoarserLawful = (G : Hypergraph) (maxw : Float) (ws : Words) (l : Level) → Lawful G → (coarsen G maxw ws).value ≡ some l → Lawful l.graph
+CoarserLawful = (G : Hypergraph) (maxw : Float) (ws : Words) (l : Level) → Lawful G → (coarsen G maxw ws).value ≡ Some l → Lawful l.graph
 
 -- and so every one that bisection comes to: of any leaves of the network, or coarser than one that it comes to.
 pub data Reached (N : Network) : Hypergraph → Type 0 where
   leaves : (leaves : List ℕ) → Reached N (hypergraph_of N leaves)
-  coarser : (G : Hypergraph) (maxw : Float) (ws : Words) (l : Level) → Reached N G → (coarsen G maxw ws).value ≡ some l → Reached N l.graph
+  coarser : (G : Hypergraph) (maxw : Float) (ws : Words) (l : Level) → Reached N G → (coarsen G maxw ws).value ≡ Some l → Reached N l.graph
 
 abbrev pub ReachedLawful : Type 0
 ReachedLawful = (N : Network) → accepted N ≡ true → (G : Hypergraph) → Reached N G → Lawful G
@@ -65,7 +64,7 @@ abbrev pub RefinedSided : Type 0
 RefinedSided = (G : Hypergraph) (maxw : Float) (k : ℕ) (part : List ℕ) (ws : Words) → Sided (vertex_count G) part → Sided (vertex_count G) (fm G maxw k part ws).value
 
 abbrev pub PlacedSided : Type 0
-PlacedSided = (G : Hypergraph) (maxw : Float) (ws : Words) (l : Level) (part : List ℕ) → (coarsen G maxw ws).value ≡ some l → Sided (vertex_count l.graph) part
+PlacedSided = (G : Hypergraph) (maxw : Float) (ws : Words) (l : Level) (part : List ℕ) → (coarsen G maxw ws).value ≡ Some l → Sided (vertex_count l.graph) part
     → Sided (vertex_count G) (map (side_of part) l.places)
 
 -- and so is what is handed on.
@@ -88,7 +87,7 @@ GainWhole = (G : Hypergraph) (h : Lawful G) (part : List ℕ) → Sided (vertex_
 -- the partitions that refinement starts from: what growth gives, and what is brought from a coarser hypergraph
 pub data Starts (G : Hypergraph) : List ℕ → Type 0 where
   growth : (ws : Words) → Starts G (grown G ws).part
-  brought : (most : Float) (ws : Words) (l : Level) → (coarsen G most ws).value ≡ some l → (fuel : ℕ) (maxw : Float) (later : Words)
+  brought : (most : Float) (ws : Words) (l : Level) → (coarsen G most ws).value ≡ Some l → (fuel : ℕ) (maxw : Float) (later : Words)
       → Starts G (map (side_of (multilevel fuel maxw l.graph later).value) l.places)
 
 -- The passes of `fm` from a partition, at their starts and after each turn, with the Rust's heap.

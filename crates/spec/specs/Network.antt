@@ -1,8 +1,9 @@
 -- Networks: leaves that share weighted indices, and which of them are accepted. Definitions only. Assumes nothing.
-use Rattle.std.specs.Prelude.{Bool, true, false, ◌&&◌, ◌||◌, List, [], ◌∷◌, ◌≡◌, ℕ, ◌^◌, ◌<◌, ltb, leb, length, get_or}
-use Rattle.std.proofs.Math.Option.{Option}
+use Rattle.std.specs.Prelude.{Bool, true, false, ◌&&◌, ◌||◌, List, [], ◌∷◌, ◌≡◌, ℕ, ◌^◌, ◌<◌, ltb, leb, length, get_or, Option, Result, Ok}
+use Rattle.spec.specs.declared.Refusal.{Refusal}
+use Rattle.spec.specs.declared.Refusal.TheVariants.{TooLarge, Overweight, OutOfRange, Repeated}
 use Rattle.spec.specs.Lists.{memb, anyb, range}
-use Rattle.spec.specs.Refusal.{Refusal, too_large, overweight, out_of_range, repeated, Check, check, first, passes}
+use Rattle.spec.specs.Refusal.{Check, check, first, passes, decide}
 
 -- "Made by the file reader, read by all."
 pub record Network : Type 0 where
@@ -79,10 +80,10 @@ network_checks large N =
     (large
     || (ltb max_leaves (leaf_count N)
     || (ltb max_indices (index_count N) || (anyb (λ l. ltb max_legs (length l)) N.leaves || ltb max_outputs (length N.outputs)))))
-    too_large
-    ∷ check (anyb (λ w. ltb max_weight w) N.weights) overweight
-    ∷ check (anyb (any_out_of_range (index_count N)) N.leaves || any_out_of_range (index_count N) N.outputs) out_of_range
-    ∷ check (anyb repeats N.leaves || repeats N.outputs) repeated
+    TooLarge
+    ∷ check (anyb (λ w. ltb max_weight w) N.weights) Overweight
+    ∷ check (anyb (any_out_of_range (index_count N)) N.leaves || any_out_of_range (index_count N) N.outputs) OutOfRange
+    ∷ check (anyb repeats N.leaves || repeats N.outputs) Repeated
     ∷ []
 
 -- "A network that keeps all this, from a file or as a record, is called accepted."
@@ -91,3 +92,7 @@ refusal_of N = first (network_checks false N)
 
 abbrev pub accepted : Network → Bool
 accepted N = passes (refusal_of N)
+
+-- the check of a network as an answer
+abbrev pub accepting : Network → Result (Unit {0}) Refusal
+accepting N = decide (refusal_of N) (Ok tt)

@@ -1,8 +1,9 @@
 -- What is claimed of the refusals and of acceptance. Definitions only; proofs in Accepted and RefusedLaws of laws. Assumes nothing.
-use Rattle.std.specs.Prelude.{true, [], ◌∷◌, ◌↔◌, ◌≡◌, ℕ, ◌≤◌, ◌<◌, length}
-use Rattle.std.proofs.Math.Option.{some}
+use Rattle.std.specs.Prelude.{true, [], ◌∷◌, ◌↔◌, ◌≡◌, ℕ, ◌≤◌, ◌<◌, length, Some}
+use Rattle.spec.specs.declared.Refusal.{Refusal}
+use Rattle.spec.specs.declared.Refusal.TheVariants.{TooLarge, Overweight, OutOfRange, Repeated}
 use Rattle.spec.specs.Lists.{memb, count}
-use Rattle.spec.specs.Refusal.{Refusal, too_large, overweight, out_of_range, repeated, number_of}
+use Rattle.spec.specs.Refusal.{number_of}
 use Rattle.spec.specs.Network.{Network, leaf_count, index_count, weight, legs, InRange, max_leaves, max_indices, max_legs, max_outputs, max_weight, refusal_of, accepted}
 
 -- two refusals have two numbers
@@ -50,11 +51,11 @@ pub data IndexRepeated (N : Network) : Type 0 where
 
 -- "Other calls check by number": which facts each refusal means, and that there are no others
 pub record RefusedFor (N : Network) : Type 0 where
-  pub large : (refusal_of N ≡ some too_large) ↔ CountAbove N
-  pub heavy : (refusal_of N ≡ some overweight) ↔ ((CountAbove N → ⊥) × WeightAbove N)
-  pub range : (refusal_of N ≡ some out_of_range) ↔ ((CountAbove N → ⊥) × (WeightAbove N → ⊥) × IndexBeyond N)
-  pub again : (refusal_of N ≡ some repeated) ↔ ((CountAbove N → ⊥) × (WeightAbove N → ⊥) × (IndexBeyond N → ⊥) × IndexRepeated N)
-  pub others : (r : Refusal) → refusal_of N ≡ some r → memb (number_of r) (3 ∷ 4 ∷ 5 ∷ 6 ∷ []) ≡ true
+  pub large : (refusal_of N ≡ Some TooLarge) ↔ CountAbove N
+  pub heavy : (refusal_of N ≡ Some Overweight) ↔ ((CountAbove N → ⊥) × WeightAbove N)
+  pub range : (refusal_of N ≡ Some OutOfRange) ↔ ((CountAbove N → ⊥) × (WeightAbove N → ⊥) × IndexBeyond N)
+  pub again : (refusal_of N ≡ Some Repeated) ↔ ((CountAbove N → ⊥) × (WeightAbove N → ⊥) × (IndexBeyond N → ⊥) × IndexRepeated N)
+  pub others : (r : Refusal) → refusal_of N ≡ Some r → memb (number_of r) (3 ∷ 4 ∷ 5 ∷ 6 ∷ []) ≡ true
 
 abbrev pub RefusedJust : Type 0
 RefusedJust = (N : Network) → RefusedFor N

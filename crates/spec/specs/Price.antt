@@ -1,7 +1,9 @@
 -- The price list: the indices that a node lists, the steps with their work and size bits, total, widest, slice bits; the indices that
 -- a step drops; orders of the steps. Definitions only. Assumes nothing.
-use Rattle.std.specs.Prelude.{Bool, true, false, not, ◌&&◌, ◌||◌, cond, List, [], ◌∷◌, map, ◌≡◌, ℕ, ◌+◌, ◌-◌, ◌≤◌, ◌<◌, ◌^◌, max, eqb, ltb, length, get_or}
-use Rattle.std.proofs.Math.Option.{Option, none, some}
+use Rattle.std.specs.Prelude.{Bool, true, false, not, ◌&&◌, ◌||◌, cond, List, [], ◌∷◌, map, ◌≡◌, ℕ, ◌+◌, ◌-◌, ◌≤◌, ◌<◌, ◌^◌, max, eqb, ltb, length, get_or, Option, None, Some}
+use Rattle.spec.specs.declared.Total.{Total}
+use Rattle.spec.specs.declared.Total.TheVariants.{Exact, Beyond}
+use Rattle.spec.specs.declared.Prices.{Prices}
 use Rattle.spec.specs.Lists.{memb, count, range, keep, sum_of}
 use Rattle.spec.specs.Members.{All}
 use Rattle.spec.specs.Network.{Network, leaf_count, index_count, weight, legs, named}
@@ -30,8 +32,8 @@ pub record Step : Type 0 where
   pub list : List ℕ
 
 abbrev pub lists_of : Network → Option Tree → List ℕ
-lists_of N none = []
-lists_of N (some t) = lists N t
+lists_of N None = []
+lists_of N (Some t) = lists N t
 
 -- the price list's entry for node v: its list of indices
 abbrev pub list_at : Network → List Pair → ℕ → List ℕ
@@ -91,13 +93,9 @@ taken (c ∷ cs) = c.left ∷ c.right ∷ taken cs
 abbrev pub work : List Step → ℕ
 work l = sum_of (λ c. 2 ^ c.work_bits) l
 
--- "Total: the exact sum of 2 to the work bits, or "beyond" from 2^53 on."
-pub data Total : Type 0 where
-  exact : ℕ → Total
-  beyond : Total
-
+-- Total: the exact sum of 2 to the work bits, or beyond from 2^53 on.
 abbrev pub up_to : ℕ → Total
-up_to x = cond (ltb x (2 ^ 53)) (exact x) beyond
+up_to x = cond (ltb x (2 ^ 53)) (Exact x) Beyond
 
 abbrev pub total : List Step → Total
 total l = up_to (work l)
@@ -110,19 +108,14 @@ largest (x ∷ l) = max x (largest l)
 -- "Widest: the largest size, leaves included, or none without leaves."
 abbrev pub widest : Network → (ℕ → Bool) → List Step → Option ℕ
 widest N flag l =
-    cond (eqb (leaf_count N) 0) none
-    (some (max (largest (map (bits N flag) N.leaves)) (largest (map (λ c. c.size_bits) l))))
+    cond (eqb (leaf_count N) 0) None
+    (Some (max (largest (map (bits N flag) N.leaves)) (largest (map (λ c. c.size_bits) l))))
 
 -- "Slice bits: unsliced weights of the flagged indices."
 abbrev pub slice_bits : Network → (ℕ → Bool) → ℕ
 slice_bits N flag = bits N (λ j. false) (keep flag (range (index_count N)))
 
 -- what pricing answers beside its listing
-pub record Prices : Type 0 where
-  pub total : Total
-  pub widest : Option ℕ
-  pub slice_bits : ℕ
-
 abbrev pub price_of : Network → (ℕ → Bool) → List Pair → Prices
 price_of N flag a =
     record { total = total (listing N flag a); widest = widest N flag (listing N flag a); slice_bits = slice_bits N flag }

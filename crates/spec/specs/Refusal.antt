@@ -1,71 +1,45 @@
 -- The refusals, one data type, with their numbers and words; checks in order; answers. Definitions only. Assumes nothing.
-use Rattle.std.specs.Prelude.{Bool, true, false, cond, List, [], ◌∷◌, ℕ}
-use Rattle.std.proofs.Math.Option.{Option, none, some}
+use Rattle.std.specs.Prelude.{Bool, true, false, cond, List, [], ◌∷◌, ℕ, Option, None, Some, Result, Ok, Err}
+use Rattle.spec.specs.declared.Refusal.{Refusal}
+use Rattle.spec.specs.declared.Refusal.TheVariants.{Truncated, WrongTag, TooLarge, Overweight, OutOfRange, Repeated, ShortBuffer, InvalidTree, InvalidFlags, TotalBeyond, DanglingIndex, TableTooWide, DrawsExhausted}
 use Prim.Native.String.{String}
 
--- "Refusals by number". The scope document's own words for them are `word`'s.
-pub data Refusal : Type 0 where
-  -- a field, or the file before 03, ends early
-  truncated : Refusal
-  -- a tag not allowed at its place
-  wrong_tag : Refusal
-  -- a count above its limit; a target field not of one byte
-  too_large : Refusal
-  -- a weight above 8
-  overweight : Refusal
-  -- an index not below the index count
-  out_of_range : Refusal
-  -- an index repeated in a leaf or the outputs
-  repeated : Refusal
-  -- a workspace or output list shorter than stated
-  short_buffer : Refusal
-  -- a tree not valid, or of odd length
-  invalid_tree : Refusal
-  -- more flags than indices, or a byte over 1
-  invalid_flags : Refusal
-  -- total beyond (improvement, slicing)
-  total_beyond : Refusal
-  -- a non-output index in just one leaf (improvement; slicing with it)
-  dangling_index : Refusal
-  -- a scored pair has a table, or merged table, over 40 bits
-  table_too_wide : Refusal
-  -- a draw is due and no word is left
-  draws_exhausted : Refusal
+-- The refusals themselves are a type of src/, which the code speaks of too; each has a number, and a word in printed text.
 
 abbrev pub number_of : Refusal → ℕ
-number_of truncated = 1
-number_of wrong_tag = 2
-number_of too_large = 3
-number_of overweight = 4
-number_of out_of_range = 5
-number_of repeated = 6
-number_of short_buffer = 7
-number_of invalid_tree = 8
-number_of invalid_flags = 9
-number_of total_beyond = 10
-number_of dangling_index = 11
-number_of table_too_wide = 12
-number_of draws_exhausted = 13
+number_of Truncated = 1
+number_of WrongTag = 2
+number_of TooLarge = 3
+number_of Overweight = 4
+number_of OutOfRange = 5
+number_of Repeated = 6
+number_of ShortBuffer = 7
+number_of InvalidTree = 8
+number_of InvalidFlags = 9
+number_of TotalBeyond = 10
+number_of DanglingIndex = 11
+number_of TableTooWide = 12
+number_of DrawsExhausted = 13
 
 abbrev pub word : Refusal → String
-word truncated = "short"
-word wrong_tag = "tag"
-word too_large = "large"
-word overweight = "weight"
-word out_of_range = "stray"
-word repeated = "twice"
-word short_buffer = "bench"
-word invalid_tree = "tree"
-word invalid_flags = "flag"
-word total_beyond = "dear"
-word dangling_index = "loose"
-word table_too_wide = "wide"
-word draws_exhausted = "spent"
+word Truncated = "short"
+word WrongTag = "tag"
+word TooLarge = "large"
+word Overweight = "weight"
+word OutOfRange = "stray"
+word Repeated = "twice"
+word ShortBuffer = "bench"
+word InvalidTree = "tree"
+word InvalidFlags = "flag"
+word TotalBeyond = "dear"
+word DanglingIndex = "loose"
+word TableTooWide = "wide"
+word DrawsExhausted = "spent"
 
 -- the number that is handed out: 0 for none
 abbrev pub code_of : Option Refusal → ℕ
-code_of none = 0
-code_of (some r) = number_of r
+code_of None = 0
+code_of (Some r) = number_of r
 
 -- ---- checks ----
 
@@ -79,32 +53,29 @@ check b r = record { holds = b; gives = r }
 
 -- "Other calls check by number": the first condition that holds decides
 abbrev pub first : List Check → Option Refusal
-first [] = none
+first [] = None
 first (c ∷ cs) =
     let rest = first cs in
-    cond c.holds (some c.gives) rest
+    cond c.holds (Some c.gives) rest
 
 -- no condition holds
 abbrev pub passes : Option Refusal → Bool
-passes none = true
-passes (some r) = false
+passes None = true
+passes (Some r) = false
 
 -- ---- answers ----
 
--- an answer, or a refusal: "A refusal returns only its number."
-pub data Result (A : Type 0) : Type 0 where
-  refused : Refusal → Result A
-  done : A → Result A
+-- An answer, or a refusal, which returns only its number: std's `Result`.
 
-abbrev pub and_then : {A B : Type 0} → Result A → (A → Result B) → Result B
-and_then (refused k) f = refused k
-and_then (done x) f = f x
+abbrev pub and_then : {A B : Type 0} → Result A Refusal → (A → Result B Refusal) → Result B Refusal
+and_then (Err k) f = Err k
+and_then (Ok x) f = f x
 
 -- the refusal, if there is one; else the answer
-abbrev pub decide : {A : Type 0} → Option Refusal → Result A → Result A
-decide none x = x
-decide (some r) x = refused r
+abbrev pub decide : {A : Type 0} → Option Refusal → Result A Refusal → Result A Refusal
+decide None x = x
+decide (Some r) x = Err r
 
 -- the answer, unless a condition holds: then the first one's refusal
-abbrev pub checked : {A : Type 0} → List Check → Result A → Result A
+abbrev pub checked : {A : Type 0} → List Check → Result A Refusal → Result A Refusal
 checked cs x = decide (first cs) x

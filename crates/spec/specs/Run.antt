@@ -1,8 +1,7 @@
 -- The run of a plan: tables, the store, one step, the run of a list of steps in one setting of the sliced indices; and the direct sum.
 -- Definitions only. Assumes nothing.
-use Rattle.std.specs.Prelude.{Bool, true, not, ◌&&◌, ◌||◌, cond, ℕ, eqb, ltb}
+use Rattle.std.specs.Prelude.{Bool, true, not, ◌&&◌, ◌||◌, cond, ℕ, eqb, ltb, Option, None, Some}
 use mathlib.Core.List.{List, [], ◌∷◌, foldr, map}
-use Rattle.std.proofs.Math.Option.{Option, none, some}
 use Rattle.spec.specs.Semiring.{Semiring}
 use Rattle.spec.specs.Lists.{memb, range, keep}
 use Rattle.spec.specs.Sums.{Assign, upd, sum_over}
@@ -39,19 +38,19 @@ module _ (R : Semiring) where
 
   -- go on with the table that is there; fail if none is
   abbrev pub with_table : Place → (Table → Option Store) → Option Store
-  with_table unmade f = none
+  with_table unmade f = None
   with_table (present A) f = f A
-  with_table used f = none
+  with_table used f = None
 
   -- go on if no table was ever made here; else fail
   abbrev pub if_unmade : Place → Option Store → Option Store
   if_unmade unmade x = x
-  if_unmade (present A) x = none
-  if_unmade used x = none
+  if_unmade (present A) x = None
+  if_unmade used x = None
 
   abbrev pub then_run : Option Store → (Store → Option Store) → Option Store
-  then_run none f = none
-  then_run (some s) f = f s
+  then_run None f = None
+  then_run (Some s) f = f s
 
   -- the table under the number v at the end of a run, read at the cell o
   abbrev pub read_slot : Place → Assign → R.Car
@@ -60,8 +59,8 @@ module _ (R : Semiring) where
   read_slot used o = R.add_unit
 
   abbrev pub read_end : ℕ → Option Store → Assign → R.Car
-  read_end v none o = R.add_unit
-  read_end v (some s) o = read_slot (s v) o
+  read_end v None o = R.add_unit
+  read_end v (Some s) o = read_slot (s v) o
 
   module _ (N : Network) (cells : ℕ → List ℕ → R.Car) where
     -- the table of leaf i
@@ -106,9 +105,9 @@ module _ (R : Semiring) where
           with_table (s c.left) λ A.
           with_table (put s c.left used c.right) λ B.
           if_unmade (put (put s c.left used) c.right used c.made)
-          (some (put (put (put s c.left used) c.right used) c.made (present (contract c.list A B))))
+          (Some (put (put (put s c.left used) c.right used) c.made (present (contract c.list A B))))
 
       -- "the step fails and the run ends"
       abbrev pub run : List Step → Store → Option Store
-      run [] s = some s
+      run [] s = Some s
       run (c ∷ cs) s = then_run (do_step c s) (λ s'. run cs s')

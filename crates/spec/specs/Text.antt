@@ -1,10 +1,12 @@
 -- What the program `plan` writes: the bytes of its lines. Definitions only. Assumes nothing.
-use Rattle.std.specs.Prelude.{cond, List, [], ◌∷◌, ◌++◌, ℕ, zero, suc, ◌+◌, ◌/◌, ◌%◌, ltb}
-use Rattle.std.proofs.Math.Option.{Option, none, some}
+use Rattle.std.specs.Prelude.{cond, List, [], ◌∷◌, ◌++◌, ℕ, zero, suc, ◌+◌, ◌/◌, ◌%◌, ltb, Option, None, Some, Result, Err, Ok}
+use Rattle.spec.specs.declared.Total.{Total}
+use Rattle.spec.specs.declared.Total.TheVariants.{Exact, Beyond}
+use Rattle.spec.specs.declared.Refusal.{Refusal}
 use Prim.Native.Char.{code}
 use Prim.Native.String.{String, [] as none_left, ◌∷◌ as ◌then◌}
-use Rattle.spec.specs.Price.{Step, Total, exact, beyond}
-use Rattle.spec.specs.Refusal.{number_of, Result, refused, done}
+use Rattle.spec.specs.Price.{Step}
+use Rattle.spec.specs.Refusal.{number_of}
 use Rattle.spec.specs.Program.{Printed}
 
 -- the bytes of an ASCII text
@@ -50,13 +52,13 @@ step_line c = line "step" (c.made ∷ c.left ∷ c.right ∷ c.work_bits ∷ c.s
 
 -- No plan's total is beyond: improvement refuses 10 first, and no total rises (`NoneBeyond`).
 abbrev pub total_line : Total → List ℕ
-total_line (exact x) = line "total" (x ∷ [])
-total_line beyond = line "total beyond" []
+total_line (Exact x) = line "total" (x ∷ [])
+total_line Beyond = line "total beyond" []
 
 -- "Without leaves, widest prints "-"."
 abbrev pub widest_line : Option ℕ → List ℕ
-widest_line none = line "widest -" []
-widest_line (some x) = line "widest" (x ∷ [])
+widest_line None = line "widest -" []
+widest_line (Some x) = line "widest" (x ∷ [])
 
 abbrev pub slice_line : ℕ → List ℕ
 slice_line j = line "slice" (j ∷ [])
@@ -75,6 +77,6 @@ plan_text p =
 abbrev pub refused_line : ℕ → List ℕ
 refused_line number = line "refused" (number ∷ [])
 
-abbrev pub output_of : Result Printed → List ℕ
-output_of (refused r) = refused_line (number_of r)
-output_of (done p) = plan_text p
+abbrev pub output_of : Result Printed Refusal → List ℕ
+output_of (Err r) = refused_line (number_of r)
+output_of (Ok p) = plan_text p

@@ -1,8 +1,6 @@
 -- Contraction trees, as arrays of pairs of children; the walk, validity, step order, and sameness of plans. Definitions only.
 -- Assumes nothing.
-use Rattle.std.specs.Prelude.{Bool, false, not, ◌&&◌, ◌||◌, cond, List, [], ◌∷◌, ◌++◌, ◌≡◌, ℕ, zero, suc, ◌+◌, ◌-◌, ◌≤◌, ◌<◌, eqb, ltb, length}
-use Rattle.std.proofs.Math.Option.{Option, none, some}
-use Rattle.std.proofs.Math.ListN.{get_elem?}
+use Rattle.std.specs.Prelude.{Bool, false, not, ◌&&◌, ◌||◌, cond, List, [], ◌∷◌, ◌++◌, ◌≡◌, ℕ, zero, suc, ◌+◌, ◌-◌, ◌≤◌, ◌<◌, eqb, ltb, length, Option, None, Some, slice_get}
 use Rattle.spec.specs.Lists.{memb, allb, count, from, range, anyb}
 
 -- a contraction tree, with its node numbers
@@ -36,21 +34,21 @@ pub record Pair : Type 0 where
   pub right : ℕ
 
 abbrev pub both : ℕ → Option Tree → Option Tree → Option Tree
-both v none y = none
-both v (some l) none = none
-both v (some l) (some r) = some (node v l r)
+both v None y = None
+both v (Some l) None = None
+both v (Some l) (Some r) = Some (node v l r)
 
 abbrev pub grow : ℕ → Option Pair → (ℕ → Option Tree) → Option Tree
-grow v none w = none
-grow v (some p) w = both v (w p.left) (w p.right)
+grow v None w = None
+grow v (Some p) w = both v (w p.left) (w p.right)
 
 -- The walk from v, over n leaves and the array's inner nodes (node n + j is the array's place j), at most `fuel` nodes deep.
 -- It fails where a number is no node's, or the fuel ends.
 abbrev pub walk : ℕ → List Pair → ℕ → ℕ → Option Tree
-walk n a zero v = none
+walk n a zero v = None
 walk n a (suc fuel) v =
-    let below = grow v (get_elem? a (v - n)) (λ u. walk n a fuel u) in
-    cond (ltb v n) (some (leaf v)) below
+    let below = grow v (slice_get a (v - n)) (λ u. walk n a fuel u) in
+    cond (ltb v n) (Some (leaf v)) below
 
 -- the tree below node v. No path of it can have more nodes than the array has inner nodes, and a leaf.
 unfoldable pub tree_at : ℕ → List Pair → ℕ → Option Tree
@@ -62,8 +60,8 @@ root n a = n + length a - 1
 
 -- the walk meets every number from 0 to m - 1 once, and no other
 abbrev pub meets_all : ℕ → Option Tree → Bool
-meets_all m none = false
-meets_all m (some t) = allb (λ v. eqb (count v (numbers t)) 1) (range m) && allb (λ v. ltb v m) (numbers t)
+meets_all m None = false
+meets_all m (Some t) = allb (λ v. eqb (count v (numbers t)) 1) (range m) && allb (λ v. ltb v m) (numbers t)
 
 -- "Valid: for n = 0, no internal node; else n−1 internal nodes and a walk from the root meets every node once and no number above the
 -- root's."
@@ -72,15 +70,15 @@ valid zero a = eqb (length a) 0
 valid (suc m) a = eqb (length a) m && meets_all (suc m + length a) (tree_at (suc m) a (root (suc m) a))
 
 abbrev pub inner_of : Option Tree → List ℕ
-inner_of none = []
-inner_of (some t) = inner t
+inner_of None = []
+inner_of (Some t) = inner t
 
 -- ---- what it is for an array to describe a tree: no walk, no fuel ----
 
 abbrev pub Describes : ℕ → List Pair → Tree → Type 0
 Describes n a (leaf i) = i < n
 Describes n a (node v l r) =
-    (n ≤ v) × (get_elem? a (v - n) ≡ some (record { left = number l; right = number r })) × Describes n a l × Describes n a r
+    (n ≤ v) × (slice_get a (v - n) ≡ Some (record { left = number l; right = number r })) × Describes n a l × Describes n a r
 
 -- the tree t has the numbers from 0 to the root's, each once
 pub record ValidTree (n : ℕ) (a : List Pair) (t : Tree) : Type 0 where
@@ -109,8 +107,8 @@ step_order kids n = inner_of (tree_at n (pairs_of kids) (root n (pairs_of kids))
 -- ---- sameness ----
 
 abbrev pub below_of : Option Tree → ℕ → Bool
-below_of none i = false
-below_of (some t) i = below t i
+below_of None i = false
+below_of (Some t) i = below t i
 
 -- node v of a and node w of b have the same leaves below
 abbrev pub SameLeaves : ℕ → List Pair → List Pair → ℕ → ℕ → Type 0
@@ -140,6 +138,6 @@ same_plan n a b = within n a b && within n b a
 pub record Renumbers (n : ℕ) (a b : List Pair) (π : ℕ → ℕ) : Type 0 where
   pub leaves : (i : ℕ) → i < n → π i ≡ i
   pub nodes : (v : ℕ) → n ≤ v → n ≤ π v
-  pub pairs : (v : ℕ) (p : Pair) → n ≤ v → get_elem? a (v - n) ≡ some p
-      → get_elem? b (π v - n) ≡ some (record { left = π p.left; right = π p.right })
+  pub pairs : (v : ℕ) (p : Pair) → n ≤ v → slice_get a (v - n) ≡ Some p
+      → slice_get b (π v - n) ≡ Some (record { left = π p.left; right = π p.right })
   pub top : π (root n a) ≡ root n b

@@ -1,9 +1,9 @@
 -- What pricing with records promises: its answer, and each lent list afterwards. Assumes nothing.
-use Rattle.std.specs.Prelude.{List, map, ◌≡◌, refl, ℕ, ◌*◌, ◌≤◌, length, take}
+use Rattle.std.specs.Prelude.{List, map, ◌≡◌, refl, ℕ, ◌*◌, ◌≤◌, length, take, Result, Err, Ok}
 use Rattle.std.proofs.Common.{sym, ◌∙◌, subst, arith}
 use Rattle.std.proofs.Math.Path.{ap}
 use Rattle.spec.specs.Memory.{over}
-use Rattle.spec.specs.Refusal.{Result, refused, done}
+use Rattle.spec.specs.declared.Refusal.{Refusal}
 use Rattle.spec.specs.Network.{Network, index_count}
 use Rattle.spec.specs.Tree.{pairs_of}
 use Rattle.spec.specs.Price as price
@@ -22,11 +22,11 @@ use Rattle.steps.specs.Records.{steps_of, record_of, numbers_of, steps_are_recor
 use Rattle.steps.specs.Listed.{count_in, records_call, Follows, answered, follows_priced}
 
 -- the records afterwards: the steps in front, and every other record as it was
-abbrev pub priced_records : Network → (flags kids : List ℕ) → Result price.Prices → List Step → List Step
+abbrev pub priced_records : Network → (flags kids : List ℕ) → Result price.Prices Refusal → List Step → List Step
 priced_records N flags kids c l = list_after c (λ p. map record_of (listing N (flag_at flags) (pairs_of kids))) l
 
 -- the answer and the lists follow the call c, and the records that are handed out are sound
-pub record HandedOut (N : Network) (flags kids : List ℕ) (c : Result price.Prices) (ws₀ sets₀ sizes₀ works₀ : List ℕ) (steps₀ : List Step)
+pub record HandedOut (N : Network) (flags kids : List ℕ) (c : Result price.Prices Refusal) (ws₀ sets₀ sizes₀ works₀ : List ℕ) (steps₀ : List Step)
     (ws sets sizes works : List ℕ) (steps : List Step) (r : Priced) : Type 0 where
   pub answer : r ≡ answer_of c
   pub steps_are : steps ≡ priced_records N flags kids c steps₀
@@ -34,7 +34,7 @@ pub record HandedOut (N : Network) (flags kids : List ℕ) (c : Result price.Pri
   pub sizes_are : sizes ≡ priced_sizes N flags kids c sizes₀
   pub works_are : works ≡ priced_works N flags kids c works₀
   pub workspace : ws ≡ workspace_after plain_words c ws₀
-  pub sound : (p : price.Prices) → c ≡ done p → ListingSound set_words N (flag_at flags) (pairs_of kids) sets (numbers_of steps)
+  pub sound : (p : price.Prices) → c ≡ Ok p → ListingSound set_words N (flag_at flags) (pairs_of kids) sets (numbers_of steps)
 
 -- the whole promise: the call is pricing's, for a list of so many records
 abbrev pub StepRecords : (N : Network) (flags kids ws₀ sets₀ sizes₀ works₀ : List ℕ) (steps₀ : List Step) (ws sets sizes works : List ℕ) (steps : List Step) → Priced → Type 0
@@ -43,12 +43,12 @@ StepRecords N flags kids ws₀ sets₀ sizes₀ works₀ steps₀ ws sets sizes 
     ws₀ sets₀ sizes₀ works₀ steps₀ ws sets sizes works steps r
 
 module _ (N : Network) (flags kids ws₀ sets₀ sizes₀ works₀ : List ℕ) (steps₀ : List Step) where
-  abbrev call : Result price.Prices
+  abbrev call : Result price.Prices Refusal
   call = records_call N (length ws₀) (length sets₀) (length sizes₀) (length works₀) (length steps₀) flags kids
 
   module _ {ws sets sizes works : List ℕ} {l : Listed} (f : Follows N flags kids call ws₀ sets₀ sizes₀ works₀ ws sets sizes works l) where
     -- where pricing answers
-    module _ (p : price.Prices) (e : call ≡ done p) where
+    module _ (p : price.Prices) (e : call ≡ Ok p) where
       long : length (listing N (flag_at flags) (pairs_of kids)) ≡ step_places N
       long = listing_length_lem N (flag_at flags) (pairs_of kids) (answered N (length ws₀) (length sets₀) (length sizes₀) (length works₀) flags kids (length steps₀ * 5) p e).0
 
@@ -71,10 +71,10 @@ module _ (N : Network) (flags kids ws₀ sets₀ sizes₀ works₀ : List ℕ) (
           subst (λ (z : List ℕ). RunsToDirectSum ℤ_semiring N tables (flag_at flags) (pairs_of kids) (steps_in (set_at sets set_words (index_count N)) z)) w
           (f.sound p e two s tables)
 
-    records_are : (c : Result price.Prices) → call ≡ c → over steps₀ (steps_of l.numbers l.count) ≡ priced_records N flags kids c steps₀
+    records_are : (c : Result price.Prices Refusal) → call ≡ c → over steps₀ (steps_of l.numbers l.count) ≡ priced_records N flags kids c steps₀
     unfolding steps_of
-    records_are (refused r) e = ap (λ (n : ℕ). over steps₀ (steps_of l.numbers n)) (f.none_refused r e) ∙ over-nil steps₀
-    records_are (done p) e = ap (over steps₀) (records p e)
+    records_are (Err r) e = ap (λ (n : ℕ). over steps₀ (steps_of l.numbers n)) (f.none_refused r e) ∙ over-nil steps₀
+    records_are (Ok p) e = ap (over steps₀) (records p e)
 
     -- what stands in the lists once the steps are put into the records
     pub handed_out : {steps : List Step} {r : Priced} → steps ≡ over steps₀ (steps_of l.numbers l.count) → r ≡ l.priced
@@ -92,10 +92,10 @@ module _ (N : Network) (flags kids ws₀ sets₀ sizes₀ works₀ : List ℕ) (
 -- the listing that `tree_cost` hands out, as `put_steps` reads it: a record for each internal node, in step order
 pub priced_steps : {ws sets sizes works numbers : List ℕ} {x : Priced} (N : Network) (flags kids ws₀ sets₀ sizes₀ works₀ numbers₀ : List ℕ) (p : price.Prices)
     → TreeCost N flags kids ws₀ sets₀ sizes₀ works₀ numbers₀ ws sets sizes works numbers x
-    → price_call N (length ws₀) (room (length sets₀) (length sizes₀) (length works₀) (length numbers₀)) flags kids ≡ done p
+    → price_call N (length ws₀) (room (length sets₀) (length sizes₀) (length works₀) (length numbers₀)) flags kids ≡ Ok p
     → steps_of numbers (step_places N) ≡ map record_of (listing N (flag_at flags) (pairs_of kids))
 priced_steps {ws} {sets} {sizes} {works} {numbers} {x} N flags kids ws₀ sets₀ sizes₀ works₀ numbers₀ p t e =
-    let c : Result price.Prices = price_call N (length ws₀) (room (length sets₀) (length sizes₀) (length works₀) (length numbers₀)) flags kids in
+    let c : Result price.Prices Refusal = price_call N (length ws₀) (room (length sets₀) (length sizes₀) (length works₀) (length numbers₀)) flags kids in
     let f = follows_priced N flags kids ws₀ sets₀ sizes₀ works₀ {count = count_in x (step_places N)} c numbers₀ refl t refl in
     let (v, h) = answered N (length ws₀) (length sets₀) (length sizes₀) (length works₀) flags kids (length numbers₀) p e in
     steps_are_records (listing N (flag_at flags) (pairs_of kids)) numbers (step_places N) (listing_length_lem N (flag_at flags) (pairs_of kids) v) (f.all_done p e).1

@@ -1,8 +1,7 @@
 -- The tables, filled, have the search's answer and its count. Assumes nothing.
-use Rattle.std.specs.Prelude.{Bool, ◌&&◌, ◌||◌, ◌≡◌, refl, ℕ, suc, ◌+◌, ◌-◌, ◌*◌, ◌^◌, ◌≤◌, ◌<◌, ltb, length, get_or}
+use Rattle.std.specs.Prelude.{Bool, ◌&&◌, ◌||◌, ◌≡◌, refl, ℕ, suc, ◌+◌, ◌-◌, ◌*◌, ◌^◌, ◌≤◌, ◌<◌, ltb, length, get_or, Option, None, Some}
 use Rattle.std.proofs.Math.Bool.{or_self}
 use mathlib.Core.List.{List, []}
-use Rattle.std.proofs.Math.Option.{Option, none, some}
 use Rattle.std.proofs.Math.Path.{sym, ap₂}
 use Rattle.std.proofs.Common.{ap, ◌∙◌, subst, arith, lt-ltb, le-ltb, ltb-false}
 use Rattle.spec.specs.Lists.{keep, range}
@@ -46,10 +45,10 @@ limit_is x w h =
 
 found_is : (ws : List ℕ) (n cost : ℕ) (best : ℕ → ℕ) (o : Option Found) → cost ≡ best (n - 1) → Stands best (region_of (split_at ws n)) (n - 1) o → found_at ws n cost ≡ o
 unfolding found_at
-found_is ws n cost best none e h = rw (le-ltb cost infinite (omega arith))
-found_is ws n cost best (some f) e h =
+found_is ws n cost best None e h = rw (le-ltb cost infinite (omega arith))
+found_is ws n cost best (Some f) e h =
     rw (lt-ltb cost infinite (omega (arith, h.0, h.1)))
-    (ap some (λ i. record { cost = (e ∙ h.0) i; tree = sym h.2 i }))
+    (ap Some (λ i. record { cost = (e ∙ h.0) i; tree = sym h.2 i }))
 
 module _ (was united kept ws wt : List ℕ) (n m limit tried : ℕ) (masks : n ≡ 2 ^ m) (some_members : 1 ≤ m) (few : n ≤ 4096) (light : Light wt)
     (u : United was united n n) (k : KeptBelow united kept wt n n)

@@ -1,8 +1,7 @@
 -- Filled tables stand for the search: every mask's entry is the answer for its members, with the tree that the splits describe.
 -- Assumes nothing.
-use Rattle.std.specs.Prelude.{Bool, true, false, ◌≡◌, refl, ℕ, zero, suc, ◌-◌, ◌/◌, ◌%◌, ◌^◌, ◌≤◌, ◌<◌, eqb, length}
+use Rattle.std.specs.Prelude.{Bool, true, false, ◌≡◌, refl, ℕ, zero, suc, ◌-◌, ◌/◌, ◌%◌, ◌^◌, ◌≤◌, ◌<◌, eqb, length, Option, None, Some}
 use mathlib.Core.List.{List, [], ◌∷◌, head-eq_of_cons-eq}
-use Rattle.std.proofs.Math.Option.{Option, none, some}
 use Rattle.std.proofs.Common.{sym, ap, ◌∙◌, subst, arith, eqb-true}
 use Rattle.std.specs.Int.Bits.{bit_and}
 use Rattle.std.proofs.lemmas.Nat.{and_le_r}
@@ -50,8 +49,8 @@ module _ (n m : ℕ) (has : ℕ → ℕ → Bool) (ext : ℕ → Bool) (weigh : 
     answer s = cheapest m has ext weigh limited (suc n) (places_from 0 n s)
 
     from_choice : (s : ℕ) (o : Option Found) (c : Choice) → best s ≡ c.cost → split s ≡ c.part → Chosen tree s o c → Stands best tree s o
-    from_choice s none c e f h = omega arith
-    from_choice s (some a) c e f h = (
+    from_choice s None c e f h = omega arith
+    from_choice s (Some a) c e f h = (
       e ∙ h.0,
       h.1,
       h.4 ∙ ap (λ x. join (tree x) (tree (s - x))) (sym f) ∙ sym (region_split split s (split_is split s (omega (arith, h.2)) (omega (arith, h.3)))),

@@ -1,8 +1,7 @@
 -- What is printed of a plan depends on the flags of the network's indices only. Assumes nothing.
-use Rattle.std.specs.Prelude.{◌≡◌, refl, Bool, true, false, ◌||◌, cond, List, [], ◌∷◌, map, ℕ, ◌+◌, ◌<◌, max, eqb}
+use Rattle.std.specs.Prelude.{◌≡◌, refl, Bool, true, false, ◌||◌, cond, List, [], ◌∷◌, map, ℕ, ◌+◌, ◌<◌, max, eqb, Option, None, Some}
 use Rattle.std.proofs.Common.{sym, ap, ap₂, ◌∙◌, arith}
 use Rattle.std.proofs.lemmas.Simd.{map-map}
-use Rattle.std.proofs.Math.Option.{Option, none, some}
 use Rattle.std.proofs.Math.Decide.{dec_le}
 use Rattle.std.proofs.Math.ListN.{get_or-eq_default}
 use Rattle.spec.specs.Lists.{memb, range, keep}
@@ -33,9 +32,9 @@ module _ (N : Network) (within : InRange N) (f g : ℕ → Bool) (same : (j : �
       ]
 
   lists_low : (t : Option Tree) (j : ℕ) → memb j (lists_of N t) ≡ true → j < index_count N
-  lists_low none j e = clash e refl
-  lists_low (some (leaf i)) j e = legs_low i j e
-  lists_low (some (node v l r)) j e = kept_below (kept N (node v l r)) (index_count N) j e
+  lists_low None j e = clash e refl
+  lists_low (Some (leaf i)) j e = legs_low i j e
+  lists_low (Some (node v l r)) j e = kept_below (kept N (node v l r)) (index_count N) j e
 
   step_same : (a : List Pair) (v : ℕ) → step_at N f a v ≡ step_at N g a v
   step_same a v =
@@ -73,8 +72,8 @@ module _ (N : Network) (within : InRange N) (f g : ℕ → Bool) (same : (j : �
       λ i.
       record {
         total = total (listing_same a i);
-        widest = cond (eqb (leaf_count N) 0) none
-            (some (max (largest (leaves_same i)) (largest (map (λ c. c.size_bits) (listing_same a i)))));
+        widest = cond (eqb (leaf_count N) 0) None
+            (Some (max (largest (leaves_same i)) (largest (map (λ c. c.size_bits) (listing_same a i)))));
         slice_bits = bits N (λ j. false) (slices_same i);
       }
 

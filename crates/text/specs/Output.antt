@@ -1,11 +1,10 @@
 -- The program's output: after pricing a plan's tree with flags that agree with the plan's, `put_plan` leaves the definition's bytes in front
 -- of the buffer. Assumes nothing.
-use Rattle.std.specs.Prelude.{◌≡◌, true, List, ℕ, ◌*◌, ◌≤◌, ◌<◌, length}
+use Rattle.std.specs.Prelude.{◌≡◌, true, List, ℕ, ◌*◌, ◌≤◌, ◌<◌, length, Ok}
 use Rattle.std.proofs.Common.{subst}
 use Rattle.spec.specs.Memory.{over}
 use Rattle.spec.specs.Network.{Network, leaf_count, index_count, InRange}
 use Rattle.spec.specs.Tree.{valid}
-use Rattle.spec.specs.Refusal.{done}
 use Rattle.spec.specs.Calls.{flag_at, node_places, step_places}
 use Rattle.spec.specs.Slicing.{Plan}
 use Rattle.spec.specs.Program.{Printed, printed}
@@ -25,7 +24,7 @@ module _ (W : ℕ) (N : Network) (within : InRange N) (fits : index_count N ≤ 
   -- THE BYTES THAT ARE WRITTEN ARE THE PLAN'S OUTPUT
   pub plan_output : {out after : List ℕ} {n : ℕ}
       → Put out after 0 n (plan_text (printed_from (leaf_count N) (index_count N) W r steps sets flags p.rebuilt p.tried))
-      → (after ≡ over out (output_of (done (printed N p)))) × (n ≡ length (output_of (done (printed N p))))
+      → (after ≡ over out (output_of (Ok (printed N p)))) × (n ≡ length (output_of (Ok (printed N p))))
   plan_output {out} {after} {n} q =
       let e : printed N (plan_from p.tree flags p.rebuilt p.tried) ≡ printed N p =
       printed_same N within (flag_at flags) p.flag agree p.tree p.rebuilt p.tried in

@@ -1,17 +1,17 @@
 -- What pricing leaves in the lent lists is the plan that is printed. Assumes nothing.
-use Rattle.std.specs.Prelude.{◌≡◌, refl, Bool, true, List, [], ◌∷◌, map, eqb, get_or}
+use Rattle.std.specs.Prelude.{◌≡◌, refl, Bool, true, List, [], ◌∷◌, map, eqb, get_or, Ok}
 use Rattle.std.proofs.Math.Path.{sym, subst}
 use Rattle.std.proofs.Common.{ap, ◌∙◌, arith}
 use Prim.Native.Nat.{ℕ, zero, suc, ◌+◌, ◌*◌, ◌-◌, ◌≤◌, ◌<◌}
 use Rattle.std.proofs.Math.Nat.{zero-add}
 use Rattle.std.proofs.Math.ListN.{length}
+use Rattle.spec.specs.declared.Prices.{Prices}
 use Rattle.std.proofs.Math.Seq.{ext_get_or}
 use Rattle.spec.specs.Lists.{memb, range, keep}
 use Rattle.spec.specs.Memory.{over, placed}
 use Rattle.spec.specs.Network.{Network, leaf_count, index_count}
 use Rattle.spec.specs.Tree.{Pair, node, valid}
-use Rattle.spec.specs.Price.{Step, list_at, step_at, listing, flat_steps, made_nodes, kept, Prices, price_of, Orders}
-use Rattle.spec.specs.Refusal.{done}
+use Rattle.spec.specs.Price.{Step, list_at, step_at, listing, flat_steps, made_nodes, kept, price_of, Orders}
 use Rattle.spec.specs.Calls.{flag_at, node_places, step_places}
 use Rattle.spec.specs.Slicing.{Plan}
 use Rattle.spec.specs.Program.{Printed, printed}
@@ -134,7 +134,7 @@ module _ (W : ℕ) (N : Network) (flag : ℕ → Bool) (a : List Pair) (fine : v
       (λ k h. map_range_at f no_step (step_places N) k (omega arith) ∙ step_is k (omega arith))
 
 prices_are : (h : HandedPrices) (p : Prices) → h ≡ prices_of p → prices_from h ≡ p
-prices_are h p e = sym (done_same p (prices_from h) (of_done (done p) (ap Done e)))
+prices_are h p e = sym (done_same p (prices_from h) (of_done (Ok p) (ap Done e)))
 
 -- ---- what is printed ----
 

@@ -1,11 +1,12 @@
 -- What the entries answer: number and values of each case; the calls once the network is accepted; laws of both. Assumes nothing.
-use Rattle.std.specs.Prelude.{◌≡◌, refl, Bool, true, false, not, ◌||◌, ℕ, ◌-◌, ◌≤◌, ◌<◌, ltb, length}
+use Rattle.std.specs.Prelude.{◌≡◌, refl, Bool, true, false, not, ◌||◌, ℕ, ◌-◌, ◌≤◌, ◌<◌, ltb, length, None, Result, Err, Ok}
 use Rattle.std.proofs.Common.{◌∙◌}
 use Rattle.std.proofs.Math.Path.{ap}
 use mathlib.Core.List.{List, [], ◌∷◌}
-use Rattle.std.proofs.Math.Option.{none}
+use Rattle.spec.specs.declared.Refusal.TheVariants.{InvalidTree}
+use Rattle.spec.specs.declared.Refusal.{Refusal}
 use borrow.Author.Tests.{lt-ltb, le-ltb, not-true, not-false}
-use Rattle.spec.specs.Refusal.{invalid_tree, number_of, code_of, Check, check, Result, refused, done, checked}
+use Rattle.spec.specs.Refusal.{number_of, code_of, Check, check, checked}
 use Rattle.spec.specs.Network.{Network, leaf_count, refusal_of}
 use Rattle.spec.specs.Memory.{cleared}
 use Rattle.spec.specs.Tree.{step_order, same_plan, pairs_of}
@@ -21,39 +22,39 @@ use Rattle.tree.specs.declared.Same.{Same}
 -- ---- answers ----
 
 -- refused by number, or valid
-abbrev pub validity_of : Result (Unit {0}) → Validity
-validity_of (refused r) = Validity.Refused (number_of r)
-validity_of (done x) = Valid
+abbrev pub validity_of : Result (Unit {0}) Refusal → Validity
+validity_of (Err r) = Validity.Refused (number_of r)
+validity_of (Ok x) = Valid
 
 -- refused by number, or so many steps
-abbrev pub ordered_of : Result (List ℕ) → Ordered
-ordered_of (refused r) = Ordered.Refused (number_of r)
-ordered_of (done steps) = Ordered.Done (length steps)
+abbrev pub ordered_of : Result (List ℕ) Refusal → Ordered
+ordered_of (Err r) = Ordered.Refused (number_of r)
+ordered_of (Ok steps) = Ordered.Done (length steps)
 
 -- refused by number, or whether it is the same plan
-abbrev pub same_of : Result Bool → Same
-same_of (refused r) = Same.Refused (number_of r)
-same_of (done b) = Same.Done b
+abbrev pub same_of : Result Bool Refusal → Same
+same_of (Err r) = Same.Refused (number_of r)
+same_of (Ok b) = Same.Done b
 
 -- ---- the calls on n leaves, the network's own checks aside ----
 
 abbrev pub right_tree : ℕ → List ℕ → Check
-right_tree n kids = check (wrong_tree n kids) invalid_tree
+right_tree n kids = check (wrong_tree n kids) InvalidTree
 
-unfoldable pub valid_in : ℕ → ℕ → List ℕ → Result (Unit {0})
-valid_in n words kids = checked (length_check (lent words plain_words ∷ []) ∷ right_tree n kids ∷ []) (done tt)
+unfoldable pub valid_in : ℕ → ℕ → List ℕ → Result (Unit {0}) Refusal
+valid_in n words kids = checked (length_check (lent words plain_words ∷ []) ∷ right_tree n kids ∷ []) (Ok tt)
 
-unfoldable pub order_in : ℕ → ℕ → ℕ → List ℕ → Result (List ℕ)
+unfoldable pub order_in : ℕ → ℕ → ℕ → List ℕ → Result (List ℕ) Refusal
 order_in n words places kids =
-    checked (length_check (lent words plain_words ∷ lent places (n - 1) ∷ []) ∷ right_tree n kids ∷ []) (done (step_order kids n))
+    checked (length_check (lent words plain_words ∷ lent places (n - 1) ∷ []) ∷ right_tree n kids ∷ []) (Ok (step_order kids n))
 
 -- two trees, once the workspace is long enough
-unfoldable pub compared : ℕ → List ℕ → List ℕ → Result Bool
-compared n kids others = checked (right_tree n kids ∷ right_tree n others ∷ []) (done (same_plan n (pairs_of kids) (pairs_of others)))
+unfoldable pub compared : ℕ → List ℕ → List ℕ → Result Bool Refusal
+compared n kids others = checked (right_tree n kids ∷ right_tree n others ∷ []) (Ok (same_plan n (pairs_of kids) (pairs_of others)))
 
-unfoldable pub same_in : ℕ → ℕ → List ℕ → List ℕ → Result Bool
+unfoldable pub same_in : ℕ → ℕ → List ℕ → List ℕ → Result Bool Refusal
 same_in n words kids others =
-    checked (length_check (lent words plain_words ∷ []) ∷ right_tree n kids ∷ right_tree n others ∷ []) (done (same_plan n (pairs_of kids) (pairs_of others)))
+    checked (length_check (lent words plain_words ∷ []) ∷ right_tree n kids ∷ right_tree n others ∷ []) (Ok (same_plan n (pairs_of kids) (pairs_of others)))
 
 was_wrong : (b w : Bool) → b ≡ not w → b ≡ false → w ≡ true
 was_wrong b true e f = refl
@@ -73,20 +74,20 @@ long_words words h = rw (le-ltb words plain_words h)
 module _ (n words : ℕ) (kids : List ℕ) where
   pub valid_short : words < plain_words → Untouched 7 (valid_in n words kids)
   unfolding valid_in
-  valid_short h = by_length (lent words plain_words ∷ []) (right_tree n kids ∷ []) (done tt) (short_words words h)
+  valid_short h = by_length (lent words plain_words ∷ []) (right_tree n kids ∷ []) (Ok tt) (short_words words h)
 
   module _ (h : plain_words ≤ words) (b : Bool) (e : b ≡ not (wrong_tree n kids)) where
-    pub valid_done : b ≡ true → valid_in n words kids ≡ done tt
+    pub valid_done : b ≡ true → valid_in n words kids ≡ Ok tt
     unfolding valid_in
     valid_done f =
-        past_length (lent words plain_words ∷ []) (right_tree n kids ∷ []) (done tt) (long_words words h)
-        ∙ passes_first (right_tree n kids) [] (done tt) (was_right b (wrong_tree n kids) e f)
+        past_length (lent words plain_words ∷ []) (right_tree n kids ∷ []) (Ok tt) (long_words words h)
+        ∙ passes_first (right_tree n kids) [] (Ok tt) (was_right b (wrong_tree n kids) e f)
 
-    pub valid_wrong : b ≡ false → valid_in n words kids ≡ refused invalid_tree
+    pub valid_wrong : b ≡ false → valid_in n words kids ≡ Err InvalidTree
     unfolding valid_in
     valid_wrong f =
-        past_length (lent words plain_words ∷ []) (right_tree n kids ∷ []) (done tt) (long_words words h)
-        ∙ holds_first (right_tree n kids) [] (done tt) (was_wrong b (wrong_tree n kids) e f)
+        past_length (lent words plain_words ∷ []) (right_tree n kids ∷ []) (Ok tt) (long_words words h)
+        ∙ holds_first (right_tree n kids) [] (Ok tt) (was_wrong b (wrong_tree n kids) e f)
 
 module _ (n words places : ℕ) (kids : List ℕ) where
   abbrev lents : List Lent
@@ -94,55 +95,55 @@ module _ (n words places : ℕ) (kids : List ℕ) where
 
   pub order_short : words < plain_words → Untouched 7 (order_in n words places kids)
   unfolding order_in
-  order_short h = by_length lents (right_tree n kids ∷ []) (done (step_order kids n)) (rw (lt-ltb words plain_words h))
+  order_short h = by_length lents (right_tree n kids ∷ []) (Ok (step_order kids n)) (rw (lt-ltb words plain_words h))
 
   pub order_few : plain_words ≤ words → places < n - 1 → Untouched 7 (order_in n words places kids)
   unfolding order_in
-  order_few h q = by_length lents (right_tree n kids ∷ []) (done (step_order kids n)) (rw (le-ltb words plain_words h, lt-ltb places (n - 1) q))
+  order_few h q = by_length lents (right_tree n kids ∷ []) (Ok (step_order kids n)) (rw (le-ltb words plain_words h, lt-ltb places (n - 1) q))
 
   module _ (h : plain_words ≤ words) (q : n - 1 ≤ places) (b : Bool) (e : b ≡ not (wrong_tree n kids)) where
     enough : anyb (λ x. ltb x.has x.needs) lents ≡ false
     enough = rw (le-ltb words plain_words h, le-ltb places (n - 1) q)
 
-    pub order_done : not b ≡ false → order_in n words places kids ≡ done (step_order kids n)
+    pub order_done : not b ≡ false → order_in n words places kids ≡ Ok (step_order kids n)
     unfolding order_in
     order_done f =
-        past_length lents (right_tree n kids ∷ []) (done (step_order kids n)) enough
-        ∙ passes_first (right_tree n kids) [] (done (step_order kids n)) (was_right b (wrong_tree n kids) e (not-false b f))
+        past_length lents (right_tree n kids ∷ []) (Ok (step_order kids n)) enough
+        ∙ passes_first (right_tree n kids) [] (Ok (step_order kids n)) (was_right b (wrong_tree n kids) e (not-false b f))
 
-    pub order_wrong : not b ≡ true → order_in n words places kids ≡ refused invalid_tree
+    pub order_wrong : not b ≡ true → order_in n words places kids ≡ Err InvalidTree
     unfolding order_in
     order_wrong f =
-        past_length lents (right_tree n kids ∷ []) (done (step_order kids n)) enough
-        ∙ holds_first (right_tree n kids) [] (done (step_order kids n)) (was_wrong b (wrong_tree n kids) e (not-true b f))
+        past_length lents (right_tree n kids ∷ []) (Ok (step_order kids n)) enough
+        ∙ holds_first (right_tree n kids) [] (Ok (step_order kids n)) (was_wrong b (wrong_tree n kids) e (not-true b f))
 
     pub order_right : not b ≡ false → wrong_tree n kids ≡ false
     order_right f = was_right b (wrong_tree n kids) e (not-false b f)
 
 module _ (n : ℕ) (kids others : List ℕ) where
-  abbrev verdict : Result Bool
-  verdict = done (same_plan n (pairs_of kids) (pairs_of others))
+  abbrev verdict : Result Bool Refusal
+  verdict = Ok (same_plan n (pairs_of kids) (pairs_of others))
 
-  pub compared_first : (b : Bool) → b ≡ not (wrong_tree n kids) → not b ≡ true → compared n kids others ≡ refused invalid_tree
+  pub compared_first : (b : Bool) → b ≡ not (wrong_tree n kids) → not b ≡ true → compared n kids others ≡ Err InvalidTree
   unfolding compared
   compared_first b e f = holds_first (right_tree n kids) (right_tree n others ∷ []) verdict (was_wrong b (wrong_tree n kids) e (not-true b f))
 
   pub tree_right : (kids : List ℕ) (b : Bool) → b ≡ not (wrong_tree n kids) → not b ≡ false → wrong_tree n kids ≡ false
   tree_right kids b e f = was_right b (wrong_tree n kids) e (not-false b f)
 
-  pub compared_second : wrong_tree n kids ≡ false → (b : Bool) → b ≡ not (wrong_tree n others) → not b ≡ true → compared n kids others ≡ refused invalid_tree
+  pub compared_second : wrong_tree n kids ≡ false → (b : Bool) → b ≡ not (wrong_tree n others) → not b ≡ true → compared n kids others ≡ Err InvalidTree
   unfolding compared
   compared_second h b e f =
       passes_first (right_tree n kids) (right_tree n others ∷ []) verdict h
       ∙ holds_first (right_tree n others) [] verdict (was_wrong b (wrong_tree n others) e (not-true b f))
 
-  pub compared-done : wrong_tree n kids ≡ false → wrong_tree n others ≡ false → compared n kids others ≡ done (same_plan n (pairs_of kids) (pairs_of others))
+  pub compared-done : wrong_tree n kids ≡ false → wrong_tree n others ≡ false → compared n kids others ≡ Ok (same_plan n (pairs_of kids) (pairs_of others))
   unfolding compared
   compared-done h q = passes_first (right_tree n kids) (right_tree n others ∷ []) verdict h ∙ passes_first (right_tree n others) [] verdict q
 
   -- whatever the comparison answers, the workspace is cleared
   cleared_either : (x y : Bool) (stated : ℕ) (ws : List ℕ)
-      → workspace_after stated (checked (check x invalid_tree ∷ check y invalid_tree ∷ []) verdict) ws ≡ cleared ws stated
+      → workspace_after stated (checked (check x InvalidTree ∷ check y InvalidTree ∷ []) verdict) ws ≡ cleared ws stated
   cleared_either true y stated ws = refl
   cleared_either false true stated ws = refl
   cleared_either false false stated ws = refl
@@ -164,13 +165,13 @@ module _ (n : ℕ) (kids others : List ℕ) where
 module _ (N : Network) (words : ℕ) (kids : List ℕ) where
   pub valid_refused : (k : ℕ) → k ≡ code_of (refusal_of N) → (k ≡ 0 → ⊥) → Untouched k (valid_call N words kids)
   unfolding valid_call
-  valid_refused k e z = by_network N (length_check (lent words plain_words ∷ []) ∷ tree_check N kids ∷ []) (done tt) k e z
+  valid_refused k e z = by_network N (length_check (lent words plain_words ∷ []) ∷ tree_check N kids ∷ []) (Ok tt) k e z
 
-  pub valid_accepted : (n : ℕ) → refusal_of N ≡ none → leaf_count N ≡ n → valid_call N words kids ≡ valid_in n words kids
+  pub valid_accepted : (n : ℕ) → refusal_of N ≡ None → leaf_count N ≡ n → valid_call N words kids ≡ valid_in n words kids
   unfolding valid_call valid_in
   valid_accepted n e q =
-      past_network N (length_check (lent words plain_words ∷ []) ∷ tree_check N kids ∷ []) (done tt) e
-      ∙ ap (λ (n : ℕ). checked (length_check (lent words plain_words ∷ []) ∷ right_tree n kids ∷ []) (done tt)) q
+      past_network N (length_check (lent words plain_words ∷ []) ∷ tree_check N kids ∷ []) (Ok tt) e
+      ∙ ap (λ (n : ℕ). checked (length_check (lent words plain_words ∷ []) ∷ right_tree n kids ∷ []) (Ok tt)) q
 
 module _ (N : Network) (words places : ℕ) (kids : List ℕ) where
   abbrev order_rest : List Check
@@ -178,13 +179,13 @@ module _ (N : Network) (words places : ℕ) (kids : List ℕ) where
 
   pub order_refused : (k : ℕ) → k ≡ code_of (refusal_of N) → (k ≡ 0 → ⊥) → Untouched k (order_call N words places kids)
   unfolding order_call
-  order_refused k e z = by_network N order_rest (done (step_order kids (leaf_count N))) k e z
+  order_refused k e z = by_network N order_rest (Ok (step_order kids (leaf_count N))) k e z
 
-  pub order_accepted : (n : ℕ) → refusal_of N ≡ none → leaf_count N ≡ n → order_call N words places kids ≡ order_in n words places kids
+  pub order_accepted : (n : ℕ) → refusal_of N ≡ None → leaf_count N ≡ n → order_call N words places kids ≡ order_in n words places kids
   unfolding order_call order_in
   order_accepted n e q =
-      past_network N order_rest (done (step_order kids (leaf_count N))) e
-      ∙ ap (λ (n : ℕ). checked (length_check (lents n words places kids) ∷ right_tree n kids ∷ []) (done (step_order kids n))) q
+      past_network N order_rest (Ok (step_order kids (leaf_count N))) e
+      ∙ ap (λ (n : ℕ). checked (length_check (lents n words places kids) ∷ right_tree n kids ∷ []) (Ok (step_order kids n))) q
 
 module _ (N : Network) (words : ℕ) (kids others : List ℕ) where
   abbrev same_rest : List Check
@@ -194,7 +195,7 @@ module _ (N : Network) (words : ℕ) (kids others : List ℕ) where
   unfolding same_call
   same_refused k e z = by_network N same_rest (verdict (leaf_count N) kids others) k e z
 
-  pub same_accepted : (n : ℕ) → refusal_of N ≡ none → leaf_count N ≡ n → same_call N words kids others ≡ same_in n words kids others
+  pub same_accepted : (n : ℕ) → refusal_of N ≡ None → leaf_count N ≡ n → same_call N words kids others ≡ same_in n words kids others
   unfolding same_call same_in
   same_accepted n e q =
       past_network N same_rest (verdict (leaf_count N) kids others) e

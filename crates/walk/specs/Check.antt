@@ -1,9 +1,7 @@
 -- The walk that marks the numbers it meets: what is marked, and what the stack's numbers stand for, make up the root's tree, each way. Assumes nothing.
-use Rattle.std.specs.Prelude.{◌≡◌, refl, Bool, true, false, not, cond, List, [], ◌∷◌, ℕ, suc, ◌+◌, ◌-◌, ◌*◌, ◌≤◌, ◌<◌, eqb, leb, ltb, get_or, set, length}
+use Rattle.std.specs.Prelude.{◌≡◌, refl, Bool, true, false, not, cond, List, [], ◌∷◌, ℕ, suc, ◌+◌, ◌-◌, ◌*◌, ◌≤◌, ◌<◌, eqb, leb, ltb, get_or, set, length, Option, Some, slice_get}
 use Rattle.std.proofs.Common.{sym, ◌∙◌, ap, ap₂, subst, arith, get_or-set_other, le-leb, eq-eqb, ltb-true, eqb-true}
-use Rattle.std.proofs.Math.Option.{Option, some}
 use Rattle.std.proofs.Math.Decide.{dec_le}
-use Rattle.std.proofs.Math.ListN.{get_elem?}
 use Rattle.std.proofs.lemmas.Bool.{lt-leb, not-true, not-false}
 use Rattle.spec.specs.Lists.{count, memb}
 use Rattle.spec.specs.Tree.{Tree, leaf, node, number, numbers, Pair, valid, pairs_of}
@@ -69,7 +67,7 @@ starts n a root met f =
     made (t ∷ u ∷ ts) h = absurd h.1
 
 module _ (n : ℕ) (a : List Pair) (root v x y : ℕ) (xs : List ℕ) (met : ℕ → ℕ) (ge : n ≤ v)
-    (here : get_elem? a (v - n) ≡ some (record { left = x; right = y })) (w : Walked n a root (v ∷ xs) met) where
+    (here : slice_get a (v - n) ≡ Some (record { left = x; right = y })) (w : Walked n a root (v ∷ xs) met) where
   -- a tree at the root's number has the two children of the stack's top, and what is below them
   parts : (t : Tree) → At n a root t
       → (l r : Tree) × (us : List Tree) × At n a x l × At n a y r × Trees n a xs us
@@ -129,8 +127,8 @@ module _ (n : ℕ) (a : List Pair) (root v x y : ℕ) (xs : List ℕ) (met : ℕ
       }
     where
       children : (l r : Tree) → At n a x l → At n a y r
-          → ◌≡◌ {A = Option Pair} (some (record { left = x; right = y })) (some (record { left = number l; right = number r }))
-      children l r p q = ap₂ (λ (i j : ℕ). some (record { left = i; right = j })) (sym p.1) (sym q.1)
+          → ◌≡◌ {A = Option Pair} (Some (record { left = x; right = y })) (Some (record { left = number l; right = number r }))
+      children l r p q = ap₂ (λ (i j : ℕ). Some (record { left = i; right = j })) (sym p.1) (sym q.1)
 
 -- ---- validity, by how often the root's tree has each number ----
 
@@ -171,7 +169,7 @@ module _ (n : ℕ) (a : List Pair) (root : ℕ) (long : suc (length a) ≡ n) (l
       ]
 
   -- a child that is not fresh
-  stale_child : (ws : List ℕ) (v x y : ℕ) (xs : List ℕ) → root < length ws → n ≤ v → get_elem? a (v - n) ≡ some (record { left = x; right = y })
+  stale_child : (ws : List ℕ) (v x y : ℕ) (xs : List ℕ) → root < length ws → n ≤ v → slice_get a (v - n) ≡ Some (record { left = x; right = y })
       → Walked n a root (v ∷ xs) (seen ws root) → fresh_both ws root x y ≡ false → valid n a ≡ false
   unfolding fresh_both
   stale_child ws v x y xs room ge here w f =
@@ -215,7 +213,7 @@ module _ (kids : List ℕ) (n : ℕ) (two : 2 ≤ n) (small : n ≤ 512) (whole 
   pairs : length (pairs_of kids) ≡ n - 1
   pairs = pairs_length kids ∙ omega arith
 
-  children : (v : ℕ) → n ≤ v → v ≤ n * 2 - 2 → get_elem? (pairs_of kids) (v - n) ≡ some (record { left = left_of kids n v; right = right_of kids n v })
+  children : (v : ℕ) → n ≤ v → v ≤ n * 2 - 2 → slice_get (pairs_of kids) (v - n) ≡ Some (record { left = left_of kids n v; right = right_of kids n v })
   children v a b = pair_at kids (v - n) (omega (arith, pairs))
 
   pub begins : (ws : List ℕ) → 2048 ≤ length ws → ((k : ℕ) → k < n * 2 → get_or ws k 0 ≡ 0) → Going kids n (set ws (n * 2 - 2) 1) (n * 2 - 2) 1 1
@@ -251,10 +249,10 @@ module _ (kids : List ℕ) (n : ℕ) (two : 2 ≤ n) (small : n ≤ 512) (whole 
 
     module _ (pos : 0 < p) (long : 2048 ≤ length ws) (x y : ℕ) (ex : x ≡ left_of kids n v) (ey : y ≡ right_of kids n v) (b : Bool)
         (q : b ≡ fresh_both ws (n * 2 - 2) x y) where
-      here : get_elem? (pairs_of kids) (v - n) ≡ some (record { left = x; right = y })
+      here : slice_get (pairs_of kids) (v - n) ≡ Some (record { left = x; right = y })
       here =
           let a = above pos in
-          children v a.0 a.1 ∙ ap₂ (λ (i j : ℕ). some (record { left = i; right = j })) (sym ex) (sym ey)
+          children v a.0 a.1 ∙ ap₂ (λ (i j : ℕ). Some (record { left = i; right = j })) (sym ex) (sym ey)
 
       on_top : Walked n (pairs_of kids) (n * 2 - 2) (v ∷ stack_of 1024 ws (p - 1)) (seen ws (n * 2 - 2))
       on_top = subst (λ (xs : List ℕ). Walked n (pairs_of kids) (n * 2 - 2) xs (seen ws (n * 2 - 2))) (topped_top 1024 v ws p pos) g.walked

@@ -1,12 +1,14 @@
 -- What the promises of entries rest on: a call that is refused before it touches what is lent, and a call whose first checks pass. Assumes nothing.
-use Rattle.std.specs.Prelude.{◌≡◌, refl, true, false, List, [], ◌∷◌, ◌++◌, ℕ, ◌+◌, ◌-◌, ◌≤◌, ltb, length, get_or, take, drop}
+use Rattle.std.specs.Prelude.{◌≡◌, refl, true, false, List, [], ◌∷◌, ◌++◌, ℕ, ◌+◌, ◌-◌, ◌≤◌, ltb, length, get_or, take, drop, Option, None, Some, Result, Err, Ok}
 use Rattle.std.proofs.Common.{sym, ◌∙◌, ap, arith, length-take-le, get_or-append-add, get_or-drop}
-use Rattle.std.proofs.Math.Option.{Option, none, some, some-injective, none-ne-some}
+use Rattle.std.proofs.lemmas.Option.{same_Some, none-some}
+use Rattle.spec.specs.declared.Refusal.{Refusal}
+use Rattle.spec.specs.declared.Refusal.TheVariants.{ShortBuffer}
 use Rattle.std.proofs.Math.Seq.{length_front}
 use Rattle.spec.specs.Lists.{anyb}
 use Rattle.spec.specs.Members.{All}
 use Rattle.spec.specs.Memory.{cleared}
-use Rattle.spec.specs.Refusal.{Refusal, short_buffer, number_of, code_of, Check, first, Result, refused, done, decide, checked}
+use Rattle.spec.specs.Refusal.{number_of, code_of, Check, first, decide, checked}
 use Rattle.spec.specs.Network.{Network, network_checks, refusal_of}
 use Rattle.spec.specs.Calls.{Lent, length_check, touches, workspace_after, list_after}
 use Rattle.laws.specs.Booleans.{by_cases}
@@ -16,34 +18,34 @@ use Rattle.cells.specs.Cells.{cleared_same}
 
 module _ {A : Type 0} where
   -- the first check decides, or the others do
-  pub holds_first : (c : Check) (cs : List Check) (x : Result A) → c.holds ≡ true → checked (c ∷ cs) x ≡ refused c.gives
+  pub holds_first : (c : Check) (cs : List Check) (x : Result A Refusal) → c.holds ≡ true → checked (c ∷ cs) x ≡ Err c.gives
   holds_first c cs x h = rw h
 
-  pub passes_first : (c : Check) (cs : List Check) (x : Result A) → c.holds ≡ false → checked (c ∷ cs) x ≡ checked cs x
+  pub passes_first : (c : Check) (cs : List Check) (x : Result A Refusal) → c.holds ≡ false → checked (c ∷ cs) x ≡ checked cs x
   passes_first c cs x h = rw h
 
-pub first_some : (cs ds : List Check) (r : Refusal) → first cs ≡ some r → first (cs ++ ds) ≡ some r
-first_some [] ds r e = absurd (none-ne-some _ e)
+pub first_some : (cs ds : List Check) (r : Refusal) → first cs ≡ Some r → first (cs ++ ds) ≡ Some r
+first_some [] ds r e = absurd (none-some _ e)
 first_some (c ∷ cs) ds r e =
     by_cases c.holds (λ h. rw h (rw h at e)) (λ h. rw h (first_some cs ds r (rw h at e)))
 
-pub first_none : (cs ds : List Check) → first cs ≡ none → first (cs ++ ds) ≡ first ds
+pub first_none : (cs ds : List Check) → first cs ≡ None → first (cs ++ ds) ≡ first ds
 first_none [] ds e = refl
 first_none (c ∷ cs) ds e =
     by_cases c.holds
-    (λ h. let q : some c.gives ≡ none = rw h at e in absurd (none-ne-some _ (sym q)))
+    (λ h. let q : Some c.gives ≡ None = rw h at e in absurd (none-some _ (sym q)))
     (λ h. rw h (first_none cs ds (rw h at e)))
 
 -- ---- refused with nothing touched ----
 
 -- the call is refused with the number k, one of 3 to 7
-pub record Untouched {A : Type 0} (k : ℕ) (c : Result A) : Type 0 where
+pub record Untouched {A : Type 0} (k : ℕ) (c : Result A Refusal) : Type 0 where
   pub refusal : Refusal
-  pub is : c ≡ refused refusal
+  pub is : c ≡ Err refusal
   pub number : number_of refusal ≡ k
   pub quiet : touches refusal ≡ false
 
-module _ {A : Type 0} {k : ℕ} {c : Result A} (u : Untouched k c) where
+module _ {A : Type 0} {k : ℕ} {c : Result A Refusal} (u : Untouched k c) where
   pub same_words : (stated : ℕ) (ws : List ℕ) → ws ≡ workspace_after stated c ws
   same_words stated ws = rw (u.is, u.quiet)
 
@@ -51,21 +53,21 @@ module _ {A : Type 0} {k : ℕ} {c : Result A} (u : Untouched k c) where
   same_list written l = rw u.is
 
 -- the number that is handed out, by whatever names a refusal by its number
-pub answers : {A Answer : Type 0} {k : ℕ} {c : Result A} (u : Untouched k c) (answer_of : Result A → Answer) (named : ℕ → Answer)
-    → ((r : Refusal) → answer_of (refused r) ≡ named (number_of r)) → named k ≡ answer_of c
+pub answers : {A Answer : Type 0} {k : ℕ} {c : Result A Refusal} (u : Untouched k c) (answer_of : Result A Refusal → Answer) (named : ℕ → Answer)
+    → ((r : Refusal) → answer_of (Err r) ≡ named (number_of r)) → named k ≡ answer_of c
 answers u answer_of named f = sym (ap answer_of u.is ∙ f u.refusal ∙ ap named u.number)
 
-first_quiet : (cs : List Check) (r : Refusal) → All (λ c. touches c.gives ≡ false) cs → first cs ≡ some r → touches r ≡ false
-first_quiet [] r q e = absurd (none-ne-some _ e)
+first_quiet : (cs : List Check) (r : Refusal) → All (λ c. touches c.gives ≡ false) cs → first cs ≡ Some r → touches r ≡ false
+first_quiet [] r q e = absurd (none-some _ e)
 first_quiet (c ∷ cs) r q e =
     by_cases c.holds
-    (λ h. let z : some c.gives ≡ some r = rw h at e in ap touches (sym (some-injective _ _ z)) ∙ q.0)
+    (λ h. let z : Some c.gives ≡ Some r = rw h at e in ap touches (sym (same_Some _ _ z)) ∙ q.0)
     (λ h. first_quiet cs r q.1 (rw h at e))
 
-module _ {A : Type 0} (N : Network) (cs : List Check) (x : Result A) where
+module _ {A : Type 0} (N : Network) (cs : List Check) (x : Result A Refusal) where
   refused_by : (o : Option Refusal) (k : ℕ) → refusal_of N ≡ o → k ≡ code_of o → (k ≡ 0 → ⊥) → Untouched k (checked (network_checks false N ++ cs) x)
-  refused_by none k e q z = absurd (z q)
-  refused_by (some r) k e q z =
+  refused_by None k e q z = absurd (z q)
+  refused_by (Some r) k e q z =
       record {
         refusal = r;
         is = ap (λ (o : Option Refusal). decide o x) (first_some (network_checks false N) cs r e);
@@ -78,13 +80,13 @@ module _ {A : Type 0} (N : Network) (cs : List Check) (x : Result A) where
   by_network k q z = refused_by (refusal_of N) k refl q z
 
   -- it is accepted: the other checks decide
-  pub past_network : refusal_of N ≡ none → checked (network_checks false N ++ cs) x ≡ checked cs x
+  pub past_network : refusal_of N ≡ None → checked (network_checks false N ++ cs) x ≡ checked cs x
   past_network e = ap (λ (o : Option Refusal). decide o x) (first_none (network_checks false N) cs e)
 
 -- a list that is too short: 7
-module _ {A : Type 0} (l : List Lent) (cs : List Check) (x : Result A) where
+module _ {A : Type 0} (l : List Lent) (cs : List Check) (x : Result A Refusal) where
   pub by_length : anyb (λ y. ltb y.has y.needs) l ≡ true → Untouched 7 (checked (length_check l ∷ cs) x)
-  by_length h = record { refusal = short_buffer; is = holds_first (length_check l) cs x h; number = refl; quiet = refl }
+  by_length h = record { refusal = ShortBuffer; is = holds_first (length_check l) cs x h; number = refl; quiet = refl }
 
   pub past_length : anyb (λ y. ltb y.has y.needs) l ≡ false → checked (length_check l ∷ cs) x ≡ checked cs x
   past_length h = passes_first (length_check l) cs x h
@@ -92,10 +94,10 @@ module _ {A : Type 0} (l : List Lent) (cs : List Check) (x : Result A) where
 -- ---- the stated words are cleared ----
 
 module _ {A : Type 0} (stated : ℕ) (ws ws' : List ℕ) (e : ws' ≡ cleared ws stated) where
-  pub done_words : (c : Result A) (x : A) → c ≡ done x → ws' ≡ workspace_after stated c ws
+  pub done_words : (c : Result A Refusal) (x : A) → c ≡ Ok x → ws' ≡ workspace_after stated c ws
   done_words c x q = e ∙ rw q
 
-  pub refused_words : (c : Result A) (r : Refusal) → touches r ≡ true → c ≡ refused r → ws' ≡ workspace_after stated c ws
+  pub refused_words : (c : Result A Refusal) (r : Refusal) → touches r ≡ true → c ≡ Err r → ws' ≡ workspace_after stated c ws
   refused_words c r t q = e ∙ rw (q, t)
 
 -- what was lent as `&mut ws[..m]` is back, whatever it holds, and is then cleared

@@ -1,12 +1,10 @@
 -- The walk that writes the step order from its end: what the stack's trees are still to write, and what is written, make up the order. Assumes nothing.
-use Rattle.std.specs.Prelude.{◌≡◌, refl, true, false, not, ℕ, zero, suc, ◌+◌, ◌-◌, ◌*◌, ◌≤◌, ◌<◌, get_or, set, length}
+use Rattle.std.specs.Prelude.{◌≡◌, refl, true, false, not, ℕ, zero, suc, ◌+◌, ◌-◌, ◌*◌, ◌≤◌, ◌<◌, get_or, set, length, Option, Some, slice_get}
 use Rattle.std.proofs.Math.Path.{sym, ap}
 use Rattle.std.proofs.Common.{◌∙◌, ap₂, subst, length-append, eqb-true}
 use mathlib.Core.List.{List, [], ◌∷◌, ◌++◌, append_assoc, append-nil}
-use Rattle.std.proofs.Math.Option.{Option, some}
 use native.Mathlib.Omega.{arith}
 use Rattle.std.proofs.Math.Decide.{dec_le}
-use Rattle.std.proofs.Math.ListN.{get_elem?}
 use Rattle.spec.specs.Lists.{memb}
 use Rattle.spec.specs.Memory.{over, placed}
 use Rattle.cells.specs.Cells.{placed_none, over-nil}
@@ -132,10 +130,10 @@ module _ (kids : List ℕ) (n : ℕ) (two : 2 ≤ n) (right : wrong_tree n kids 
         (ex : x ≡ left_of kids n v) (ey : y ≡ right_of kids n v) (ws₂ : List ℕ) (v₂ p₂ : ℕ) (out₂ : List ℕ)
         (e₁ : (v₂ ≡ picked n y (picked n x (get_or ws (1023 + (p - 1)) 0))) × (p₂ ≡ pushed_both n (p - 1) x y) × (ws₂ ≡ set ws (1024 + (p - 1)) x))
         (e₃ : out₂ ≡ set out (rest - 1) v) where
-      here : get_elem? (pairs_of kids) (v - n) ≡ some (record { left = x; right = y })
+      here : slice_get (pairs_of kids) (v - n) ≡ Some (record { left = x; right = y })
       here =
           let i = internal more in
-          pair_at kids (v - n) (omega (arith, pairs, i.0, i.1)) ∙ ap₂ (λ (i j : ℕ). some (record { left = i; right = j })) (sym ex) (sym ey)
+          pair_at kids (v - n) (omega (arith, pairs, i.0, i.1)) ∙ ap₂ (λ (i j : ℕ). Some (record { left = i; right = j })) (sym ex) (sym ey)
 
       stack : topped 1024 v₂ ws₂ p₂ ≡ push n y (push n x (stack_of 1024 ws (p - 1)))
       stack =

@@ -1,13 +1,13 @@
 -- The stack of internal nodes in lent words, from place s on, and the trees that its numbers stand for. Assumes nothing.
-use Rattle.std.specs.Prelude.{◌≡◌, cond, ltb, length}
+use Rattle.std.specs.Prelude.{◌≡◌, cond, ltb, length, Some, slice_get}
 use Rattle.std.proofs.Math.Path.{refl, sym, ap, ap₂}
 use Rattle.std.proofs.Common.{◌∙◌, get_or-set_same, ltb-false, lt-ltb, le-ltb}
 use mathlib.Core.List.{List, [], ◌∷◌}
-use Rattle.std.proofs.Math.Option.{some, some-injective}
+use Rattle.std.proofs.lemmas.Option.{same_Some}
 use Prim.Native.Nat.{ℕ, zero, suc, ◌+◌, ◌-◌, ◌≤◌, ◌<◌}
 use native.Mathlib.Omega.{arith}
 use Rattle.std.proofs.Math.Numerals.{add-one}
-use Rattle.std.proofs.Math.ListN.{get_or, set, get_elem?}
+use Rattle.std.proofs.Math.ListN.{get_or, set}
 use Rattle.std.proofs.Math.Seq.{get_or-set_other}
 use Rattle.spec.specs.Tree.{Tree, leaf, node, number, Pair, Describes}
 use Rattle.laws.specs.Booleans.{by_cases}
@@ -128,13 +128,13 @@ Trees n a (x ∷ xs) [] = ⊥
 Trees n a (x ∷ xs) (t ∷ ts) = At n a x t × Trees n a xs ts
 
 -- at an internal node's number stands a node, with the children that the array names
-pub node_at : (n : ℕ) (a : List Pair) (x y z : ℕ) (t : Tree) → n ≤ x → get_elem? a (x - n) ≡ some (record { left = y; right = z }) → At n a x t
+pub node_at : (n : ℕ) (a : List Pair) (x y z : ℕ) (t : Tree) → n ≤ x → slice_get a (x - n) ≡ Some (record { left = y; right = z }) → At n a x t
     → (l r : Tree) × (t ≡ node x l r) × At n a y l × At n a z r
 node_at n a x y z (leaf i) h e d = absurd (omega (arith, d.0, d.1))
 node_at n a x y z (node v l r) h e d =
     let here : Pair = record { left = number l; right = number r } in
     let there : Pair = record { left = y; right = z } in
-    let p : here ≡ there = some-injective here there (sym d.0.1 ∙ ap (λ (k : ℕ). get_elem? a (k - n)) d.1 ∙ e) in
+    let p : here ≡ there = same_Some here there (sym d.0.1 ∙ ap (λ (k : ℕ). slice_get a (k - n)) d.1 ∙ e) in
     (l, r, ap (λ (k : ℕ). node k l r) d.1, (d.0.2, ap (λ (m : Pair). m.left) p), (d.0.3, ap (λ (m : Pair). m.right) p))
 
 -- a node's tree goes on the stack, a leaf does not

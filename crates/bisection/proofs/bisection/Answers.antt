@@ -5,7 +5,8 @@ use Rattle.network.specs.Codes.{accepted_facts}
 use Rattle.network.specs.Record.{net_of}
 use Rattle.spec.specs.Calls.{bisection_words, workspace_after, bisected_tree}
 use Rattle.spec.specs.Bisection as spec
-use Rattle.spec.specs.Refusal.{Refusal, Result}
+use Rattle.spec.specs.declared.Refusal.{Refusal}
+use Rattle.std.specs.Prelude.{Result}
 use Rattle.spec.specs.Tree.{flat_of}
 use Rattle.walk.specs.Entry.{answers, same_words, same_list}
 use Prim.Native.Nat.{ℕ}
@@ -65,7 +66,7 @@ returns-clause-plan c = let a = c.args in
     let g = a.network in
     let f = accepted_facts g.index_count g.leaf_count g.output_count g.weights g.leg_counts g.legs g.outputs (sym c.if-k-ne-NONE.false ∙ c.number-k.ensures) in
     let e = call_accepted (net_of g) a.imbalance a.cutoff a.draws.now (length a.ws.now) (length a.tree.now) c.if-imbalance-gt1000.false f.passed in
-    let q = c.bisection_in.ensures in q.plan ∙ sym (ap (λ (r : Result spec.Bisected). bisected_tree r a.tree.now) e)
+    let q = c.bisection_in.ensures in q.plan ∙ sym (ap (λ (r : Result spec.Bisected Refusal). bisected_tree r a.tree.now) e)
 
 pub returns-clause-workspace : goal.returns-clause-workspace
 unfolding net_of
@@ -73,4 +74,4 @@ returns-clause-workspace c = let a = c.args in
     let g = a.network in
     let f = accepted_facts g.index_count g.leaf_count g.output_count g.weights g.leg_counts g.legs g.outputs (sym c.if-k-ne-NONE.false ∙ c.number-k.ensures) in
     let e = call_accepted (net_of g) a.imbalance a.cutoff a.draws.now (length a.ws.now) (length a.tree.now) c.if-imbalance-gt1000.false f.passed in
-    let q = c.bisection_in.ensures in q.workspace ∙ sym (ap (λ (r : Result spec.Bisected). workspace_after bisection_words r a.ws.now) e)
+    let q = c.bisection_in.ensures in q.workspace ∙ sym (ap (λ (r : Result spec.Bisected Refusal). workspace_after bisection_words r a.ws.now) e)

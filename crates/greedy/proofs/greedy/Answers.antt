@@ -2,7 +2,8 @@ use borrow.Author.Rules.{rules}
 use mathlib.Core.List.{List}
 use Rattle.walk.specs.Entry.{answers, same_words, same_list}
 use Rattle.spec.specs.Tree.{Pair, flat_of}
-use Rattle.spec.specs.Refusal.{Refusal, Result}
+use Rattle.spec.specs.declared.Refusal.{Refusal}
+use Rattle.std.specs.Prelude.{Result}
 use Rattle.spec.specs.Calls.{plain_words, workspace_after, greedy_tree}
 use Rattle.network.specs.Record.{net_of}
 use Rattle.network.specs.Codes.{accepted_facts}
@@ -49,7 +50,7 @@ returns-clause-plan c = let a = c.args in
     let g = a.network in
     let f = accepted_facts g.index_count g.leaf_count g.output_count g.weights g.leg_counts g.legs g.outputs (sym c.if-k-ne-NONE.false ∙ c.number-k.ensures) in
     let e = greedy_accepted (net_of g) (length a.ws.now) (length a.tree.now) f.passed in
-    let q = c.greedy_in.ensures in q.plan ∙ sym (ap (λ (r : Result (List Pair)). greedy_tree r a.tree.now) e)
+    let q = c.greedy_in.ensures in q.plan ∙ sym (ap (λ (r : Result (List Pair) Refusal). greedy_tree r a.tree.now) e)
 
 pub returns-clause-workspace : goal.returns-clause-workspace
 unfolding net_of
@@ -57,4 +58,4 @@ returns-clause-workspace c = let a = c.args in
     let g = a.network in
     let f = accepted_facts g.index_count g.leaf_count g.output_count g.weights g.leg_counts g.legs g.outputs (sym c.if-k-ne-NONE.false ∙ c.number-k.ensures) in
     let e = greedy_accepted (net_of g) (length a.ws.now) (length a.tree.now) f.passed in
-    let q = c.greedy_in.ensures in q.workspace ∙ sym (ap (λ (r : Result (List Pair)). workspace_after plain_words r a.ws.now) e)
+    let q = c.greedy_in.ensures in q.workspace ∙ sym (ap (λ (r : Result (List Pair) Refusal). workspace_after plain_words r a.ws.now) e)

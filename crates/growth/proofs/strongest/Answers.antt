@@ -3,7 +3,7 @@ use Rattle.growth.specs.Links.{strong_in, offered_in}
 use Rattle.matching.specs.Choices.{mate_if}
 use Rattle.draws.specs.Cursor.{words_at}
 use Rattle.spec.specs.Floats.{whole_float}
-use mathlib.Core.Option.{none}
+use Rattle.std.specs.Prelude.{None}
 use lib.Ieee.{of_bits, of_int, round, neg}
 use native.Mathlib.Omega.{arith}
 use mathlib.Core.Path.{refl}
@@ -14,4 +14,4 @@ unfolding of_bits of_int round neg
 loop-u-init c = (omega arith, refl, refl, c.requires.0)
 
 pub loop-u-preserved : goal.loop-u-preserved
-loop-u-preserved c = let a = c.args in let l = c.loop-u in (omega (arith, c.loop-u-test.true), l.invariant.1, range_next (offered_in a.part.now a.links.now) (strong_in (neg (whole_float 1)) none (words_at a.words.now a.at)) (strong_in l.best.link (mate_if l.best.found l.best.vertex) (words_at a.words.now l.best.at)) _ l.u l.invariant.2 c.offer-best.ensures.0, c.offer-best.ensures.1)
+loop-u-preserved c = let a = c.args in let l = c.loop-u in (omega (arith, c.loop-u-test.true), l.invariant.1, range_next (offered_in a.part.now a.links.now) (strong_in (neg (whole_float 1)) None (words_at a.words.now a.at)) (strong_in l.best.link (mate_if l.best.found l.best.vertex) (words_at a.words.now l.best.at)) _ l.u l.invariant.2 c.offer-best.ensures.0, c.offer-best.ensures.1)

@@ -5,7 +5,7 @@ use Rattle.fields.specs.Scans.{lists, net_in}
 use Rattle.network.specs.Record.{net_of}
 use Rattle.laws.specs.Booleans.{or_introl}
 use Rattle.spec.specs.File.{read_of}
-use Rattle.spec.specs.Refusal.{short_buffer}
+use Rattle.spec.specs.declared.Refusal.TheVariants.{ShortBuffer}
 use borrow.Author.Tests.{ltb-false}
 use mathlib.Core.Bool.{◌||◌}
 use mathlib.Core.Path.{ap₂, refl, sym, ap, ◌∙◌}
@@ -27,7 +27,7 @@ returns-then-tree_lacks_room c = let a = c.args in
     let p = length a.tree.now in
     let o = length a.flags.now in
     let e = read_lacking p o a.file.now v.result l v.ensures c.if-s-ne-NONE.false (c.tree_lacks_room.ensures a.file.now l) refl (or_introl _ _ c.if-tree_lacks_room.true) in
-    says_refused (read_of p o a.file.now) _ _ a.tree.now a.flags.now short_buffer e c.refused-then-tree_lacks_room.ensures.0 c.refused-then-tree_lacks_room.ensures.1
+    says_refused (read_of p o a.file.now) _ _ a.tree.now a.flags.now ShortBuffer e c.refused-then-tree_lacks_room.ensures.0 c.refused-then-tree_lacks_room.ensures.1
 
 pub returns-then-flags_lack_room : goal.returns-then-flags_lack_room
 returns-then-flags_lack_room c = let a = c.args in
@@ -36,7 +36,7 @@ returns-then-flags_lack_room c = let a = c.args in
     let p = length a.tree.now in
     let o = length a.flags.now in
     let e = read_lacking p o a.file.now v.result l v.ensures c.if-s-ne-NONE.false (c.tree_lacks_room.ensures a.file.now l) (c.flags_lack_room.ensures a.file.now l) (ap₂ (λ x y. x || y) c.if-tree_lacks_room.false c.if-flags_lack_room.true) in
-    says_refused (read_of p o a.file.now) _ _ a.tree.now a.flags.now short_buffer e c.refused-then-flags_lack_room.ensures.0 c.refused-then-flags_lack_room.ensures.1
+    says_refused (read_of p o a.file.now) _ _ a.tree.now a.flags.now ShortBuffer e c.refused-then-flags_lack_room.ensures.0 c.refused-then-flags_lack_room.ensures.1
 
 pub write_flags-requires : goal.write_flags-requires
 write_flags-requires c = let a = c.args in

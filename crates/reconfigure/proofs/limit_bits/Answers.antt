@@ -1,4 +1,4 @@
-use mathlib.Core.Option.{some}
+use Rattle.std.specs.Prelude.{Some}
 use mathlib.Core.Path.{sym, ap, ◌∙◌}
 use Rattle.reconfigure.specs.Answers.{limit_from}
 use Rattle.reconfigure.specs.Checks.{no_limit, some_limit}
@@ -9,4 +9,4 @@ returns-in-Unlimited c = no_limit ∙ ap limit_from (sym c.in-Unlimited.is)
 
 pub returns-in-Bits : goal.returns-in-Bits
 returns-in-Bits c =
-    some_limit c.wide.result c.wide.ensures.1 ∙ ap some c.wide.ensures.0 ∙ ap limit_from (sym c.in-Bits.is)
+    some_limit c.wide.result c.wide.ensures.1 ∙ ap Some c.wide.ensures.0 ∙ ap limit_from (sym c.in-Bits.is)

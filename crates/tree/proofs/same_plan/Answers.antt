@@ -3,7 +3,8 @@ use Rattle.tree.specs.declared.Same.{Same}
 use Rattle.tree.specs.Answers.{same_of, same_refused, same_accepted}
 use Rattle.walk.specs.Entry.{answers, same_words}
 use Rattle.spec.specs.Calls.{plain_words, workspace_after}
-use Rattle.spec.specs.Refusal.{Refusal, Result}
+use Rattle.spec.specs.declared.Refusal.{Refusal}
+use Rattle.std.specs.Prelude.{Result}
 use Rattle.network.specs.Layouts.{layout_leaf_count}
 use Rattle.network.specs.Codes.{accepted_facts}
 use Rattle.network.specs.Record.{net_of}
@@ -21,4 +22,4 @@ same_in-requires c = let a = c.args in let g = a.network in let f = accepted_fac
 
 pub returns : goal.returns
 unfolding net_of
-returns c = let a = c.args in let g = a.network in let f = accepted_facts g.index_count g.leaf_count g.output_count g.weights g.leg_counts g.legs g.outputs (sym c.if-k-ne-NONE.false ∙ c.number-k.ensures) in let e = same_accepted (net_of a.network) (length a.ws.now) a.tree.now a.other.now g.leaf_count f.passed (layout_leaf_count g.index_count g.leaf_count g.output_count g.weights g.leg_counts g.legs g.outputs) in (c.same_in.ensures.0 ∙ sym (ap same_of e), c.same_in.ensures.1 ∙ sym (ap (λ (r : Result Bool). workspace_after plain_words r a.ws.now) e))
+returns c = let a = c.args in let g = a.network in let f = accepted_facts g.index_count g.leaf_count g.output_count g.weights g.leg_counts g.legs g.outputs (sym c.if-k-ne-NONE.false ∙ c.number-k.ensures) in let e = same_accepted (net_of a.network) (length a.ws.now) a.tree.now a.other.now g.leaf_count f.passed (layout_leaf_count g.index_count g.leaf_count g.output_count g.weights g.leg_counts g.legs g.outputs) in (c.same_in.ensures.0 ∙ sym (ap same_of e), c.same_in.ensures.1 ∙ sym (ap (λ (r : Result Bool Refusal). workspace_after plain_words r a.ws.now) e))

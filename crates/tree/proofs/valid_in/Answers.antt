@@ -5,7 +5,8 @@ use Rattle.tree.specs.declared.Validity.{Validity}
 use Rattle.tree.specs.Answers.{validity_of, valid_in, valid_short, valid_done, valid_wrong}
 use Rattle.walk.specs.Entry.{answers, same_words, done_words, refused_words, lent_cleared}
 use Rattle.spec.specs.Calls.{plain_words}
-use Rattle.spec.specs.Refusal.{Refusal, invalid_tree}
+use Rattle.spec.specs.declared.Refusal.{Refusal}
+use Rattle.spec.specs.declared.Refusal.TheVariants.{InvalidTree}
 use native.Mathlib.Omega.{arith}
 use Prim.Native.Nat.{ℕ, ◌≤◌}
 use mathlib.Core.Path.{◌≡◌, refl, sym, ap, ◌∙◌}
@@ -18,4 +19,4 @@ pub returns-then-valid : goal.returns-then-valid
 returns-then-valid c = let a = c.args in let w = c.stated-words.result in let fit : w ≤ length a.ws.now = c.if-ws-words.false in let y = c.is_tree-valid.new.ws in let ly : length y ≡ length (take w a.ws.now) = search rules in let z = c.clear.ensures ∙ lent_cleared a.ws.now y w w fit ly refl ∙ ap (cleared a.ws.now) c.stated-words.ensures in let long : plain_words ≤ length a.ws.now = omega (arith, c.stated-words.ensures, fit) in let q = valid_done a.n (length a.ws.now) a.tree.now long c.is_tree-valid.result c.is_tree-valid.ensures c.if-valid.true in (sym (ap validity_of q), done_words plain_words a.ws.now _ z (valid_in a.n (length a.ws.now) a.tree.now) tt q)
 
 pub returns : goal.returns
-returns c = let a = c.args in let w = c.stated-words.result in let fit : w ≤ length a.ws.now = c.if-ws-words.false in let y = c.is_tree-valid.new.ws in let ly : length y ≡ length (take w a.ws.now) = search rules in let z = c.clear.ensures ∙ lent_cleared a.ws.now y w w fit ly refl ∙ ap (cleared a.ws.now) c.stated-words.ensures in let long : plain_words ≤ length a.ws.now = omega (arith, c.stated-words.ensures, fit) in let q = valid_wrong a.n (length a.ws.now) a.tree.now long c.is_tree-valid.result c.is_tree-valid.ensures c.if-valid.false in (sym (ap validity_of q), refused_words plain_words a.ws.now _ z (valid_in a.n (length a.ws.now) a.tree.now) invalid_tree refl q)
+returns c = let a = c.args in let w = c.stated-words.result in let fit : w ≤ length a.ws.now = c.if-ws-words.false in let y = c.is_tree-valid.new.ws in let ly : length y ≡ length (take w a.ws.now) = search rules in let z = c.clear.ensures ∙ lent_cleared a.ws.now y w w fit ly refl ∙ ap (cleared a.ws.now) c.stated-words.ensures in let long : plain_words ≤ length a.ws.now = omega (arith, c.stated-words.ensures, fit) in let q = valid_wrong a.n (length a.ws.now) a.tree.now long c.is_tree-valid.result c.is_tree-valid.ensures c.if-valid.false in (sym (ap validity_of q), refused_words plain_words a.ws.now _ z (valid_in a.n (length a.ws.now) a.tree.now) InvalidTree refl q)
