@@ -103,6 +103,13 @@ module _ {A : Type 0} where
   over_all (x ∷ d) (y ∷ s) e = ap (λ (l : List A). y ∷ l) (over_all d s (omega arith))
 
   -- one element more
+  pub over_front : (d s : List A) → length s ≤ length d → s ++ drop (length s) d ≡ over d s
+  unfolding over
+  over_front [] [] h = refl
+  over_front [] (y ∷ s) h = absurd (omega arith)
+  over_front (x ∷ d) [] h = refl
+  over_front (x ∷ d) (y ∷ s) h = ap (λ l. y ∷ l) (over_front d s (omega arith))
+
   pub over_snoc : (d s : List A) (x : A) → set (over d s) (length s) x ≡ over d (s ++ x ∷ [])
   unfolding over
   over_snoc [] s x = refl
