@@ -1,5 +1,5 @@
 -- Pricing on lent lists, put together: what each call asks is there, and the price list and the answer follow. Assumes nothing.
-use Rattle.std.specs.Prelude.{true, cond, ◌≡◌, List, [], map, ℕ, ◌+◌, ◌*◌, ◌≤◌, length}
+use Rattle.std.specs.Prelude.{true, cond, ◌≡◌, List, [], map, ℕ, ◌+◌, ◌*◌, ◌≤◌, length, Option}
 use Rattle.std.proofs.Common.{sym, ◌∙◌, ap, subst, arith}
 use Rattle.spec.specs.Lists.{memb, range, sum_of}
 use Rattle.spec.specs.Memory.{over}
@@ -21,9 +21,8 @@ use Rattle.nodesets.specs.Passes.{nodes, with_sets}
 use Rattle.nodesets.specs.Sets.{held-with_sets}
 use Rattle.nodesets.specs.Lists.{ordered_steps, SetsAre}
 use Rattle.nodebits.specs.Bits.{Effective, Known, size_of, node_work}
-use Rattle.pricing.specs.declared.Widest.{Widest}
-use Rattle.pricing.specs.declared.Prices.{Prices}
-use Rattle.pricing.specs.Answers.{total_of, widest_of, widest_in, prices_of}
+use Rattle.spec.specs.declared.Prices.{Prices}
+use Rattle.pricing.specs.Answers.{widest_in}
 use Rattle.pricing.specs.Sums.{work_sum, slice_share}
 use Rattle.pricing.specs.Lines.{lines}
 use Rattle.pricing.specs.Tables.{slice_sum}
@@ -117,13 +116,13 @@ module _ {W m n o : ℕ} {weights counts rows outputs kids order : List ℕ} (p 
             steps_are = et ∙ ap (over steps₀) (steps_are right sizes₀ works₀ sizes works fits_sizes fits_works es ew);
           }
 
-      pub price_answer : (t : Total) (w : Widest) (s : ℕ) → t ≡ total_of (up_to (work_sum works n (length order)))
-          → w ≡ widest_of (widest_in (firsts (nodes n kids) sizes)) → s ≡ sum_of (slice_share weights flags) (range m)
-          → ◌≡◌ {A = Prices} (record { total = t; widest = w; slice_bits = s }) (prices_of (price_of N (flag_at flags) a))
+      pub price_answer : (t : Total) (w : Option ℕ) (s : ℕ) → t ≡ up_to (work_sum works n (length order))
+          → w ≡ widest_in (firsts (nodes n kids) sizes) → s ≡ sum_of (slice_share weights flags) (range m)
+          → ◌≡◌ {A = Prices} (record { total = t; widest = w; slice_bits = s }) (price_of N (flag_at flags) a)
       price_answer t w s e f g =
-          let et : t ≡ total_of (up_to (work (listing N (flag_at flags) a))) =
-          e ∙ ap (λ (y : ℕ). total_of (up_to y)) (total_is right sizes₀ works₀ sizes works fits_sizes fits_works es ew) in
-          let ef : w ≡ widest_of (widest N (flag_at flags) (listing N (flag_at flags) a)) =
-          f ∙ ap widest_of (widest_is right sizes₀ works₀ sizes works fits_sizes fits_works es ew) in
+          let et : t ≡ up_to (work (listing N (flag_at flags) a)) =
+          e ∙ ap up_to (total_is right sizes₀ works₀ sizes works fits_sizes fits_works es ew) in
+          let ef : w ≡ widest N (flag_at flags) (listing N (flag_at flags) a) =
+          f ∙ widest_is right sizes₀ works₀ sizes works fits_sizes fits_works es ew in
           let eg : s ≡ slice_bits N (flag_at flags) = g ∙ slice_is flags in
           λ i. record { total = et i; widest = ef i; slice_bits = eg i }

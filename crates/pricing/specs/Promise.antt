@@ -14,8 +14,7 @@ use Rattle.network.specs.Checks.{Rows}
 use Rattle.slots.specs.Slots.{held}
 use Rattle.nodesets.specs.Passes.{nodes, with_sets}
 use Rattle.nodesets.specs.Lists.{Ordered}
-use Rattle.pricing.specs.declared.Prices.{Prices}
-use Rattle.pricing.specs.Answers.{prices_of}
+use Rattle.spec.specs.declared.Prices.{Prices}
 
 -- an accepted network, a valid tree and its step order, in lent lists; W words a set
 pub record Priceable (W m n o : ℕ) (weights counts rows outputs kids order : List ℕ) : Type 0 where
@@ -68,5 +67,5 @@ pub record PriceList (W : ℕ) (N : Network) (flag : ℕ → Bool) (a : List Pai
 
 pub record Pricing (W : ℕ) (N : Network) (flag : ℕ → Bool) (a : List Pair) (sets₀ sizes₀ works₀ steps₀ sets sizes works steps : List ℕ) (r : Prices) : Type 0 where
   pub list : PriceList W N flag a sets₀ sizes₀ works₀ steps₀ sets sizes works steps
-  pub answer : r ≡ prices_of (price_of N flag a)
+  pub answer : r ≡ price_of N flag a
   pub sound : ListingSound W N flag a sets steps
