@@ -58,7 +58,13 @@ ListingSound W N flag a sets steps =
     2 ≤ leaf_count N → Sliceable N flag → (tables : ℕ → List ℕ → ℤ_semiring.Car)
     → RunsToDirectSum ℤ_semiring N tables flag a (handed_out W (index_count N) (step_places N) sets steps)
 
--- each lent list has the price list at its front, and what stood there after it
+-- each lent list has the price list at its front, and what stood there after it: the lists by node
+pub record Filled (W : ℕ) (N : Network) (flag : ℕ → Bool) (a : List Pair) (sets₀ sizes₀ works₀ sets sizes works : List ℕ) : Type 0 where
+  pub sets_are : sets ≡ with_sets sets₀ W (λ v j. memb j (list_at N a v)) (node_places N)
+  pub sizes_are : sizes ≡ over sizes₀ (map (size_at N flag a) (range (node_places N)))
+  pub works_are : works ≡ over works₀ (map (work_at N flag a) (range (node_places N)))
+
+-- and with the listing
 pub record PriceList (W : ℕ) (N : Network) (flag : ℕ → Bool) (a : List Pair) (sets₀ sizes₀ works₀ steps₀ sets sizes works steps : List ℕ) : Type 0 where
   pub sets_are : sets ≡ with_sets sets₀ W (λ v j. memb j (list_at N a v)) (node_places N)
   pub sizes_are : sizes ≡ over sizes₀ (map (size_at N flag a) (range (node_places N)))

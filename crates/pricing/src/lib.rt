@@ -17,6 +17,9 @@ ghost use Rattle.pricing.specs.Sums.{work_sum, slice_share};
 ghost use Rattle.pricing.specs.Lines.{lines};
 ghost use Rattle.pricing.specs.Promise.{Priceable, Room, Pricing};
 
+pub mod list; // list.rt: the price list
+
+use list::PriceList;
 use spec::{Prices, Total};
 
 /// The total of the `c` inner nodes from number `n` on: the sum of 2 to their work bits, or beyond from 2^53 on.
@@ -77,16 +80,9 @@ fn put_step(steps: &mut [u16], at: usize, v: u16, l: u16, r: u16, work: u16, siz
 }
 
 // The listing: node, left, right, work bits and size bits of each step in order.
-fn list_steps(
-    steps: &mut [u16],
-    n: usize,
-    kids: &[u16],
-    order: &[u16],
-    works: &[u16],
-    sizes: &[u16],
-)
-    requires { Steps n kids.now order.now × (length order.now * 5 ≤ length steps.old) × (nodes n kids.now ≤ length works.now) × (nodes n kids.now ≤ length sizes.now) }
-    ensures { steps.new ≡ over steps.old (lines (left_of kids.now n) (right_of kids.now n) works.now sizes.now order.now) }
+fn list_steps(steps: &mut [u16], n: usize, kids: &[u16], order: &[u16], list: &PriceList)
+    requires { Steps n kids.now order.now × (length order.now * 5 ≤ length steps.old) × (nodes n kids.now ≤ length list.now.works.now) × (nodes n kids.now ≤ length list.now.sizes.now) }
+    ensures { steps.new ≡ over steps.old (lines (left_of kids.now n) (right_of kids.now n) list.now.works.now list.now.sizes.now order.now) }
 {
     // No row is written through an iterator, since a zip with a written list says only its length.
     for k in 0..order.len() {
@@ -99,8 +95,8 @@ fn list_steps(
             node,
             kids[at],
             kids[at + 1],
-            works[v],
-            sizes[v],
+            list.works[v],
+            list.sizes[v],
         );
     }
 }
@@ -127,17 +123,15 @@ pub fn price(
     requires { Priceable w m n o weights.now counts.now legs.now outputs.now kids.now order.now × Room w n kids.now order.now (length outside.old) (length sets.old) (length sizes.old) (length works.old) (length steps.old) }
     ensures { Pricing w (network_of m n o weights.now counts.now legs.now outputs.now) (flag_at flags.now) (pairs_of kids.now) sets.old sizes.old works.old steps.old sets.new sizes.new works.new steps.new result }
 {
-    let mut effective = [0u8; 1024];
-    nodebits::effective_weights(&mut effective, m, weights, flags);
-    nodesets::node_sets(sets, outside, w, n, o, counts, legs, outputs, kids, order);
-    nodebits::node_bits(
-        sizes, works, sets, w, n, counts, legs, kids, order, &effective,
+    let mut list = PriceList { sets, sizes, works };
+    list.price_lists::<1024>(
+        outside, w, m, n, o, weights, counts, legs, outputs, flags, kids, order,
     );
-    list_steps(steps, n, kids, order, works, sizes);
+    list_steps(steps, n, kids, order, &list);
     let c = order.len();
     Prices {
-        total: total_of(works, n, c),
-        widest: widest_of(sizes, n + c),
+        total: list.total(n, c),
+        widest: list.widest(n + c),
         slice_bits: slice_bits(m, weights, flags),
     }
 }
