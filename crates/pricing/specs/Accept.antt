@@ -3,13 +3,14 @@ use Rattle.std.specs.Prelude.{false, ◌≡◌, List, ℕ, ◌*◌, ◌≤◌, l
 use Rattle.std.proofs.Common.{◌∙◌, subst, arith}
 use Rattle.spec.specs.Network.{leaf_count, index_count}
 use Rattle.spec.specs.Tree.{step_order}
-use Rattle.spec.specs.Calls.{wrong_tree, node_places}
+use Rattle.spec.specs.Calls.{wrong_tree, node_places, step_places}
 use Rattle.walk.specs.Wrong.{not_wrong}
 use Rattle.network.specs.Lists.{Holds}
 use Rattle.network.specs.Views.{net_in, in_facts, in_rows, in_leaves, in_indices}
 use Rattle.network.specs.declared.accepted.Accepted.{Accepted}
 use Rattle.nodesets.specs.Passes.{nodes}
-use Rattle.nodesets.specs.Lists.{Ordered}
+use Rattle.nodesets.specs.Steps.{Steps}
+use Rattle.nodesets.specs.Lists.{Ordered, ordered_steps}
 use Rattle.pricing.specs.declared.list.PriceList.{PriceList}
 use Rattle.pricing.specs.Lists.{HasRoom}
 use Rattle.pricing.specs.Promise.{Priceable}
@@ -45,3 +46,11 @@ module _ (a : Accepted) (h : Holds a.weights.now a.leg_counts.now a.legs.now a.o
 
   pub accepted_outside : {len : ℕ} → node_places (net_in a) * W ≤ len → nodes (length a.leg_counts.now) kids * W ≤ len
   accepted_outside {len} r = subst (λ (k : ℕ). k * W ≤ len) accepted_places r
+
+  pub accepted_steps : Steps (length a.leg_counts.now) kids order
+  accepted_steps = ordered_steps ordered
+
+  pub accepted_lines : {len : ℕ} → step_places (net_in a) * 5 ≤ len → length order * 5 ≤ len
+  accepted_lines {len} r =
+      let e : step_places (net_in a) ≡ length order = omega (arith, accepted_steps.steps, in_leaves a) in
+      subst (λ (k : ℕ). k * 5 ≤ len) e r

@@ -80,7 +80,7 @@ fn put_step(steps: &mut [u16], at: usize, v: u16, l: u16, r: u16, work: u16, siz
 }
 
 // The listing: node, left, right, work bits and size bits of each step in order.
-fn list_steps(steps: &mut [u16], n: usize, kids: &[u16], order: &[u16], list: &PriceList)
+pub(crate) fn list_steps(steps: &mut [u16], n: usize, kids: &[u16], order: &[u16], list: &PriceList)
     requires { Steps n kids.now order.now × (length order.now * 5 ≤ length steps.old) × (nodes n kids.now ≤ length list.now.works.now) × (nodes n kids.now ≤ length list.now.sizes.now) }
     ensures { steps.new ≡ over steps.old (lines (left_of kids.now n) (right_of kids.now n) list.now.works.now list.now.sizes.now order.now) }
 {

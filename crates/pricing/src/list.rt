@@ -3,17 +3,17 @@ ghost use Rattle.std.specs.Prelude.{◌≡◌, ◌+◌, ◌*◌, ◌≤◌, leng
 ghost use Rattle.spec.specs.Layout.{firsts, network_of};
 ghost use Rattle.spec.specs.Tree.{pairs_of, step_order};
 ghost use Rattle.spec.specs.Network.{leaf_count, index_count};
-ghost use Rattle.spec.specs.Calls.{flag_at, node_places};
+ghost use Rattle.spec.specs.Calls.{flag_at, node_places, step_places};
 ghost use Rattle.spec.specs.Price.{up_to};
 ghost use Rattle.network.specs.Views.{net_in};
 ghost use Rattle.nodesets.specs.Passes.{nodes};
 ghost use Rattle.pricing.specs.Answers.{widest_in};
 ghost use Rattle.pricing.specs.Sums.{work_sum};
-ghost use Rattle.pricing.specs.Promise.{Priceable, Filled};
+ghost use Rattle.pricing.specs.Promise.{Priceable, Filled, Pricing};
 ghost use Rattle.pricing.specs.Lists.{IsSameLoan, HasRoom};
 
 use network::Accepted;
-use spec::Total;
+use spec::{Prices, Total};
 use walk::Tree;
 
 /// The lists that pricing fills from their fronts on.
@@ -64,7 +64,39 @@ impl<'a> PriceList<'a> {
         );
     }
 
-    /// The same for a network in lists of which the first places are in use: `m` weights, `n` leaves, `o` outputs.
+    /// Prices as `price` does, hands the listing out, five numbers a step: node, left, right, work bits, size bits, and answers total, widest and slice bits.
+    pub fn price_listed<const M: usize>(
+        &mut self,
+        outside: &mut [u64],
+        steps: &mut [u16],
+        w: usize,
+        network: &Accepted,
+        flags: &[u8],
+        tree: &Tree,
+        order: &[u16],
+    ) -> Prices
+        requires width { (w * 64 ≤ M) × (M ≤ 1024) }
+        requires fits { index_count (net_in network.now) ≤ w * 64 }
+        requires leaves { tree.now.leaves ≡ leaf_count (net_in network.now) }
+        requires order { order.now ≡ step_order tree.now.kids.now tree.now.leaves }
+        requires outside { node_places (net_in network.now) * w ≤ length outside.old }
+        requires room { HasRoom w (node_places (net_in network.now)) self.old }
+        requires steps { step_places (net_in network.now) * 5 ≤ length steps.old }
+        ensures lent { IsSameLoan self.old self.new }
+        ensures pricing { Pricing w (net_in network.now) (flag_at flags.now) (pairs_of tree.now.kids.now) self.old.sets.now self.old.sizes.now self.old.works.now steps.old self.new.sets.now self.new.sizes.now self.new.works.now steps.new result }
+    {
+        self.price::<M>(outside, w, network, flags, tree, order);
+        let n = network.leg_counts.len();
+        let c = order.len();
+        crate::list_steps(steps, n, tree.kids, order, self);
+        Prices {
+            total: self.total(n, c),
+            widest: self.widest(n + c),
+            slice_bits: crate::slice_bits(network.weights.len(), network.weights, flags),
+        }
+    }
+
+    /// The same as `price` for a network in lists of which the first places are in use: `m` weights, `n` leaves, `o` outputs.
     pub fn price_lists<const M: usize>(
         &mut self,
         outside: &mut [u64],
