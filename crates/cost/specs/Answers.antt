@@ -11,6 +11,11 @@ use Rattle.spec.specs.Calls.{lent, plain_words, set_words, step_numbers, node_pl
 use Rattle.nodesets.specs.Passes.{with_sets}
 use Rattle.pricing.specs.Promise.{ListingSound}
 
+-- what a caller is told of a call: that it is done, or why not
+abbrev pub told : {A : Type 0} → Result A Refusal → Result (Unit {0}) Refusal
+told (Err r) = Err r
+told (Ok x) = Ok tt
+
 -- the lengths of the lent lists
 abbrev pub room : (sets sizes works steps : ℕ) → PriceRoom
 room sets sizes works steps = record { sets = sets; sizes = sizes; works = works; steps = steps }

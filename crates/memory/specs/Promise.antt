@@ -14,13 +14,8 @@ use Rattle.spec.specs.Host.{lent_network, price_numbers, memory_call, answer_aft
 use Rattle.laws.specs.Results.{not_done}
 use Rattle.network.specs.Codes.{large_of, refused_large, large_layout}
 use Rattle.pricing.specs.Promise.{ListingSound}
-use Rattle.cost.specs.Answers.{room, priced_sets, TreeCost}
+use Rattle.cost.specs.Answers.{told, room, priced_sets, TreeCost}
 use Rattle.memory.specs.Call.{as_priced, as_refused, as_short, untouched}
-
--- what a caller is told of the call: that it is done, or why not
-abbrev pub told : Result Prices Refusal → Result (Unit {0}) Refusal
-told (Err r) = Err r
-told (Ok p) = Ok tt
 
 -- every list follows the call c, and the listing that is handed out is sound
 pub record Follows (N : Network) (flags kids : List ℕ) (c : Result Prices Refusal) (ws₀ sets₀ sizes₀ works₀ steps₀ answer₀ ws sets sizes works steps answer : List ℕ) (r : ℕ) : Type 0 where

@@ -10,9 +10,9 @@ ghost use Rattle.spec.specs.Refusal.{code_of};
 ghost use Rattle.spec.specs.FileClaims.{refusal_in};
 ghost use Rattle.network.specs.Lists.{HasRows};
 ghost use Rattle.pricing.specs.Lists.{IsSameLoan};
-ghost use Rattle.cost.specs.Answers.{room};
+ghost use Rattle.cost.specs.Answers.{told, room};
 ghost use Rattle.memory.specs.Numbers.{or_short};
-ghost use Rattle.memory.specs.Promise.{told, MemoryCost};
+ghost use Rattle.memory.specs.Promise.{MemoryCost};
 
 use network::{Accepted, Network, refusal, scan};
 use pricing::list::PriceList;

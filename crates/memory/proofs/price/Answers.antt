@@ -1,7 +1,7 @@
 use Rattle.std.proofs.Common.{◌∙◌, ap, length, replicate, arith}
 use Rattle.spec.specs.Host.{lent_network, memory_call}
-use Rattle.cost.specs.Answers.{room}
-use Rattle.memory.specs.Promise.{told, cost_same}
+use Rattle.cost.specs.Answers.{told, room}
+use Rattle.memory.specs.Promise.{cost_same}
 use Rattle.memory.specs.Copies.{clear, padded_network}
 use Rattle.memory.proofs.price.Goals as goal
 
