@@ -19,7 +19,7 @@ use Rattle.slots.specs.Weigh.{open_weight, Light, open_light}
 use Rattle.network.specs.Layouts.{layout_leaf_count, layout_index_count, layout_weights, layout_weight, layout_legs}
 use Rattle.nodesets.specs.Passes.{nodes, with_sets}
 use Rattle.nodesets.specs.Sets.{held-with_sets}
-use Rattle.nodesets.specs.Lists.{ordered_steps, SetsAre}
+use Rattle.nodesets.specs.Lists.{ordered_steps}
 use Rattle.nodebits.specs.Bits.{Effective, Known, size_of, node_work}
 use Rattle.spec.specs.declared.Prices.{Prices}
 use Rattle.pricing.specs.Answers.{widest_in}
@@ -73,17 +73,14 @@ module _ {W m n o : ℕ} {weights counts rows outputs kids order : List ℕ} (p 
       }))
 
   module _ (flags effective sets₀ sets : List ℕ) (eff : Effective (firsts m weights) flags effective) (room : nodes n kids * W ≤ length sets₀)
-      (are : SetsAre W n o counts rows outputs kids sets₀ sets) where
-    sets_are : sets ≡ with_sets sets₀ W (λ v j. memb j (list_at N a v)) (nodes n kids)
-    sets_are = are m weights p.accepted.in_range
-
+      (are : sets ≡ with_sets sets₀ W (λ v j. memb j (list_at N a v)) (nodes n kids)) where
     right : NodesRight N n W kids order sets flags effective
     right =
         nodes_right N W kids order sets flags effective p.accepted
         (omega (arith, p.fits, layout_index_count m n o weights counts rows outputs))
         (rw (layout_weights m n o weights counts rows outputs) eff)
         n leaf_count_lem p.ordered
-        (λ v j h b. rw sets_are (held-with_sets sets₀ W (λ v j. memb j (list_at N a v)) (nodes n kids) v j room h b))
+        (λ v j h b. rw are (held-with_sets sets₀ W (λ v j. memb j (list_at N a v)) (nodes n kids) v j room h b))
 
     light : Light effective
     light j = rw (eff j) (open_light (firsts m weights) flags weights_light j)
@@ -109,7 +106,7 @@ module _ {W m n o : ℕ} {weights counts rows outputs kids order : List ℕ} (p 
         → Filled W N (flag_at flags) a sets₀ sizes₀ works₀ sets sizes works
     filled sizes₀ works₀ sizes works es ew =
         record {
-          sets_are = rw places sets_are;
+          sets_are = rw places are;
           sizes_are = rw places (sizes_are right sizes₀ sizes es);
           works_are = rw places (works_are right works₀ works ew);
         }

@@ -3,9 +3,7 @@
 ghost use Rattle.std.specs.Prelude.{◌≡◌, not, cond, ◌∷◌, [], eqb, ◌+◌, ◌*◌, ◌<◌, ◌≤◌, length};
 ghost use Rattle.std.proofs.lemmas.List.Edits.{sets};
 ghost use Rattle.spec.specs.Lists.{range, sum_of};
-ghost use Rattle.spec.specs.Layout.{firsts, network_of};
-ghost use Rattle.spec.specs.Tree.{pairs_of};
-ghost use Rattle.spec.specs.Calls.{flag_at};
+ghost use Rattle.spec.specs.Layout.{firsts};
 ghost use Rattle.spec.specs.Memory.{over};
 ghost use Rattle.spec.specs.Price.{up_to};
 ghost use Rattle.slots.specs.Weigh.{Light};
@@ -15,12 +13,11 @@ ghost use Rattle.nodesets.specs.Steps.{Steps};
 ghost use Rattle.pricing.specs.Answers.{widest_in};
 ghost use Rattle.pricing.specs.Sums.{work_sum, slice_share};
 ghost use Rattle.pricing.specs.Lines.{lines};
-ghost use Rattle.pricing.specs.Promise.{Priceable, Room, Pricing};
 
 pub mod list; // list.rt: the price list
 
 use list::PriceList;
-use spec::{Prices, Total};
+use spec::Total;
 
 /// The total of the `c` inner nodes from number `n` on: the sum of 2 to their work bits, or beyond from 2^53 on.
 pub fn total_of(works: &[u16], n: usize, c: usize) -> Total
@@ -98,40 +95,5 @@ pub(crate) fn list_steps(steps: &mut [u16], n: usize, kids: &[u16], order: &[u16
             list.works[v],
             list.sizes[v],
         );
-    }
-}
-
-// Prices the tree `kids` of an accepted network, in step order: fills the price list's lists from their fronts on; `outside` is worked in.
-pub fn price(
-    outside: &mut [u64],
-    sets: &mut [u64],
-    sizes: &mut [u16],
-    works: &mut [u16],
-    steps: &mut [u16],
-    w: usize,
-    m: usize,
-    n: usize,
-    o: usize,
-    weights: &[u8],
-    counts: &[u8],
-    legs: &[u16],
-    outputs: &[u16],
-    flags: &[u8],
-    kids: &[u16],
-    order: &[u16],
-) -> Prices
-    requires { Priceable w m n o weights.now counts.now legs.now outputs.now kids.now order.now × Room w n kids.now order.now (length outside.old) (length sets.old) (length sizes.old) (length works.old) (length steps.old) }
-    ensures { Pricing w (network_of m n o weights.now counts.now legs.now outputs.now) (flag_at flags.now) (pairs_of kids.now) sets.old sizes.old works.old steps.old sets.new sizes.new works.new steps.new result }
-{
-    let mut list = PriceList { sets, sizes, works };
-    list.price_lists::<1024>(
-        outside, w, m, n, o, weights, counts, legs, outputs, flags, kids, order,
-    );
-    list_steps(steps, n, kids, order, &list);
-    let c = order.len();
-    Prices {
-        total: list.total(n, c),
-        widest: list.widest(n + c),
-        slice_bits: slice_bits(m, weights, flags),
     }
 }
