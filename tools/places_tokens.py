@@ -5,9 +5,9 @@ its brackets. An integer is a type of u8 .. u128, usize and signed ones.
 1  signatures (not types) with a result that is the repository's own enum with one variant without a value or one named as a refusal; results and parameters that are a struct with a bool;
    functions whose answer some caller compares with a word in capitals; words in capitals in code besides where they are declared and imported, those of limits (MAX_..) left out; matches
    without the path of a variant as a pattern, that is on numbers, and `Refused(..)` as a pattern
-2  functions whose contracts are the same when numbers, types and names of parameters are left out; functions of two blocks or 24 signs at least whose signs and keywords are the same
-t  today's forms, which no point asks to change: Option, Result, ?, methods, closures, impls of traits
-3  for with .. in its head, by whether its bound is a length, a name or a number; while and loop; `+= 1` and `-= 1` below a loop; functions with a loop in them; iterators' methods called"""
+2  functions whose contracts are the same when numbers, types and names of parameters are left out; functions of 24 signs at least whose signs and keywords are the same
+3  for with .. in its head, by whether its bound is a length, a name or a number; while and loop; `+= 1` and `-= 1` below a loop; functions with a loop in them; iterators' methods called
+t  today's forms, which no point asks to change: Option, Result, ?, methods, closures, impls of traits"""
 import collections
 import re
 
