@@ -4,6 +4,10 @@ ghost use Rattle.std.specs.Prelude.{◌≡◌, ◌^◌, ◌<◌, ◌≤◌, min}
 ghost use Rattle.std.specs.Int.Count.{ones, count_trailing_zeros};
 ghost use Rattle.spec.specs.ImproveClaims.{most_splits};
 
+mod digits; // digits.rt: the set digits of a word, one after another
+
+pub use digits::Digits;
+
 /// The place of the lowest set digit.
 pub fn low(x: u64) -> usize
     requires { 0 < x }
