@@ -1,4 +1,4 @@
-use Rattle.std.proofs.Common.{◌≡◌, ◌*◌, ◌≤◌, ◌-◌}
+use Rattle.std.proofs.Common.{◌≡◌, ◌*◌, ◌≤◌}
 use Rattle.slots.specs.Writes.{mixed}
 use Rattle.slots.specs.Slots.{written}
 use Rattle.slots.proofs.mix.combine.Given as goal

@@ -3,7 +3,7 @@ use Rattle.frontier.specs.Turns.{open_most_count, open_most_some, openings_none,
 use Rattle.frontier.specs.Opens.{State, state}
 use native.Mathlib.Omega.{arith}
 use mathlib.Core.Path.{refl, ap}
-use Rattle.frontier.proofs.frontier.Goals as goal
+use Rattle.frontier.proofs.open_all.Goals as goal
 
 pub loop-i-init : goal.loop-i-init
 loop-i-init c = let a = c.args in (omega arith, omega arith, omega arith, refl, refl, openings_none a.kids.now a.works.now a.n _)
