@@ -1,18 +1,20 @@
 -- One turn of each loop, and its end. Assumes nothing.
-use Rattle.std.specs.Prelude.{Bool, true, false, not, ◌&&◌, ◌||◌, cond, ◌≡◌, refl, List, [], ◌∷◌, map, ℕ, ◌+◌, ◌*◌, ◌≤◌, ◌<◌, min, eqb, length, get_or, set, take}
-use Rattle.std.proofs.Common.{sym, ◌∙◌, ap, ap₂, arith, length-set, get_or-set_same, get_or-set_other, add-one, take-suc}
+use Rattle.std.specs.Prelude.{Bool, true, false, not, ◌&&◌, ◌||◌, cond, ◌≡◌, refl, List, [], ◌∷◌, map, ℕ, suc, zero, ◌+◌, ◌*◌, ◌≤◌, ◌<◌, min, eqb, length, get_or, set, take}
+use Rattle.std.proofs.Common.{sym, ◌∙◌, ap, ap₂, subst, arith, length-set, get_or-set_same, get_or-set_other, add-one, take-suc}
 use Rattle.std.proofs.Math.Seq.{take-length}
 use Rattle.std.proofs.Math.Decide.{ℕ_discrete, dec_le}
 use Rattle.std.specs.Int.Bits.{bit_and, bit_or}
 use Rattle.std.proofs.Math.ListN.{get_or-eq_default}
-use Rattle.spec.specs.Lists.{range, keep, sum_of}
+use Rattle.spec.specs.Lists.{range, from, keep, sum_of}
 use Rattle.spec.specs.Layout.{firsts}
 use Rattle.spec.specs.Memory.{filled, over, copied}
 use Rattle.laws.specs.ListLaws.{sum_append, range_length, keep_length, sum_bound}
 use Rattle.laws.specs.LayoutLaws.{map_range_at, map_range_length, firsts_length, firsts_at}
 use Rattle.cells.specs.Cells.{filled_length, filled_all, copied_at, copied_past, copied_next, copied_all}
 use Rattle.bits.specs.Digits.{or_digits, and_digits, diff_digits, bit_diff}
-use Rattle.bits.specs.Lowest.{Tests}
+use Rattle.spec.specs.Members.{All}
+use Rattle.laws.specs.Booleans.{by_cases}
+use Rattle.bits.specs.Lowest.{Tests, places}
 use Rattle.slots.specs.Slots.{held, held-digit}
 use Rattle.slots.specs.Weigh.{open_weight, Light, weighed, either, open_light}
 use Rattle.nodebits.specs.Bits.{Effective, StepKnown, size_of, work_of}
@@ -148,3 +150,19 @@ step_sums effective sets W l r v left right shared dropped k el er nested es ed 
       size = rw ed (weighed_part effective [] (either sets W l r) (held sets W v) (W * 64) nested);
       small = omega (arith, k.narrow, weighed_most effective [] (either sets W l r) (W * 64) k.light);
     }
+
+-- ---- the digits of a word ----
+
+below_keep : (p : ℕ → Bool) (t b k : ℕ) → b + k ≤ t → All (λ i. i < t) (keep p (from b k))
+below_keep p t b zero h = tt
+below_keep p t b (suc k) h =
+    let ih : All (λ i. i < t) (keep p (from (suc b) k)) = below_keep p t (suc b) k (omega arith) in
+    by_cases (p b) (λ e. rw e (omega arith, ih)) (λ e. rw e ih)
+
+pub places_below : (b k x : ℕ) → All (λ i. i < b + k) (places b k x)
+unfolding places
+places_below b k x = below_keep _ (b + k) b k (omega arith)
+
+-- the next digit's place is one of them
+pub next_below : {t i : ℕ} {l m : List ℕ} → All (λ j. j < t) l → l ≡ i ∷ m → (i < t) × All (λ j. j < t) m
+next_below {t} h e = subst (All (λ j. j < t)) e h

@@ -11,6 +11,7 @@ ghost use Rattle.nodesets.specs.Passes.{nodes};
 ghost use Rattle.nodebits.specs.Bits.{Effective, StepKnown, InnerKnown, Known, size_of, work_of, leaf_size, node_work};
 ghost use Rattle.nodebits.specs.Stepped.{Stepped};
 
+use bits::Digits;
 use network::{Accepted, scan};
 
 // The weight, or 0 where it is flagged.
@@ -67,14 +68,12 @@ fn leaf_bits(sizes: &mut [u16], works: &mut [u16], network: &Accepted, effective
 
 // The summed weights of the indices `base` + i for each set digit i of `x`.
 fn weigh_word(x: u64, base: usize, effective: &[u8]) -> usize
-    requires { (base + 64 ≤ length effective.now) × Light effective.now }
+    requires { (base + 64 ≤ length effective.now) × Light effective.now × (base ≤ 65536) }
     ensures { (result ≡ word_weight effective.now [] base x) × (result ≤ 512) }
 {
-    let mut rest = x;
     let mut sum: usize = 0;
-    while rest != 0 {
-        sum += usize::from(effective[base + bits::low(rest)]);
-        rest = rest & (rest - 1);
+    for i in Digits::above(base, x) {
+        sum += usize::from(effective[i]);
     }
     sum
 }

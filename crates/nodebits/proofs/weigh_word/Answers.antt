@@ -1,14 +1,32 @@
-use Rattle.slots.specs.Weigh.{weigh_turn, weigh_most, weigh_end}
-use Rattle.bits.specs.Lowest.{drop_less}
-use mathlib.Core.List.{[]}
-use native.Mathlib.Omega.{arith}
+use Rattle.std.proofs.Common.{◌≡◌, ◌+◌, ◌<◌, [], sym, ap, subst, ◌∙◌, arith}
+use Rattle.spec.specs.Lists.{sum_of}
+use Rattle.spec.specs.Members.{All}
+use Rattle.bits.specs.Lowest.{places}
+use Rattle.slots.specs.Weigh.{open_weight, weigh_turn, weigh_most, weigh_end}
+use Rattle.nodebits.specs.Loops.{places_below, next_below}
 use Rattle.nodebits.proofs.weigh_word.Goals as goal
 
-pub overflow_add-sum : goal.overflow_add-sum
-overflow_add-sum c = let l = c.loop-rest in omega (arith, weigh_most c.args.effective.now [] c.args.base c.requires.1 c.args.x l.rest l.sum (omega arith) l.invariant.0)
+pub loop-i-init : goal.loop-i-init
+loop-i-init c =
+    let d = c.args in
+    let g = c.into_iter-i-iterator.ensures.into_iter_gives in
+    let a = c.above-i-items.ensures in
+    let e : places c.into_iter-i-iterator.result.base 64 c.into_iter-i-iterator.result.rest ≡ places d.base 64 d.x =
+    (λ j. places (g j).base 64 (g j).rest) ∙ (λ j. places (a.0 j) 64 (a.1 j)) in
+    (tt, omega (arith, ap (sum_of (open_weight d.effective.now [])) e), subst (All (λ i. i < d.base + 64)) (sym e) (places_below d.base 64 d.x))
 
-pub loop-rest-preserved : goal.loop-rest-preserved
-loop-rest-preserved c = let d = c.args in let l = c.loop-rest in (weigh_turn d.effective.now [] d.base d.x l.rest l.sum c.low.result c.from-sum.result (omega arith) (omega arith) c.low.ensures.0 c.from-sum.ensures l.invariant.0, omega (arith, drop_less l.rest (omega arith)))
+pub bounds-effective-i : goal.bounds-effective-i
+bounds-effective-i c = omega (arith, (next_below c.loop-i.invariant.2 c.in-Some.ensures.steps).0)
+
+pub overflow_add-sum : goal.overflow_add-sum
+overflow_add-sum c =
+    let d = c.args in
+    omega (arith, c.from-sum.ensures, c.requires.1 c.in-Some.i, weigh_most d.effective.now [] d.base c.requires.1 d.x _ c.loop-i.sum (omega arith) c.loop-i.invariant.1)
+
+pub loop-i-preserved : goal.loop-i-preserved
+loop-i-preserved c =
+    let d = c.args in
+    (tt, weigh_turn d.effective.now [] d.base d.x _ _ c.loop-i.sum c.in-Some.i _ c.in-Some.ensures.steps c.from-sum.ensures c.loop-i.invariant.1, (next_below c.loop-i.invariant.2 c.in-Some.ensures.steps).1)
 
 pub returns : goal.returns
-returns c = let l = c.loop-rest in weigh_end c.args.effective.now [] c.args.base c.requires.1 c.args.x l.rest l.sum (omega arith) (omega arith) l.invariant.0
+returns c = let d = c.args in weigh_end d.effective.now [] d.base c.requires.1 d.x _ c.loop-i.sum (omega arith) c.in-None.ensures.steps.0 c.loop-i.invariant.1

@@ -1,11 +1,12 @@
-use Rattle.slots.specs.Weigh.{word_weight}
-use mathlib.Core.List.{[]}
-use Prim.Native.Nat.{◌+◌, ◌≤◌}
-use mathlib.Core.Path.{◌≡◌}
+use Rattle.std.proofs.Common.{◌≡◌, ◌+◌, ◌<◌, []}
+use Rattle.spec.specs.Lists.{sum_of}
+use Rattle.spec.specs.Members.{All}
+use Rattle.bits.specs.Lowest.{places}
+use Rattle.slots.specs.Weigh.{open_weight}
 use Rattle.nodebits.proofs.weigh_word.Given as goal
 
-abbrev pub invariant-loop-rest : goal.invariant-loop-rest
-invariant-loop-rest l = (l.sum + word_weight l.effective [] l.base l.rest ≡ word_weight l.effective [] l.base l.x) × (l.rest ≤ l.x)
-
-abbrev pub decreases-loop-rest : goal.decreases-loop-rest
-decreases-loop-rest l = l.rest
+abbrev pub invariant-loop-i : goal.invariant-loop-i
+invariant-loop-i l =
+    (goal.iterator-loop-i).can_next l.i-iterator
+    × (l.sum + sum_of (open_weight l.effective []) (places l.i-iterator.base 64 l.i-iterator.rest) ≡ sum_of (open_weight l.effective []) (places l.base 64 l.x))
+    × All (λ i. i < l.base + 64) (places l.i-iterator.base 64 l.i-iterator.rest)
