@@ -12,19 +12,6 @@ ghost use Rattle.nodesets.specs.Passes.{nodes};
 ghost use Rattle.nodebits.specs.Bits.{Effective, StepKnown, InnerKnown, Known, size_of, work_of, leaf_size, node_work};
 ghost use Rattle.nodebits.specs.Stepped.{Stepped};
 
-// A number as an index.
-fn index8(x: u8) -> usize
-    ensures { (result ≡ x) × (result < 256) }
-{
-    x as usize
-}
-
-fn index16(x: u16) -> usize
-    ensures { (result ≡ x) × (result < 65536) }
-{
-    x as usize
-}
-
 // The weight, or 0 where it is flagged.
 fn unless(flag: u8, weight: u8) -> u8
     ensures { result ≡ cond (not (eqb flag 0)) 0 weight }
@@ -58,7 +45,7 @@ fn leaf_size(effective: &[u8], legs: &[u16], base: usize, n: usize) -> usize
 {
     let mut sum: usize = 0;
     for k in 0..n {
-        sum += cells::at8(effective, index16(legs[base + k]));
+        sum += cells::at8(effective, usize::from(legs[base + k]));
     }
     sum
 }
@@ -76,7 +63,7 @@ fn leaf_bits(
     ensures { (sizes.new ≡ over sizes.old (map (leaf_size effective.now counts.now legs.now) (range n))) × (works.new ≡ over works.old (filled n 0)) }
 {
     for i in 0..n {
-        let size = leaf_size(effective, legs, i * 32, index8(counts[i]));
+        let size = leaf_size(effective, legs, i * 32, usize::from(counts[i]));
         sizes[i] = size as u16;
         works[i] = 0;
     }
@@ -90,7 +77,7 @@ fn weigh_word(x: u64, base: usize, effective: &[u8]) -> usize
     let mut rest = x;
     let mut sum: usize = 0;
     while rest != 0 {
-        sum += index8(effective[base + bits::low(rest)]);
+        sum += usize::from(effective[base + bits::low(rest)]);
         rest = rest & (rest - 1);
     }
     sum
@@ -145,7 +132,7 @@ fn step_bits(
     ensures { (result.work ≡ work_of effective.now sets.now w l r) × (result.size ≡ size_of effective.now sets.now w v) }
 {
     let o = overlap(sets, w, l, r, v, effective);
-    let work = index16(left) + index16(right) - o.shared;
+    let work = usize::from(left) + usize::from(right) - o.shared;
     StepBits {
         work: work as u16,
         size: (work - o.dropped) as u16,
@@ -166,8 +153,8 @@ fn inner_bits(
     requires { InnerKnown w n kids.now order.now sets.now effective.now × (nodes n kids.now ≤ length sizes.old) × (nodes n kids.now ≤ length works.old) × ((i : ℕ) → i < n → get_or sizes.old i 0 ≡ size_of effective.now sets.now w i) }
     ensures { Stepped w n kids.now order.now sets.now effective.now sizes.old works.old (length order.now) sizes.new works.new }
 {
-    for k in 0..order.len() {
-        let v = index16(order[k]);
+    for &node in order {
+        let v = usize::from(node);
         let l = nodesets::left(kids, n, v);
         let r = nodesets::right(kids, n, v);
         let b = step_bits(sets, w, l, r, v, effective, sizes[l], sizes[r]);

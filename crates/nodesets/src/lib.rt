@@ -12,20 +12,14 @@ pub fn left(kids: &[u16], n: usize, v: usize) -> usize
     requires { (n ≤ v) × (v < nodes n kids.now) }
     ensures { (result ≡ left_of kids.now n v) × (result < 65536) }
 {
-    index16(kids[(v - n) * 2])
+    usize::from(kids[(v - n) * 2])
 }
 
 pub fn right(kids: &[u16], n: usize, v: usize) -> usize
     requires { (n ≤ v) × (v < nodes n kids.now) }
     ensures { (result ≡ right_of kids.now n v) × (result < 65536) }
 {
-    index16(kids[(v - n) * 2 + 1])
-}
-
-fn index16(x: u16) -> usize
-    ensures { (result ≡ x) × (result < 65536) }
-{
-    x as usize
+    usize::from(kids[(v - n) * 2 + 1])
 }
 
 // Makes slot i the set of leaf i's indices.
@@ -57,8 +51,8 @@ fn join_up(sets: &mut [u64], w: usize, n: usize, kids: &[u16], order: &[u16])
     requires { Steps n kids.now order.now × (nodes n kids.now * w ≤ length sets.old) }
     ensures { sets.new ≡ ups w (left_of kids.now n) (right_of kids.now n) order.now sets.old (length order.now) }
 {
-    for k in 0..order.len() {
-        let v = index16(order[k]);
+    for &node in order {
+        let v = usize::from(node);
         let l = left(kids, n, v);
         let r = right(kids, n, v);
         join(sets, w, l, r, v);
@@ -83,8 +77,8 @@ fn want_down(outside: &mut [u64], sets: &[u64], w: usize, n: usize, kids: &[u16]
     requires { Steps n kids.now order.now × (nodes n kids.now * w ≤ length outside.old) × (nodes n kids.now * w ≤ length sets.now) }
     ensures { outside.new ≡ downs w (left_of kids.now n) (right_of kids.now n) order.now sets.now outside.old (length order.now) }
 {
-    for k in 0..order.len() {
-        let v = index16(order[order.len() - (k + 1)]);
+    for &node in order.iter().rev() {
+        let v = usize::from(node);
         let l = left(kids, n, v);
         let r = right(kids, n, v);
         widen(outside, w, v, l, sets, r);
@@ -108,8 +102,8 @@ fn trim_all(sets: &mut [u64], outside: &[u64], w: usize, n: usize, kids: &[u16],
     requires { Steps n kids.now order.now × (nodes n kids.now * w ≤ length sets.old) × (nodes n kids.now * w ≤ length outside.now) }
     ensures { sets.new ≡ cuts w order.now outside.now sets.old (length order.now) }
 {
-    for k in 0..order.len() {
-        trim(sets, outside, w, index16(order[k]));
+    for &node in order {
+        trim(sets, outside, w, usize::from(node));
     }
 }
 

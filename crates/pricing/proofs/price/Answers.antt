@@ -1,9 +1,9 @@
 use borrow.Author.Rules.{rules}
-use Rattle.pricing.specs.Answers.{widest_of, widest_in}
+use Rattle.pricing.specs.Answers.{widest_in}
 use Rattle.nodesets.specs.Passes.{nodes}
 use Rattle.spec.specs.Layout.{firsts}
 use Rattle.cells.specs.Cells.{over_length}
-use Rattle.pricing.specs.Final.{weights_light, listing_sound, known, price_list, price_answer}
+use Rattle.pricing.specs.Final.{weights_light, listing_sound, price_list, price_answer}
 use Rattle.nodesets.specs.Lists.{ordered_steps}
 use native.Mathlib.Omega.{arith}
 use Prim.Native.Nat.{ℕ, ◌+◌}
@@ -11,30 +11,40 @@ use mathlib.Core.Path.{◌≡◌, ap, ◌∙◌}
 use lib.ListN.{length}
 use Rattle.pricing.proofs.price.Goals as goal
 
-pub node_bits-requires : goal.node_bits-requires
-node_bits-requires c = let a = c.args in (known c.requires.0 a.flags.now c.effective_weights.new.effective a.sets.now c.node_sets.new.sets c.effective_weights.ensures c.requires.1.for_sets c.node_sets.ensures (omega (arith, c.requires.0.narrow, c.effective-2-1.given)) (search rules), search rules, search rules)
+pub price_lists-requires : goal.price_lists-requires
+price_lists-requires c = record { width = (omega (arith, c.requires.0.narrow), omega arith); priceable = c.requires.0; outside = c.requires.1.for_outside; room = record { for_sets = c.requires.1.for_sets; for_sizes = c.requires.1.for_sizes; for_works = c.requires.1.for_works } }
 
 pub list_steps-requires : goal.list_steps-requires
-list_steps-requires c = let a = c.args in (ordered_steps c.requires.0.ordered, search rules, search rules, search rules)
+list_steps-requires c =
+    let f = c.price_lists.ensures.filled in
+    (ordered_steps c.requires.0.ordered, c.requires.1.for_steps, omega (arith, c.requires.1.for_works, ap length f.works_are ∙ over_length _ _), omega (arith, c.requires.1.for_sizes, ap length f.sizes_are ∙ over_length _ _))
 
-pub total_of-total-requires : goal.total_of-total-requires
-total_of-total-requires c = let a = c.args in let s = ordered_steps c.requires.0.ordered in omega (arith, s.steps, s.numbers, c.requires.1.for_works, ap length c.node_bits.ensures.1 ∙ over_length _ _)
+pub total-requires : goal.total-requires
+total-requires c =
+    let s = ordered_steps c.requires.0.ordered in
+    omega (arith, s.steps, s.numbers, c.requires.1.for_works, ap length c.price_lists.ensures.filled.works_are ∙ over_length _ _)
 
-pub widest_of-widest-requires : goal.widest_of-widest-requires
-widest_of-widest-requires c = let a = c.args in let s = ordered_steps c.requires.0.ordered in omega (arith, s.steps, s.numbers, c.requires.1.for_sizes, ap length c.node_bits.ensures.0 ∙ over_length _ _)
+pub widest-requires : goal.widest-requires
+widest-requires c =
+    let s = ordered_steps c.requires.0.ordered in
+    omega (arith, s.steps, s.numbers, c.requires.1.for_sizes, ap length c.price_lists.ensures.filled.sizes_are ∙ over_length _ _)
 
-pub slice_bits-bits-requires : goal.slice_bits-bits-requires
-slice_bits-bits-requires c = let a = c.args in (c.requires.0.weight_places, omega (arith, c.requires.0.fits, c.requires.0.narrow), weights_light c.requires.0)
+pub slice_bits-requires : goal.slice_bits-requires
+slice_bits-requires c = (c.requires.0.weight_places, omega (arith, c.requires.0.fits, c.requires.0.narrow), weights_light c.requires.0)
 
 pub returns : goal.returns
-returns c = let a = c.args in
+returns c =
+    let a = c.args in
     let s = ordered_steps c.requires.0.ordered in
     let e : a.n + length a.order.now ≡ nodes a.n a.kids.now = omega (arith, s.steps, s.numbers) in
-    let es = c.node_bits.ensures.0 in
-    let ew = c.node_bits.ensures.1 in
-    let l = price_list c.requires.0 a.flags.now c.effective_weights.new.effective a.sets.now c.node_sets.new.sets c.effective_weights.ensures c.requires.1.for_sets c.node_sets.ensures a.sizes.now a.works.now a.steps.now c.node_bits.new.sizes c.node_bits.new.works c.list_steps.new.steps c.requires.1.for_sizes c.requires.1.for_works es ew c.list_steps.ensures in
-    record {
+    let f = c.price_lists.ensures.filled in
+    let l = price_list c.requires.0 a.flags.now c.requires.1.for_sizes c.requires.1.for_works f c.list_steps.ensures in
+    let es : c.sets-1.given.0 ≡ c.price_lists.new.self.sets.now = search rules in
+    let ez : c.sizes-1.given.0 ≡ c.price_lists.new.self.sizes.now = search rules in
+    let ew : c.works-1.given.0 ≡ c.price_lists.new.self.works.now = search rules in
+    rw (es, ez, ew) (record {
       list = l;
-      answer = price_answer c.requires.0 a.flags.now c.effective_weights.new.effective a.sets.now c.node_sets.new.sets c.effective_weights.ensures c.requires.1.for_sets c.node_sets.ensures a.sizes.now a.works.now a.steps.now c.node_bits.new.sizes c.node_bits.new.works c.list_steps.new.steps c.requires.1.for_sizes c.requires.1.for_works es ew c.list_steps.ensures c.total_of-total.result c.widest_of-widest.result c.slice_bits-bits.result c.total_of-total.ensures (c.widest_of-widest.ensures ∙ ap (λ (x : ℕ). widest_of (widest_in (firsts x c.node_bits.new.sizes))) e) c.slice_bits-bits.ensures;
+      answer = price_answer c.requires.0 a.flags.now c.requires.1.for_sizes c.requires.1.for_works f c.total.result c.widest.result c.slice_bits.result
+          c.total.ensures (c.widest.ensures ∙ ap (λ (x : ℕ). widest_in (firsts x c.price_lists.new.self.sizes.now)) e) c.slice_bits.ensures;
       sound = listing_sound c.requires.0 a.flags.now c.requires.1.for_sets c.requires.1.for_steps l;
-    }
+    })

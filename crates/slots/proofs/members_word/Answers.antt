@@ -20,9 +20,9 @@ loop-rest-preserved c =
     let d = c.args in
     let l = c.loop-rest in (
       put_next d.out.now d.at d.base d.x l.out _ l.n l.rest c.low.result (omega arith)
-          (omega arith) c.low.ensures.0 c.put16.ensures l.invariant.0,
+          (omega arith) c.low.ensures.0 c.put.ensures l.invariant.0,
       omega (arith, drop_less l.rest (omega arith)),
-      ap length c.put16.ensures ∙ simp length-set l.invariant.2,
+      ap length c.put.ensures ∙ simp length-set l.invariant.2,
     )
 
 pub returns : goal.returns
