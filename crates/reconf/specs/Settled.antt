@@ -1,16 +1,18 @@
 -- From what the calls of a visit answer to its promise. Assumes nothing.
 use Rattle.std.specs.Prelude.{Bool, true, false, List, ◌∷◌, map, ◌≡◌, refl, ℕ, zero, suc, ◌+◌, ◌-◌, ◌*◌, ◌^◌, ◌≤◌, ◌<◌, get_or, set, take, drop, Option, None, Some}
 use Rattle.std.proofs.Math.Path.{sym, ap, ap₂, subst}
-use Rattle.std.proofs.Common.{◌∙◌, arith, pow_mono, get_or-take}
+use Rattle.std.proofs.Common.{◌∙◌, arith, pow_mono, get_or-take, length-take-le, take_all}
+use Rattle.std.proofs.lemmas.List.{take-append-le}
 use Rattle.std.proofs.Math.ListN.{length}
 use Rattle.std.proofs.lemmas.List.Edits.{sets-eq, sets as put_at}
-use Rattle.std.proofs.Math.Seq.{length-take-le}
-use Rattle.spec.specs.Lists.{range, sum_of}
+use Rattle.spec.specs.Lists.{memb, range, sum_of}
 use Rattle.spec.specs.Network.{Network, leaf_count}
 use Rattle.spec.specs.Tree.{Tree, number, pairs_of, ValidTree}
+use Rattle.spec.specs.Price.{lists}
+use Rattle.slots.specs.Slots.{held}
 use Rattle.spec.specs.Calls.{flag_at}
 use Rattle.spec.specs.Undercut.{undercuts}
-use Rattle.spec.specs.Improve.{Region, Front, build, graft, old_cost, locals, searched, tried_at, accept_best}
+use Rattle.spec.specs.Improve.{Region, Front, member, build, graft, old_cost, locals, searched, tried_at, accept_best}
 use Rattle.laws.specs.Booleans.{by_cases, and_left}
 use Rattle.laws.specs.ListLaws.{range_length}
 use Rattle.laws.specs.Regions.{joins, over}
@@ -60,14 +62,16 @@ pub cost_front : (works l : List ℕ) (c : ℕ) → c ≤ length l → cost_belo
 cost_front works l c h = ap (cost_below works (take c l)) (length-take-le c l h) ∙ cost_take works l c c (omega arith)
 
 put_front : (old l : List ℕ) → length l ≤ length old → take (length l) (put_at old 0 l) ≡ l
-put_front old l h = ap (take (length l)) (sets-eq l old 0 h) ∙ take-append l (drop (0 + length l) old)
+put_front old l h = ap (take (length l)) (sets-eq l old 0 (omega (arith, h))) ∙ take-append-le (length l) l (drop (0 + length l) old) (omega arith) ∙ take_all (length l) l (omega arith)
 
 module _ {N : Network} {x : ℕ} {weights flags kids sets works : List ℕ} (h : Visitable N x weights flags kids sets works)
     (v : ℕ) (inside_n : v < x + (x - 1)) (k : ℕ)
     (members₀ opened₀ members opened : List ℕ) (m : ℕ) (one : 1 ≤ k) (room : k ≤ length members₀) (room_opened : k ≤ suc (length opened₀))
     (st_n : state members opened m ≡ openings kids works x (k - 1) (state (set members₀ 0 v) opened₀ 1))
+    -- the fronts of both lists
+    (M O : List ℕ) (eM : M ≡ take m members) (eO : O ≡ take (m - 1) opened)
   where
-    inside : v < leaf_count N + (leaf_count N - 1)
+    pub inside : v < leaf_count N + (leaf_count N - 1)
     inside = omega (arith, h.leaves)
 
     st : state members opened m ≡ openings kids works (leaf_count N) (k - 1) (state (set members₀ 0 v) opened₀ 1)
@@ -94,17 +98,15 @@ module _ {N : Network} {x : ℕ} {weights flags kids sets works : List ℕ} (h :
     pub members_some : 1 ≤ m
     members_some = count_some h v inside k members₀ opened₀ members opened m one room room_opened st
 
-    abbrev pub M : List ℕ
-    M = take m members
-
     pub taken_is : length M ≡ m
-    taken_is = taken h v inside k members₀ opened₀ members opened m one room room_opened st
-
-    abbrev pub O : List ℕ
-    O = take (m - 1) opened
+    taken_is = ap length eM ∙ taken h v inside k members₀ opened₀ members opened m one room room_opened st
 
     pub old_small : m - 1 ≤ length opened → cost_below works O (length O) < 9007199254740992
-    old_small f = omega (arith, cost_front works opened (m - 1) f, cost_small h v inside k members₀ opened₀ members opened m one room room_opened st)
+    old_small f = omega (arith, ap (λ l. cost_below works l (length l)) eO, cost_front works opened (m - 1) f, cost_small h v inside k members₀ opened₀ members opened m one room room_opened st)
+
+    held_by : (p j : ℕ) → p < length ms → j < 256 → held sets 4 (get_or M p 0) j ≡ memb j (lists N (member (fr h v inside k).members p))
+    held_by p j b c =
+        ap (λ l. held sets 4 (get_or l p 0) j) eM ∙ has h v inside k members₀ opened₀ members opened m one room room_opened st p j b c
 
     -- ---- the node is left ----
 
@@ -118,7 +120,7 @@ module _ {N : Network} {x : ℕ} {weights flags kids sets works : List ℕ} (h :
     listed =
         ap (λ y. locals_in sets M y flags) (taken_is ∙ counted)
         ∙ locals_same N flags s front_at sets M h.accepted.few_indices
-        (has h v inside k members₀ opened₀ members opened m one room room_opened st) (ranged h v inside k)
+        held_by (ranged h v inside k)
 
     locals_count : length L ≡ locals N flag ms
     unfolding locals
@@ -144,7 +146,7 @@ module _ {N : Network} {x : ℕ} {weights flags kids sets works : List ℕ} (h :
       small i b =
           let j : ℕ = get_or (locals_of N flag s front_at) i 0 in
           let r = in_range N flags s front_at sets M h.accepted.few_indices
-          (has h v inside k members₀ opened₀ members opened m one room room_opened st) (ranged h v inside k) i (omega (arith, count_local)) in
+          held_by (ranged h v inside k) i (omega (arith, count_local)) in
           omega (arith, ap (λ y. get_or weights y 0) (at i b), h.weighs j r, h.accepted.weights_fit j)
 
       -- ---- the search ----
@@ -156,7 +158,7 @@ module _ {N : Network} {x : ℕ} {weights flags kids sets works : List ℕ} (h :
           in_numbers : InLocal N flag s front_at q.united q.wt
           in_numbers =
               in_local N flags s front_at sets M h.accepted.few_indices
-              (has h v inside k members₀ opened₀ members opened m one room room_opened st) (ranged h v inside k)
+              held_by (ranged h v inside k)
               v (length (take c local)) (root_has h v inside k) weights (take c local) q.wt q.united h.weighs count_local at (omega (arith, ec, ap length listed_is))
               (subst (λ y. LocalSets sets 4 v M y (take c local) (length (take c local)) q.united) (taken_is ∙ counted) q.placed) q.weighs
 
@@ -167,7 +169,7 @@ module _ {N : Network} {x : ℕ} {weights flags kids sets works : List ℕ} (h :
           tried_is = q.count ∙ ap (tried_in q.united q.wt limit) (taken_is ∙ counted) ∙ local_tried N flag s front_at q.united q.wt limit in_numbers
 
           accepted : r ≡ accepts cost (old_cost N flag front_at.opened)
-          accepted = er ∙ ap (accepts cost) (eo ∙ cost_front works opened (m - 1) short ∙ cost_is h v inside k members₀ opened₀ members opened m one room room_opened st)
+          accepted = er ∙ ap (accepts cost) (eo ∙ ap (λ l. cost_below works l (length l)) eO ∙ cost_front works opened (m - 1) short ∙ cost_is h v inside k members₀ opened₀ members opened m one room room_opened st)
 
           pub stays_searched : r ≡ false → Reconfs N flag k limit v kids kids 0 tried
           stays_searched z =
@@ -203,7 +205,7 @@ module _ {N : Network} {x : ℕ} {weights flags kids sets works : List ℕ} (h :
             named : Each (λ p. get_or M p 0 ≡ get_or (map number ms) p 0) region
             named =
                 each_all (λ p. get_or M p 0 ≡ get_or (map number ms) p 0)
-                (λ p. names h v inside k members₀ opened₀ members opened m one room room_opened st p ∙ sym (number_at ms p)) region
+                (λ p. ap (λ l. get_or l p 0) eM ∙ names h v inside k members₀ opened₀ members opened m one room room_opened st p ∙ sym (number_at ms p)) region
 
             valid_then : ValidTree (leaf_count N) (build_array (leaf_count N) (map number ms) region (map number front_at.opened) (pairs_of kids)).array
                 (graft v (build ms region (map number front_at.opened)).tree (tree_of (leaf_count N) kids))
@@ -211,7 +213,7 @@ module _ {N : Network} {x : ℕ} {weights flags kids sets works : List ℕ} (h :
                 rebuilt_valid N flag (leaf_count N) (pairs_of kids) (tree_of (leaf_count N) kids) (tree_valid h v inside k) v (spot h v inside k)
                 front_at (front h v inside k) (described h v inside k)
                 (opened_inner N flag kids works (leaf_count N) front_at.opened front_lists.read_opened)
-                (map number ms) (number_at ms) region (omega (arith, counted)) every once
+                (map number ms) (number_at ms) region (omega (arith, counted, taken_is)) every once
 
             pub rebuilds : (masks : ℕ) → masks ≡ 2 ^ length M → (kids' taken' : List ℕ) (top left : ℕ) → length kids' ≡ length kids
                 → wrote kids' taken' top left ≡ build_array x M (region_of (split_at part) (masks - 1)) (freed O (length O)) (pairs_of kids)
@@ -222,7 +224,7 @@ module _ {N : Network} {x : ℕ} {weights flags kids sets works : List ℕ} (h :
                 ap (λ (w : Wrote). w.array) e
                 ∙ ap (λ y. (build_array y M (region_of (split_at part) (masks - 1)) (freed O (length O)) (pairs_of kids)).array) (sym h.leaves)
                 ∙ ap (λ y. (build_array (leaf_count N) M (region_of (split_at part) (y - 1)) (freed O (length O)) (pairs_of kids)).array) em
-                ∙ ap (λ sl. (build_array (leaf_count N) M region sl (pairs_of kids)).array) (freed_front opened (m - 1) short ∙ front_lists.opened)
+                ∙ ap (λ sl. (build_array (leaf_count N) M region sl (pairs_of kids)).array) (ap (λ l. freed l (length l)) eO ∙ freed_front opened (m - 1) short ∙ front_lists.opened)
                 ∙ ap (λ (w : Wrote). w.array) (build_same (leaf_count N) M (map number ms) region named (map number front_at.opened) (pairs_of kids)) in
                 subst (λ y. Reconfs N flag k limit v kids kids' 1 y) (sym tried_is)
                 (changes h v inside k limit (build ms region (map number front_at.opened)).tree (tried_at N flag limit s front_at) kids' same_long
