@@ -24,14 +24,16 @@ use Rattle.reprice.specs.Held.{or_leaf, tree_of, PriceHeld, Standing}
 use Rattle.reprice.specs.Laws.{tree_of_lem, standing_array, total_held}
 use Rattle.network.specs.Checks.{Lent, Rows}
 use Rattle.network.specs.Codes.{Facts}
+use Rattle.network.specs.Lists.{Holds}
+use Rattle.network.specs.Views.{in_facts, in_rows, in_leaves}
+use Rattle.network.specs.declared.accepted.Accepted.{Accepted}
 use Rattle.network.specs.Layouts.{layout_legs, layout_leaf_count}
 use Rattle.pricing.specs.Sums.{work_sum}
 use Rattle.pricing.specs.Answers.{total_of}
 use Rattle.cost.specs.Checks.{row_places}
-use Rattle.passes.specs.Made.{Ready, Improves}
+use Rattle.passes.specs.Made.{Improves}
 use Rattle.reconf.specs.declared.Visited.{Visited as Counts}
-use Rattle.reconfigure.specs.declared.Improved.TheVariants.{Done}
-use Rattle.reconfigure.specs.Answers.{answer_of, Answered}
+use Rattle.reconfigure.specs.Answers.{given, Follows}
 
 -- ---- flat lists ----
 
@@ -129,12 +131,12 @@ module _ (N : Network) (k passes : ℕ) (limit : Option ℕ) (flag : ℕ → Boo
 pub answered_done : (N : Network) (k passes : ℕ) (limit : Option ℕ) (flags : List ℕ) {kids₀ kids sets sizes works : List ℕ} (r : Counts) (c : Result spec.Improved Refusal)
     → 3 ≤ k → k ≤ 12 → wrong_tree (leaf_count N) kids₀ ≡ false → length kids ≡ length kids₀
     → Improves N (flag_at flags) k limit passes kids₀ kids sets sizes works r.rebuilt r.tried
-    → c ≡ Ok (improve N k passes limit (flag_at flags) (pairs_of kids₀)) → Answered c kids₀ kids (Done r)
+    → c ≡ Ok (improve N k passes limit (flag_at flags) (pairs_of kids₀)) → Follows c kids₀ kids (Ok r)
 answered_done N k passes limit flags {kids₀} {kids} {sets} {sizes} {works} r c low high right long x q =
     let e : c ≡ Ok (record { tree = pairs_of kids; rebuilt = r.rebuilt; tried = r.tried }) =
     q ∙ ap Ok (improved_is N k passes limit (flag_at flags) kids₀ kids sets sizes works r.rebuilt r.tried low high right long x) in
     record {
-      answer = sym (ap answer_of e);
+      answer = sym (ap given e);
       tree =
           sym (ap (λ (y : Result spec.Improved Refusal). improved_tree y kids₀) e
           ∙ back N k passes limit (flag_at flags) kids₀ kids sets sizes works r.rebuilt r.tried low high right long x);
@@ -173,15 +175,14 @@ dangling_asks {m} {n} {o} {weights} {counts} {rows} {outputs} l f = (
       (f.accepted.once i j (omega (arith, layout_leaf_count m n o weights counts rows outputs))),
 )
 
-pub ready : {m n o k words words' sets sizes works : ℕ} {weights counts rows outputs : List ℕ} → Lent weights counts rows outputs
-    → Facts m n o weights counts rows outputs → dangling (network_of m n o weights counts rows outputs) ≡ false → 4096 + 8 * 2 ^ k ≤ words
-    → words' ≡ words → 1020 ≤ sets → 255 ≤ sizes → 255 ≤ works → 3 ≤ k → k ≤ 12 → Ready m n o k words' sets sizes works weights counts rows outputs
-ready l f d h e a b c low high =
-    record {
-      lent = l;
-      facts = f;
-      closed = d;
-      room = record { for_words = rw e h; for_sets = a; for_sizes = b; for_works = c };
-      low = low;
-      high = high;
-    }
+-- the same of an accepted network
+pub dangling_in : (a : Accepted) → Holds a.weights.now a.leg_counts.now a.legs.now a.outputs.now
+    → (length a.weights.now ≤ 256) × Rows (length a.leg_counts.now) a.leg_counts.now a.legs.now × (length a.outputs.now ≤ length a.outputs.now)
+    × ((i j : ℕ) → i < length a.leg_counts.now → count j (row_at a.leg_counts.now a.legs.now i) ≤ 1)
+dangling_in a h = let f = in_facts a h in (
+  f.few_indices,
+  in_rows a h,
+  omega arith,
+  λ i j b. subst (λ (x : List ℕ). count j x ≤ 1) (layout_legs (length a.weights.now) (length a.leg_counts.now) (length a.outputs.now) a.weights.now a.leg_counts.now a.legs.now a.outputs.now i b)
+      (f.accepted.once i j (omega (arith, in_leaves a))),
+)
