@@ -1,7 +1,6 @@
 -- What the passes leave is what the definition answers. Assumes nothing.
 use Rattle.std.specs.Prelude.{Bool, true, false, not, ◌≡◌, refl, ℕ, zero, suc, ◌+◌, ◌-◌, ◌*◌, ◌^◌, ◌≤◌, ◌<◌, length, Option, None, Some, Result, Ok}
 use mathlib.Core.List.{List, [], ◌∷◌}
-use Rattle.spec.specs.declared.Total.TheVariants.{Exact, Beyond}
 use Rattle.spec.specs.declared.Refusal.{Refusal}
 use Rattle.std.proofs.Math.Path.{sym, ap}
 use Rattle.std.proofs.Common.{◌∙◌, subst, arith, eqb-true, le-ltb}
@@ -13,7 +12,6 @@ use Rattle.spec.specs.Improve as spec
 use Rattle.spec.specs.Improve.{Visited, untouched, clamped, pass, improve_tree, array_for, improve_at, improve}
 use Rattle.spec.specs.Lists.{count}
 use Rattle.spec.specs.Layout.{row_at, network_of}
-use Rattle.spec.specs.Price as price
 use Rattle.spec.specs.Price.{up_to}
 use Rattle.spec.specs.Calls.{wrong_tree, flag_at, is_beyond, total_is_beyond, dangling, improved_tree}
 use Rattle.laws.specs.Walks.{valid_tree}
@@ -29,7 +27,6 @@ use Rattle.network.specs.Views.{in_facts, in_rows, in_leaves}
 use Rattle.network.specs.declared.accepted.Accepted.{Accepted}
 use Rattle.network.specs.Layouts.{layout_legs, layout_leaf_count}
 use Rattle.pricing.specs.Sums.{work_sum}
-use Rattle.pricing.specs.Answers.{total_of}
 use Rattle.cost.specs.Checks.{row_places}
 use Rattle.passes.specs.Made.{Improves}
 use Rattle.reconf.specs.declared.Visited.{Visited as Counts}
@@ -152,14 +149,6 @@ pub beyond_is : {N : Network} {flag : ℕ → Bool} {kids sets sizes works : Lis
     → PriceHeld N flag kids sets sizes works → is_beyond (up_to (work_sum works n (n - 1))) ≡ total_is_beyond N flag (pairs_of kids)
 beyond_is {N} {flag} {kids} {sets} {sizes} {works} n q right h =
     ap (λ (y : ℕ). is_beyond (up_to y)) (ap (λ (i : ℕ). work_sum works i (i - 1)) (sym q) ∙ total_held (right_here N n kids q right) h)
-
-pub beyond_exact : (y : price.Total) (x : ℕ) → Exact x ≡ total_of y → false ≡ is_beyond y
-beyond_exact (Exact z) x e = refl
-beyond_exact Beyond x e = absurd (let w : ◌≡◌ {A = ℕ} 0 1 = cc in omega arith)
-
-pub beyond_beyond : (y : price.Total) → Beyond ≡ total_of y → true ≡ is_beyond y
-beyond_beyond (Exact z) e = absurd (let w : ◌≡◌ {A = ℕ} 0 1 = cc in omega arith)
-beyond_beyond Beyond e = refl
 
 pub standing_start : {N : Network} {flag : ℕ → Bool} {kids sets sizes works : List ℕ} (n : ℕ) → leaf_count N ≡ n → wrong_tree n kids ≡ false
     → PriceHeld N flag kids sets sizes works → total_is_beyond N flag (pairs_of kids) ≡ false → Standing N flag kids sets sizes works
