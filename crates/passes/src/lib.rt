@@ -126,7 +126,11 @@ pub fn improve(
 fn limit_of(bits: u64) -> Option<u16>
     ensures { result ≡ limit_of bits }
 {
-    if bits < 65536 { Some(bits as u16) } else { None }
+    if bits < 65536 {
+        Some(bits as u16)
+    } else {
+        None
+    }
 }
 
 // The same of lists of a record's lengths, for callers that hold no checked values. The limit is none from 65,536 bits on.

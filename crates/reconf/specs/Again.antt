@@ -1,5 +1,5 @@
 -- A visit and the pricing after it: the price list of the tree that then stands, whose total is not beyond. Assumes nothing.
-use Rattle.std.specs.Prelude.{Bool, false, List, ◌≡◌, ℕ, ◌+◌, ◌-◌, ◌^◌, ◌≤◌, ◌<◌, length, Option}
+use Rattle.std.specs.Prelude.{Bool, false, List, ◌≡◌, ℕ, ◌^◌, ◌≤◌, ◌<◌, length, Option}
 use Rattle.std.proofs.Common.{sym, ap, subst, arith}
 use Rattle.spec.specs.Network.{Network, leaf_count}
 use Rattle.spec.specs.Tree.{Tree, pairs_of, ValidTree}

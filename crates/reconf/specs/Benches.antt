@@ -1,11 +1,11 @@
 -- What a visit asks of the price list that is lent, and what pricing again leaves in it. Assumes nothing.
-use Rattle.std.specs.Prelude.{Bool, false, List, map, ◌≡◌, ℕ, ◌+◌, ◌-◌, ◌*◌, ◌^◌, ◌≤◌, ◌<◌, length}
+use Rattle.std.specs.Prelude.{Bool, false, List, map, ◌≡◌, ℕ, ◌≤◌, length}
 use Rattle.std.proofs.Common.{ap, ◌∙◌, arith}
 use Rattle.spec.specs.Lists.{memb, range}
-use Rattle.spec.specs.Network.{Network, leaf_count}
+use Rattle.spec.specs.Network.{Network}
 use Rattle.spec.specs.Tree.{pairs_of}
 use Rattle.spec.specs.Price.{list_at, size_at, work_at}
-use Rattle.spec.specs.Calls.{flag_at, node_places, dangling}
+use Rattle.spec.specs.Calls.{node_places, dangling}
 use Rattle.slots.specs.Slots.{held}
 use Rattle.cells.specs.Cells.{over_length}
 use Rattle.nodesets.specs.Sets.{held-with_sets, with_sets_length}
@@ -14,7 +14,6 @@ use Rattle.network.specs.Lists.{Holds}
 use Rattle.network.specs.Views.{net_in, in_facts, in_leaves}
 use Rattle.network.specs.declared.accepted.Accepted.{Accepted}
 use Rattle.pricing.specs.Promise.{Filled}
-use Rattle.pricing.specs.Lists.{HasRoom}
 use Rattle.pricing.specs.declared.list.PriceList.{PriceList}
 use Rattle.reprice.specs.Held.{Room, PriceHeld}
 use Rattle.reconf.specs.declared.search.Search.{Search}

@@ -1,12 +1,12 @@
 -- A visit of the definition, case by case: the node is left, nothing cheaper is found, or the region is rebuilt. Assumes nothing.
-use Rattle.std.specs.Prelude.{Bool, true, ◌&&◌, ◌||◌, List, map, ◌≡◌, ℕ, ◌-◌, ◌≤◌, ◌<◌, ltb, length, Option, None, Some}
+use Rattle.std.specs.Prelude.{Bool, true, ◌||◌, List, map, ◌≡◌, ℕ, ◌-◌, ◌≤◌, ◌<◌, ltb, length, Option, None, Some}
 use Rattle.std.proofs.Math.Bool.{false}
-use Rattle.std.proofs.Common.{◌∙◌, refl}
+use Rattle.std.proofs.Common.{refl}
 use borrow.Author.Tests.{lt-ltb, le-ltb}
 use Rattle.spec.specs.Network.{Network}
 use Rattle.spec.specs.Tree.{Tree, number}
 use Rattle.spec.specs.Undercut.{undercuts}
-use Rattle.spec.specs.Improve.{Found, Front, build, old_cost, locals, searched, tried_at, Visited, untouched, accept_best, reconf_node}
+use Rattle.spec.specs.Improve.{Front, build, old_cost, locals, searched, tried_at, Visited, untouched, accept_best, reconf_node}
 use Rattle.laws.specs.Booleans.{or_introl, or_intror, clash}
 use Rattle.subset.specs.Search.{found_at}
 use Rattle.subset.specs.Walk.{split_at}

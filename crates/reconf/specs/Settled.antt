@@ -1,5 +1,5 @@
 -- From what the calls of a visit answer to its promise. Assumes nothing.
-use Rattle.std.specs.Prelude.{Bool, true, false, List, ◌∷◌, map, ◌≡◌, refl, ℕ, zero, suc, ◌+◌, ◌-◌, ◌*◌, ◌^◌, ◌≤◌, ◌<◌, get_or, set, take, drop, Option, None, Some}
+use Rattle.std.specs.Prelude.{Bool, true, false, List, ◌∷◌, map, ◌≡◌, refl, ℕ, zero, suc, ◌+◌, ◌-◌, ◌*◌, ◌^◌, ◌≤◌, ◌<◌, get_or, set, take, drop, Option, Some}
 use Rattle.std.proofs.Math.Path.{sym, ap, ap₂, subst}
 use Rattle.std.proofs.Common.{◌∙◌, arith, pow_mono, get_or-take, length-take-le, take_all}
 use Rattle.std.proofs.lemmas.List.{take-append-le}
@@ -11,9 +11,7 @@ use Rattle.spec.specs.Tree.{Tree, number, pairs_of, ValidTree}
 use Rattle.spec.specs.Price.{lists}
 use Rattle.slots.specs.Slots.{held}
 use Rattle.spec.specs.Calls.{flag_at}
-use Rattle.spec.specs.Undercut.{undercuts}
 use Rattle.spec.specs.Improve.{Region, Front, member, build, graft, old_cost, locals, searched, tried_at, accept_best}
-use Rattle.laws.specs.Booleans.{by_cases, and_left}
 use Rattle.laws.specs.ListLaws.{range_length}
 use Rattle.laws.specs.Regions.{joins, over}
 use Rattle.laws.specs.Searches.{best_over, over_sum, over_joins}

@@ -14,13 +14,12 @@ ghost use Rattle.reconf.specs.Benches.{IsReady, IsAsLong};
 
 mod search; // search.rt: what a search is asked for
 
-pub use search::Search;
-
 use frontier::Frontier;
 use masks::Masks;
 use network::Accepted;
 use pricing::list::PriceList;
 use rebuild::Freed;
+pub use search::Search;
 use subset::Searched;
 use walk::Tree;
 

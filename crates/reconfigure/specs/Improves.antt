@@ -1,5 +1,5 @@
 -- What the passes leave is what the definition answers. Assumes nothing.
-use Rattle.std.specs.Prelude.{Bool, true, false, not, ◌≡◌, refl, ℕ, zero, suc, ◌+◌, ◌-◌, ◌*◌, ◌^◌, ◌≤◌, ◌<◌, length, Option, None, Some, Result, Ok}
+use Rattle.std.specs.Prelude.{Bool, false, not, ◌≡◌, refl, ℕ, zero, suc, ◌-◌, ◌*◌, ◌≤◌, ◌<◌, length, Option, None, Some, Result, Ok}
 use mathlib.Core.List.{List, [], ◌∷◌}
 use Rattle.spec.specs.declared.Refusal.{Refusal}
 use Rattle.std.proofs.Math.Path.{sym, ap}
@@ -11,9 +11,9 @@ use Rattle.spec.specs.Tree.{leaf, Pair, tree_at, root, pairs_of, flat_of}
 use Rattle.spec.specs.Improve as spec
 use Rattle.spec.specs.Improve.{Visited, untouched, clamped, pass, improve_tree, array_for, improve_at, improve}
 use Rattle.spec.specs.Lists.{count}
-use Rattle.spec.specs.Layout.{row_at, network_of}
+use Rattle.spec.specs.Layout.{row_at}
 use Rattle.spec.specs.Price.{up_to}
-use Rattle.spec.specs.Calls.{wrong_tree, flag_at, is_beyond, total_is_beyond, dangling, improved_tree}
+use Rattle.spec.specs.Calls.{wrong_tree, flag_at, is_beyond, total_is_beyond, improved_tree}
 use Rattle.laws.specs.Walks.{valid_tree}
 use Rattle.laws.specs.ListLaws.{no_members}
 use Rattle.cells.specs.Cells.{over_all}

@@ -41,7 +41,11 @@ fn step_cost(tables: &Tables, l: usize, r: usize, room: u64) -> Option<u64>
         return None;
     }
     let work = tables.work(l, r);
-    if below(work, room) { Some(1 << work) } else { None }
+    if below(work, room) {
+        Some(1 << work)
+    } else {
+        None
+    }
 }
 
 // The split of `low` + `rest` whose part is `low` + `sub` is taken if it is strictly cheaper. It is not weighed where the costs of both

@@ -8,7 +8,7 @@ use lib.Seq.{length-take-le}
 use lib.ListN.{take, length}
 use native.Mathlib.Omega.{arith}
 use Prim.Native.Nat.{ℕ, ◌≤◌}
-use mathlib.Core.Path.{◌≡◌, refl, sym, ap, ◌∙◌}
+use mathlib.Core.Path.{◌≡◌, sym, ap, ◌∙◌}
 use Rattle.passes.proofs.pass.Goals as goal
 
 pub order_nodes-c-requires : goal.order_nodes-c-requires

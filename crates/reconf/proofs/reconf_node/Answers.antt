@@ -1,6 +1,6 @@
 use Rattle.spec.specs.Memory.{filled}
 use Rattle.reconf.specs.Again.{visitable}
-use Rattle.reconf.specs.Settled.{word_room, members_few, members_some, taken_is, old_small, left_few, left_many, small, stays_searched, rebuilds}
+use Rattle.reconf.specs.Settled.{word_room, members_few, taken_is, old_small, left_few, left_many, small, stays_searched, rebuilds}
 use Rattle.frontier.specs.Opens.{freed}
 use Rattle.laws.specs.ArrayRebuild.{build_array}
 use Rattle.subset.specs.Regions.{region_of}
@@ -9,7 +9,7 @@ use Rattle.spec.specs.Tree.{pairs_of}
 use borrow.Author.Tests.{not-true, not-false}
 use native.Mathlib.Omega.{arith}
 use Prim.Native.Nat.{ℕ, ◌-◌}
-use mathlib.Core.Path.{refl, sym, ap, ◌∙◌}
+use mathlib.Core.Path.{refl, ap, ◌∙◌}
 use mathlib.Core.List.{List}
 use lib.ListN.{take, length}
 use Rattle.std.proofs.lemmas.Bool.{not_from_true, not_from_false}

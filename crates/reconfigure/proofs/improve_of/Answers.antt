@@ -6,7 +6,7 @@ use Rattle.network.specs.Views.{net_in}
 use Rattle.walk.specs.Entry.{lent_cleared}
 use Rattle.reconfigure.specs.Checks.{stated_is, shorter, as_long, call_short, call_rest, untouched_call, rest_call_lem, rest_same, answered_as}
 use native.Mathlib.Omega.{arith}
-use mathlib.Core.Path.{◌≡◌, refl, sym, ap, ◌∙◌}
+use mathlib.Core.Path.{◌≡◌, refl, ap, ◌∙◌}
 use lib.ListN.{length}
 use Rattle.reconfigure.proofs.improve_of.Goals as goal
 

@@ -6,7 +6,7 @@ use Rattle.reconfigure.specs.Checks.{rest_tree, rest_flags, rest_last, answered_
 use native.Mathlib.Omega.{arith}
 use Prim.Native.Nat.{ℕ}
 use mathlib.Core.Bool.{false}
-use mathlib.Core.Path.{◌≡◌, refl, sym, subst, ◌∙◌}
+use mathlib.Core.Path.{◌≡◌, sym, subst, ◌∙◌}
 use Rattle.std.proofs.lemmas.Bool.{not_from_true, not_from_false}
 use Rattle.reconfigure.proofs.improve_tree.Goals as goal
 

@@ -6,7 +6,7 @@ use Rattle.reconfigure.specs.Checks.{last_beyond, last_dangling, last_done, answ
 use native.Mathlib.Omega.{arith}
 use Prim.Native.Nat.{ℕ}
 use mathlib.Core.Bool.{false}
-use mathlib.Core.Path.{◌≡◌, refl, sym, subst, ◌∙◌}
+use mathlib.Core.Path.{◌≡◌, sym, subst, ◌∙◌}
 use Rattle.reconfigure.proofs.improve_valid.Goals as goal
 
 pub returns-then-is_total_beyond : goal.returns-then-is_total_beyond

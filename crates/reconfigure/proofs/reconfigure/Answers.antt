@@ -1,4 +1,4 @@
-use Rattle.std.proofs.Common.{◌≡◌, sym, ap, subst, Option, Result, Ok, Err, ℕ}
+use Rattle.std.proofs.Common.{subst, Option, Result, Ok, Err, ℕ}
 use Rattle.spec.specs.declared.Refusal.{Refusal}
 use Rattle.spec.specs.Refusal.{number_of}
 use Rattle.network.specs.Record.{net_of}

@@ -4,7 +4,7 @@ use Rattle.subset.specs.Walk.{finite, Filled, best_at, split_at}
 use Rattle.subset.specs.Searched.{search_found, search_tried}
 use native.Mathlib.Omega.{arith}
 use Prim.Native.Nat.{ℕ, ◌-◌, ◌^◌}
-use mathlib.Core.Path.{◌≡◌, refl, sym, ap, ◌∙◌, subst}
+use mathlib.Core.Path.{◌≡◌, refl, ap, ◌∙◌, subst}
 use lib.ListN.{length, get_or}
 use Rattle.subset.proofs.search.Goals as goal
 

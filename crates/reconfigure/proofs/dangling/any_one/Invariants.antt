@@ -1,7 +1,5 @@
 use lib.Dec.{eqb}
 use Rattle.network.specs.Searches.{NoneBefore}
-use mathlib.Core.Path.{◌≡◌}
-use lib.ListN.{length}
 use Rattle.reconfigure.proofs.dangling.any_one.Given as goal
 
 abbrev pub invariant-loop-x : goal.invariant-loop-x

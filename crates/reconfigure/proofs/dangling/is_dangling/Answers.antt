@@ -1,4 +1,3 @@
-use Rattle.network.specs.Views.{net_in}
 use Rattle.reconfigure.specs.Tally.{dangling_of_lem}
 use Rattle.reconfigure.specs.Improves.{dangling_in}
 use mathlib.Core.Path.{◌∙◌}

@@ -1,6 +1,5 @@
 use lib.ListN.{drop, length}
 use Rattle.reconfigure.specs.Tally.{tallied}
-use Prim.Native.Nat.{◌≤◌}
 use mathlib.Core.Path.{◌≡◌}
 use Rattle.reconfigure.proofs.dangling.tally_row.Given as goal
 
