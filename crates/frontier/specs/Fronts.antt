@@ -1,8 +1,8 @@
 -- The lists of numbers stand for the frontier of a tree: its members, and its opened nodes, the latest first. Assumes nothing.
-use Rattle.std.specs.Prelude.{Bool, true, false, cond, ◌≡◌, eqb, ltb, set, Option, None, Some}
+use Rattle.std.specs.Prelude.{Bool, true, false, ◌≡◌, ltb, set, Option, None, Some}
 use mathlib.Core.List.{List, [], ◌∷◌, map}
 use Rattle.std.proofs.Math.Path.{refl, sym, ap, ap₂, subst}
-use Rattle.std.proofs.Common.{◌∙◌, get_or-set_same, get_or-set_other, get_or-take, eq-eqb, ne_eqb, ltb-true, ltb-false}
+use Rattle.std.proofs.Common.{◌∙◌, get_or-set_same, get_or-set_other, get_or-take}
 use Prim.Native.Nat.{ℕ, zero, suc, ◌+◌, ◌-◌, ◌^◌, ◌≤◌, ◌<◌}
 use native.Mathlib.Omega.{arith}
 use Rattle.std.proofs.Math.ListN.{length, get_or, take, length-set, length-append}

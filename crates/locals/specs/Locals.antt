@@ -1,5 +1,5 @@
 -- The local indices of a frontier's members, as the slots of a list of words have these. Definitions only. Assumes nothing.
-use Rattle.std.specs.Prelude.{Bool, false, not, ◌&&◌, ◌||◌, cond, List, ◌≡◌, ℕ, zero, suc, ◌+◌, ◌*◌, ◌^◌, ◌<◌, ltb, get_or}
+use Rattle.std.specs.Prelude.{Bool, false, not, ◌&&◌, ◌||◌, cond, List, ◌≡◌, ℕ, zero, suc, ◌*◌, ◌^◌, ◌<◌, ltb, get_or}
 use Rattle.spec.specs.Lists.{keep, range}
 use Rattle.slots.specs.Slots.{held}
 use Rattle.masks.specs.Rows.{has_at}

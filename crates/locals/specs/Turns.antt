@@ -1,6 +1,6 @@
 -- The local indices listed, the sets and the weights in local numbers: one turn of each loop, and its end. Assumes nothing.
 use Rattle.std.specs.Prelude.{Bool, not, ◌&&◌, cond, List, [], ◌≡◌, ℕ, ◌+◌, ◌*◌, ◌/◌, ◌%◌, ◌^◌, ◌≤◌, ◌<◌, eqb, length, get_or, set}
-use Rattle.std.proofs.Common.{sym, ap, ◌∙◌, subst, arith, length-set, pow_pos, get_or-set_same, get_or-set_other, eqb-true, lt-ltb, le-ltb}
+use Rattle.std.proofs.Common.{sym, ap, ◌∙◌, arith, length-set, pow_pos, get_or-set_same, get_or-set_other, eqb-true, lt-ltb, le-ltb}
 use Rattle.std.proofs.Math.Pow.{pow-lt}
 use Rattle.std.proofs.lemmas.Bool.{eqb-false}
 use Rattle.spec.specs.Memory.{filled}
@@ -8,7 +8,7 @@ use Rattle.laws.specs.Booleans.{by_cases, ltb_next}
 use Rattle.bits.specs.Digits.{digit}
 use Rattle.masks.specs.Rows.{row_has, has_at}
 use Rattle.cells.specs.Cells.{filled_all}
-use Rattle.slots.specs.Slots.{held, with_set, held_with, held_with_other, with_set_then}
+use Rattle.slots.specs.Slots.{held, with_set, held_with, with_set_then}
 use Rattle.slots.specs.Rising.{rising_of, rising_with}
 use Rattle.locals.specs.Locals.{member_have, is_local, local_list, local_test, local_weight, LocalSets}
 

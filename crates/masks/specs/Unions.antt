@@ -1,5 +1,5 @@
 -- The unions of the members' sets, from the lowest mask up. Assumes nothing.
-use Rattle.std.specs.Prelude.{◌||◌, List, [], ◌∷◌, ◌≡◌, refl, ℕ, ◌+◌, ◌-◌, ◌*◌, ◌^◌, ◌≤◌, ◌<◌, eqb, length, get_or, set}
+use Rattle.std.specs.Prelude.{◌||◌, List, [], ◌∷◌, ◌≡◌, refl, ℕ, ◌+◌, ◌-◌, ◌^◌, ◌≤◌, ◌<◌, eqb, length, set}
 use Rattle.std.proofs.Math.Bool.{or_comm, or-false}
 use Rattle.std.proofs.Common.{sym, ap, ap₂, ◌∙◌, arith, eqb-true, length-set, get_or-set_same, get_or-set_other}
 use Rattle.std.specs.Int.Bits.{bit_and, and_zero_l}

@@ -1,106 +1,86 @@
 #![tactic(auto)]
-// Improvement of a valid tree: the nodes of a pass, by falling work, each visited once; passes until one rebuilds nothing.
+//! Improvement of a valid tree: the nodes of a pass, by falling work, each visited once; passes until one rebuilds nothing.
 ghost use Rattle.std.specs.Prelude.{false, ◌≡◌, ℕ, ◌+◌, ◌-◌, ◌<◌, ◌≤◌, length, get_or, take};
 ghost use Rattle.spec.specs.Layout.{network_of};
+ghost use Rattle.spec.specs.Network.{leaf_count};
 ghost use Rattle.spec.specs.Tree.{step_order};
 ghost use Rattle.spec.specs.Calls.{flag_at, wrong_tree};
+ghost use Rattle.network.specs.Views.{net_in};
 ghost use Rattle.subset.specs.Search.{limit_of};
-ghost use Rattle.passes.specs.Sorted.{sorted};
+ghost use Rattle.pricing.specs.Lists.{IsSameLoan};
 ghost use Rattle.reprice.specs.Held.{Standing};
+ghost use Rattle.reconf.specs.Benches.{IsReady, IsAsLong};
+ghost use Rattle.passes.specs.Sorted.{sorted};
 ghost use Rattle.passes.specs.Made.{Ready, VisitsAll, Passes, Improves};
 ghost use Rattle.passes.specs.Loops.{passes_left};
 
 mod falling; // falling.rt: nodes by falling work
 
-use reconf::Visited;
+use network::Accepted;
+use pricing::list::PriceList;
+use reconf::{Search, Visited};
+use walk::Tree;
 
 // Writes the nodes of the tree in `kids` to the front of `nodes`, by falling work, and returns how many they are.
-fn order_nodes(kids: &[u16], n: usize, words: &mut [u64], works: &[u16], nodes: &mut [u16]) -> usize
+fn order_nodes(
+    kids: &[u16],
+    n: usize,
+    words: &mut [u64],
+    list: &PriceList,
+    nodes: &mut [u16],
+) -> usize
     requires { (n ≤ 512) × (wrong_tree n kids.now ≡ false) × (2048 ≤ length words.old) × (n - 1 ≤ length nodes.old) }
-    ensures { (result ≡ n - 1) × (take (n - 1) nodes.new ≡ sorted works.now (step_order kids.now n)) }
+    ensures { (result ≡ n - 1) × (take (n - 1) nodes.new ≡ sorted list.now.works.now (step_order kids.now n)) }
 {
-    let c = walk::post_order(kids, n, words, nodes);
-    falling::by_work(&mut nodes[..c], works);
+    let tree = Tree { kids, leaves: n };
+    let c = tree.post_order(words, nodes);
+    falling::by_work(&mut nodes[..c], list.works);
     c
 }
 
 // Visits `nodes`, one after the other, each in the tree that the visits before it left.
-fn visit_all<'a>(
+fn visit_all(
     words: &mut [u64],
-    sets: &mut [u64],
-    sizes: &mut [u16],
-    works: &mut [u16],
+    list: &mut PriceList,
     kids: &mut [u16],
-    m: usize,
-    n: usize,
-    o: usize,
-    weights: &'a [u8],
-    counts: &'a [u8],
-    legs: &'a [u16],
-    outputs: &'a [u16],
-    flags: &[u8],
-    k: usize,
-    limit: u64,
+    network: &Accepted,
+    search: &Search,
     nodes: &[u16],
 ) -> Visited
-    requires { Ready m n o k (length words.old) (length sets.old) (length sizes.old) (length works.old) weights.now counts.now legs.now outputs.now × Standing (network_of m n o weights.now counts.now legs.now outputs.now) (flag_at flags.now) kids.old sets.old sizes.old works.old × (length nodes.now ≤ 127) × ((i : ℕ) → i < length nodes.now → get_or nodes.now i 0 < n + (n - 1)) }
-    ensures { VisitsAll (network_of m n o weights.now counts.now legs.now outputs.now) (flag_at flags.now) k (limit_of limit) nodes.now kids.old kids.new sets.new sizes.new works.new result.rebuilt result.tried }
+    requires ready { IsReady network.now search.now (length words.old) list.old }
+    requires standing { Standing (net_in network.now) (flag_at search.now.flags.now) kids.old list.old.sets.now list.old.sizes.now list.old.works.now }
+    requires nodes { (length nodes.now ≤ 127) × ((i : ℕ) → i < length nodes.now → get_or nodes.now i 0 < leaf_count (net_in network.now) + (leaf_count (net_in network.now) - 1)) }
+    ensures lent { IsSameLoan list.old list.new }
+    ensures long { IsAsLong list.old list.new }
+    ensures visits { VisitsAll (net_in network.now) (flag_at search.now.flags.now) search.now.k search.now.limit nodes.now kids.old kids.new list.new.sets.now list.new.sizes.now list.new.works.now result.rebuilt result.tried }
 {
     let mut rebuilt: u64 = 0;
     let mut tried: u64 = 0;
-    for i in 0..nodes.len() {
-        let v = cells::get16(nodes, i);
-        let d = reconf::visit(
-            words, sets, sizes, works, kids, m, n, o, weights, counts, legs, outputs, flags, k,
-            limit, v,
-        );
-        rebuilt += d.rebuilt;
-        tried += d.tried;
+    for &v in nodes {
+        let made = reconf::visit(words, list, kids, network, search, v);
+        rebuilt += made.rebuilt;
+        tried += made.tried;
     }
     Visited { rebuilt, tried }
 }
 
 // One pass: the order of the nodes is fixed at its start.
-fn pass<'a>(
+fn pass(
     words: &mut [u64],
-    sets: &mut [u64],
-    sizes: &mut [u16],
-    works: &mut [u16],
+    list: &mut PriceList,
     kids: &mut [u16],
-    m: usize,
-    n: usize,
-    o: usize,
-    weights: &'a [u8],
-    counts: &'a [u8],
-    legs: &'a [u16],
-    outputs: &'a [u16],
-    flags: &[u8],
-    k: usize,
-    limit: u64,
+    network: &Accepted,
+    search: &Search,
 ) -> Visited
-    requires { Ready m n o k (length words.old) (length sets.old) (length sizes.old) (length works.old) weights.now counts.now legs.now outputs.now × Standing (network_of m n o weights.now counts.now legs.now outputs.now) (flag_at flags.now) kids.old sets.old sizes.old works.old }
-    ensures { Passes (network_of m n o weights.now counts.now legs.now outputs.now) (flag_at flags.now) k (limit_of limit) kids.old kids.new sets.new sizes.new works.new result.rebuilt result.tried }
+    requires ready { IsReady network.now search.now (length words.old) list.old }
+    requires standing { Standing (net_in network.now) (flag_at search.now.flags.now) kids.old list.old.sets.now list.old.sizes.now list.old.works.now }
+    ensures lent { IsSameLoan list.old list.new }
+    ensures long { IsAsLong list.old list.new }
+    ensures passes { Passes (net_in network.now) (flag_at search.now.flags.now) search.now.k search.now.limit kids.old kids.new list.new.sets.now list.new.sizes.now list.new.works.now result.rebuilt result.tried }
 {
     let mut nodes = [0u16; 128];
-    let c = order_nodes(kids, n, words, works, &mut nodes);
-    visit_all(
-        words,
-        sets,
-        sizes,
-        works,
-        kids,
-        m,
-        n,
-        o,
-        weights,
-        counts,
-        legs,
-        outputs,
-        flags,
-        k,
-        limit,
-        &nodes[..c],
-    )
+    let c = order_nodes(kids, network.leaf_count(), words, list, &mut nodes);
+    visit_all(words, list, kids, network, search, &nodes[..c])
 }
 
 // How many passes are still to come after one: none if it rebuilt nothing.
@@ -114,7 +94,46 @@ fn passes_left(left: usize, rebuilt: u64) -> usize
     left - 1
 }
 
-// Passes, at most as many as asked, until one rebuilds nothing.
+/// Improves the tree `kids` of a network, whose price list is at hand: passes, at most as many as asked, until one rebuilds nothing. `words` is worked in.
+pub fn improve(
+    words: &mut [u64],
+    list: &mut PriceList,
+    kids: &mut [u16],
+    network: &Accepted,
+    search: &Search,
+    most: usize,
+) -> Visited
+    requires ready { IsReady network.now search.now (length words.old) list.old }
+    requires standing { Standing (net_in network.now) (flag_at search.now.flags.now) kids.old list.old.sets.now list.old.sizes.now list.old.works.now }
+    requires most { most ≤ 255 }
+    ensures lent { IsSameLoan list.old list.new }
+    ensures long { IsAsLong list.old list.new }
+    ensures improves { Improves (net_in network.now) (flag_at search.now.flags.now) search.now.k search.now.limit most kids.old kids.new list.new.sets.now list.new.sizes.now list.new.works.now result.rebuilt result.tried }
+{
+    let mut rebuilt: u64 = 0;
+    let mut tried: u64 = 0;
+    let mut left = most;
+    while 0 < left {
+        let made = pass(words, list, kids, network, search);
+        rebuilt += made.rebuilt;
+        tried += made.tried;
+        left = passes_left(left, made.rebuilt);
+    }
+    Visited { rebuilt, tried }
+}
+
+// A limit as a number: none from 65,536 bits on.
+fn limit_of(bits: u64) -> Option<u16>
+    ensures { result ≡ limit_of bits }
+{
+    if bits < 65536 {
+        Some(bits as u16)
+    } else {
+        None
+    }
+}
+
+// The same of lists of a record's lengths, for callers that hold no checked values. The limit is none from 65,536 bits on.
 pub fn passes<'a>(
     words: &mut [u64],
     sets: &mut [u64],
@@ -136,17 +155,17 @@ pub fn passes<'a>(
     requires { Ready m n o k (length words.old) (length sets.old) (length sizes.old) (length works.old) weights.now counts.now legs.now outputs.now × Standing (network_of m n o weights.now counts.now legs.now outputs.now) (flag_at flags.now) kids.old sets.old sizes.old works.old × (most ≤ 255) }
     ensures { Improves (network_of m n o weights.now counts.now legs.now outputs.now) (flag_at flags.now) k (limit_of limit) most kids.old kids.new sets.new sizes.new works.new result.rebuilt result.tried }
 {
-    let mut rebuilt: u64 = 0;
-    let mut tried: u64 = 0;
-    let mut left = most;
-    while 0 < left {
-        let made = pass(
-            words, sets, sizes, works, kids, m, n, o, weights, counts, legs, outputs, flags, k,
-            limit,
-        );
-        rebuilt += made.rebuilt;
-        tried += made.tried;
-        left = passes_left(left, made.rebuilt);
-    }
-    Visited { rebuilt, tried }
+    let network = Accepted {
+        weights: &weights[..m],
+        leg_counts: &counts[..n],
+        legs,
+        outputs: &outputs[..o],
+    };
+    let search = Search {
+        flags,
+        k,
+        limit: limit_of(limit),
+    };
+    let mut list = PriceList { sets, sizes, works };
+    improve(words, &mut list, kids, &network, &search, most)
 }

@@ -1,5 +1,5 @@
 -- A region built from the list of parts: one member, or a node over two parts. Assumes nothing.
-use Rattle.std.specs.Prelude.{true, false, List, ◌≡◌, ℕ, ◌-◌, ◌≤◌, ◌<◌, ltb, get_or, Option, None, Some}
+use Rattle.std.specs.Prelude.{true, false, List, ◌≡◌, ℕ, ◌-◌, ◌≤◌, ◌<◌, ltb, get_or, None, Some}
 use Rattle.std.proofs.Common.{sym, ◌∙◌, arith, ltb-true}
 use Rattle.std.proofs.Math.Path.{ap, ap₂}
 use Rattle.std.specs.Int.Count.{count_trailing_zeros}

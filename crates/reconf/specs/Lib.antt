@@ -8,3 +8,4 @@ pub mod Cases
 pub mod Node
 pub mod Settled
 pub mod Again
+pub mod Benches

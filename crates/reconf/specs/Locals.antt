@@ -4,7 +4,7 @@ use Rattle.std.proofs.Math.Bool.{and_comm, or-false, or_assoc}
 use Rattle.std.proofs.Common.{append-nil, ◌∙◌, ltb-true}
 use Rattle.std.proofs.Math.Path.{refl, sym, ap, ap₂}
 use mathlib.Mathlib.Data.Bool.Basic.{eq-false_of_not-eq-true}
-use Prim.Native.Nat.{ℕ, zero, suc, ◌+◌, ◌-◌, ◌^◌, ◌≤◌, ◌<◌}
+use Prim.Native.Nat.{ℕ, zero, suc, ◌+◌, ◌-◌, ◌≤◌, ◌<◌}
 use native.Mathlib.Omega.{arith}
 use Rattle.std.proofs.Math.ListN.{get_or-append}
 use Rattle.std.proofs.lemmas.List.Edits.{sets-eq, sets as put_at}
@@ -100,7 +100,7 @@ module _ (N : Network) (flags : List ℕ) (s : Tree) (fr : Front) (sets members 
 
     -- the words have the sets in local numbers: v is the node, c how many indices are local
     module _ (v c : ℕ) (root_has : (j : ℕ) → j < 256 → held sets 4 v j ≡ memb j (lists N s))
-        (weights local wt ws : List ℕ) (weighs : (j : ℕ) → j < index_count N → get_or weights j 0 ≡ weight N j)
+        (weights local wt : List ℕ) (united : List (List ℕ)) (weighs : (j : ℕ) → j < index_count N → get_or weights j 0 ≡ weight N j)
         (count : c ≡ length L) (at : (i : ℕ) → i < c → get_or local i 0 ≡ get_or L i 0) (few : c ≤ 128)
       where
         test_is : (x : ℕ) (t : Tree) → ((j : ℕ) → j < 256 → held sets 4 x j ≡ memb j (lists N t)) → (i : ℕ)
@@ -124,8 +124,8 @@ module _ (N : Network) (flags : List ℕ) (s : Tree) (fr : Front) (sets members 
             (λ e.
             let f : ltb i (length L) ≡ false = ap (ltb i) (sym count) ∙ e in rw (e, f))
 
-        pub in_local : LocalSets sets 4 v members (length fr.members) local c (2 ^ length fr.members) ws
-            → ((i : ℕ) → i < 128 → get_or wt i 0 ≡ local_weight weights local c i) → InLocal N (flag_at flags) s fr ws wt
+        pub in_local : LocalSets sets 4 v members (length fr.members) local c united
+            → ((i : ℕ) → i < 128 → get_or wt i 0 ≡ local_weight weights local c i) → InLocal N (flag_at flags) s fr united wt
         in_local h w =
             record {
               few = omega arith;

@@ -1,5 +1,5 @@
 -- What one visit of a node promises. Definitions only. Assumes nothing.
-use Rattle.std.specs.Prelude.{Bool, false, List, ◌≡◌, ℕ, ◌^◌, ◌<◌, get_or, Option}
+use Rattle.std.specs.Prelude.{Bool, false, List, ◌≡◌, ℕ, ◌^◌, ◌<◌, length, get_or, Option}
 use Rattle.spec.specs.Network.{Network, leaf_count}
 use Rattle.spec.specs.Calls.{wrong_tree}
 use Rattle.spec.specs.Improve.{visit}
@@ -7,14 +7,14 @@ use Rattle.locals.specs.Locals.{local_weight, LocalSets}
 use Rattle.subset.specs.Search.{found_at, searched_in, tried_in}
 use Rattle.reprice.specs.Held.{tree_of, Standing}
 
--- the search among m members in local numbers, of which c are used: its cost and its count, from the words ws and the weights wt that it started with
-pub record Searches (sets members local weights : List ℕ) (v m c limit : ℕ) (words : List ℕ) (cost tried : ℕ) : Type 0 where
-  pub ws : List ℕ
+-- the search among members in local numbers: its cost and its count, from the rows and the weights that it started with
+pub record Searches (sets members local weights : List ℕ) (v : ℕ) (limit : Option ℕ) (part : List ℕ) (cost : Option ℕ) (tried : ℕ) : Type 0 where
+  pub united : List (List ℕ)
   pub wt : List ℕ
-  pub placed : LocalSets sets 4 v members m local c (2 ^ m) ws
-  pub weighs : (i : ℕ) → i < 128 → get_or wt i 0 ≡ local_weight weights local c i
-  pub found : found_at words (2 ^ m) cost ≡ searched_in ws wt limit m
-  pub count : tried ≡ tried_in ws wt limit m
+  pub placed : LocalSets sets 4 v members (length members) local (length local) united
+  pub weighs : (i : ℕ) → i < 128 → get_or wt i 0 ≡ local_weight weights local (length local) i
+  pub found : found_at part (2 ^ length members) cost ≡ searched_in united wt limit (length members)
+  pub count : tried ≡ tried_in united wt limit (length members)
 
 -- the tree and the counts of one visit; where nothing is rebuilt the list is as it was
 pub record Reconfs (N : Network) (flag : ℕ → Bool) (k : ℕ) (limit : Option ℕ) (v : ℕ) (kids₀ kids : List ℕ) (rebuilt tried : ℕ) : Type 0 where

@@ -1,5 +1,6 @@
 -- What improvement's entry answers, number and values of each case, and what it leaves in each lent list. Assumes nothing.
-use Rattle.std.specs.Prelude.{List, [], ◌∷◌, ◌≡◌, ℕ, length, Option, None, Some, Result, Err, Ok}
+use Rattle.std.specs.Prelude.{List, [], ◌∷◌, ◌≡◌, refl, ℕ, length, Option, None, Some, Result, Err, Ok}
+use Rattle.std.proofs.Common.{ap, ◌∙◌}
 use Rattle.spec.specs.declared.Refusal.{Refusal}
 use Rattle.spec.specs.Refusal.{number_of, checked}
 use Rattle.spec.specs.Network.{Network}
@@ -35,6 +36,36 @@ pub record Answered (c : Result spec.Improved Refusal) (kids₀ kids : List ℕ)
 pub record Reconfigures (N : Network) (k passes : ℕ) (limit : Option ℕ) (flags kids₀ ws₀ kids ws : List ℕ) (r : Improved) : Type 0 where
   pub answered : Answered (improve_call N k passes limit (length ws₀) flags kids₀) kids₀ kids r
   pub workspace : ws ≡ workspace_after (improve_words k) (improve_call N k passes limit (length ws₀) flags kids₀) ws₀
+
+-- ---- the same, with refusals and not their numbers ----
+
+abbrev pub given : Result spec.Improved Refusal → Result Visited Refusal
+given (Err r) = Err r
+given (Ok d) = Ok (counts_of d)
+
+-- the answer and the tree follow the call c
+pub record Follows (c : Result spec.Improved Refusal) (kids₀ kids : List ℕ) (r : Result Visited Refusal) : Type 0 where
+  pub answer : r ≡ given c
+  pub tree : kids ≡ improved_tree c kids₀
+
+-- the whole promise
+pub record Improving (N : Network) (k passes : ℕ) (limit : Option ℕ) (flags kids₀ ws₀ kids ws : List ℕ) (r : Result Visited Refusal) : Type 0 where
+  pub follows : Follows (improve_call N k passes limit (length ws₀) flags kids₀) kids₀ kids r
+  pub workspace : ws ≡ workspace_after (improve_words k) (improve_call N k passes limit (length ws₀) flags kids₀) ws₀
+
+-- a refusal by its number
+abbrev pub numbered : Result Visited Refusal → Improved
+numbered (Err r) = Refused (number_of r)
+numbered (Ok d) = Done d
+
+pub numbered_given : (c : Result spec.Improved Refusal) → numbered (given c) ≡ answer_of c
+numbered_given (Err r) = refl
+numbered_given (Ok d) = refl
+
+pub by_number : {N : Network} {k passes : ℕ} {limit : Option ℕ} {flags kids₀ ws₀ kids ws : List ℕ} (r : Result Visited Refusal)
+    → Improving N k passes limit flags kids₀ ws₀ kids ws r → Reconfigures N k passes limit flags kids₀ ws₀ kids ws (numbered r)
+by_number r i =
+    record { answered = record { answer = ap numbered i.follows.answer ∙ numbered_given _; tree = i.follows.tree }; workspace = i.workspace }
 
 -- ---- the call where checks have passed ----
 

@@ -3,23 +3,22 @@ use Rattle.std.specs.Prelude.{Bool, false, ◌≡◌, refl, ℕ, ◌+◌, ◌*�
 use Rattle.std.proofs.Math.Bool.{true}
 use mathlib.Core.List.{List, [], ◌∷◌, ◌++◌}
 use Rattle.spec.specs.declared.Refusal.{Refusal}
-use Rattle.spec.specs.declared.Refusal.TheVariants.{TooLarge, InvalidTree, InvalidFlags, TotalBeyond, DanglingIndex}
+use Rattle.spec.specs.declared.Refusal.TheVariants.{TooLarge, ShortBuffer, InvalidTree, InvalidFlags, TotalBeyond, DanglingIndex}
 use Rattle.std.proofs.Common.{sym, ◌∙◌, subst, arith, lt-ltb, le-ltb}
 use Rattle.std.proofs.Math.Path.{ap}
 use Rattle.spec.specs.Memory.{cleared}
-use Rattle.spec.specs.Refusal.{number_of, code_of, Check, check, checked}
+use Rattle.spec.specs.Refusal.{Check, check, checked}
 use Rattle.spec.specs.Network.{Network, leaf_count, index_count, network_checks, refusal_of}
 use Rattle.spec.specs.Tree.{Tree, Pair, tree_at, root, pairs_of}
 use Rattle.spec.specs.Improve as spec
 use Rattle.spec.specs.Improve.{clamped, improve_at, improve}
-use Rattle.spec.specs.Calls.{lent, length_check, wrong_tree, tree_check, flags_check, flag_at, total_is_beyond, beyond_check, dangling, dangling_check, improve_words, improve_call, workspace_after}
+use Rattle.spec.specs.Calls.{lent, length_check, wrong_tree, tree_check, flags_check, flag_at, total_is_beyond, beyond_check, dangling, dangling_check, improve_words, improve_call, workspace_after, touches}
 use Rattle.laws.specs.Booleans.{or_introl}
-use Rattle.walk.specs.Entry.{Untouched, by_network, past_network, by_length, past_length, holds_first, passes_first, same_words}
+use Rattle.walk.specs.Entry.{past_network, network_refused, past_length, too_short, quiet_words, holds_first, passes_first}
 use Rattle.cost.specs.Answers.{wrong_flags}
 use Rattle.subset.specs.Search.{limit_of}
-use Rattle.reconfigure.specs.declared.Improved.TheVariants.{Refused}
-use Rattle.reconfigure.specs.declared.Improved.{Improved}
-use Rattle.reconfigure.specs.Answers.{Answered, Reconfigures, rest_call, last_call}
+use Rattle.reconf.specs.declared.Visited.{Visited}
+use Rattle.reconfigure.specs.Answers.{Follows, Improving, rest_call, last_call}
 
 -- ---- k ----
 
@@ -106,15 +105,9 @@ module _ (N : Network) (k passes : ℕ) (limit : Option ℕ) (flags kids : List 
     abbrev later : List Check
     later = length_check (lent words (improve_words k) ∷ []) ∷ last
 
-    pub call_large : 255 < passes → Untouched 3 call
+    pub call_large : 255 < passes → call ≡ Err TooLarge
     unfolding improve_call
-    call_large h =
-        record {
-          refusal = TooLarge;
-          is = holds_large (ltb 255 passes) (lt-ltb 255 passes h);
-          number = refl;
-          quiet = refl;
-        }
+    call_large h = holds_large (ltb 255 passes) (lt-ltb 255 passes h)
       where
         holds_large : (b : Bool) → b ≡ true → checked (network_checks b N ++ later) result ≡ Err TooLarge
         holds_large b e = rw e
@@ -124,17 +117,17 @@ module _ (N : Network) (k passes : ℕ) (limit : Option ℕ) (flags kids : List 
       unfolding improve_call
       few_passes = ap (λ (b : Bool). checked (network_checks b N ++ later) result) (le-ltb 255 passes few)
 
-      pub call_refused : (c : ℕ) → c ≡ code_of (refusal_of N) → (c ≡ 0 → ⊥) → Untouched c call
-      call_refused c e z = subst (Untouched c) (sym few_passes) (by_network N later result c e z)
+      pub call_refused : (r : Refusal) → refusal_of N ≡ Some r → call ≡ Err r
+      call_refused r e = few_passes ∙ network_refused N later result r e
 
       module _ (ok : refusal_of N ≡ None) where
         past_checks : call ≡ checked later result
         past_checks = few_passes ∙ past_network N later result ok
 
-        pub call_short : words < improve_words k → Untouched 7 call
+        pub call_short : words < improve_words k → call ≡ Err ShortBuffer
         call_short h =
-            subst (Untouched 7) (sym past_checks)
-            (by_length (lent words (improve_words k) ∷ []) last result (or_introl (ltb words (improve_words k)) false (lt-ltb words (improve_words k) h)))
+            past_checks
+            ∙ too_short (lent words (improve_words k) ∷ []) last result (or_introl (ltb words (improve_words k)) false (lt-ltb words (improve_words k) h))
 
         pub call_rest : improve_words k ≤ words → call ≡ rest_call N k passes limit flags kids
         unfolding rest_call
@@ -143,23 +136,19 @@ module _ (N : Network) (k passes : ℕ) (limit : Option ℕ) (flags kids : List 
 
 -- ---- what an answer leaves ----
 
-pub answered_refused : {c : Result spec.Improved Refusal} {kids : List ℕ} (r : Refusal) (x : ℕ) → c ≡ Err r → x ≡ number_of r → Answered c kids kids (Refused x)
-answered_refused r x e q = record { answer = rw (e, q); tree = rw e }
+pub answered_refused : {c : Result spec.Improved Refusal} {kids : List ℕ} (r : Refusal) → c ≡ Err r → Follows c kids kids (Err r)
+answered_refused r e = record { answer = rw e; tree = rw e }
 
-pub answered_as : {c d : Result spec.Improved Refusal} {kids₀ kids : List ℕ} {r : Improved} → c ≡ d → Answered d kids₀ kids r → Answered c kids₀ kids r
-answered_as {kids₀ = kids₀} {kids = kids} {r = r} e a = subst (λ (x : Result spec.Improved Refusal). Answered x kids₀ kids r) (sym e) a
+pub answered_as : {c d : Result spec.Improved Refusal} {kids₀ kids : List ℕ} {r : Result Visited Refusal} → c ≡ d → Follows d kids₀ kids r → Follows c kids₀ kids r
+answered_as {kids₀ = kids₀} {kids = kids} {r = r} e a = subst (λ (x : Result spec.Improved Refusal). Follows x kids₀ kids r) (sym e) a
 
 module _ (N : Network) (k passes : ℕ) (limit : Option ℕ) (flags kids₀ ws₀ : List ℕ) where
   abbrev whole : Result spec.Improved Refusal
   whole = improve_call N k passes limit (length ws₀) flags kids₀
 
   -- a call that is refused with nothing touched
-  pub untouched_call : {x : ℕ} → Untouched x whole → Reconfigures N k passes limit flags kids₀ ws₀ kids₀ ws₀ (Refused x)
-  untouched_call {x} u =
-      record {
-        answered = answered_refused u.refusal x u.is (sym u.number);
-        workspace = same_words u (improve_words k) ws₀;
-      }
+  pub untouched_call : (r : Refusal) → whole ≡ Err r → touches r ≡ false → Improving N k passes limit flags kids₀ ws₀ kids₀ ws₀ (Err r)
+  untouched_call r e q = record { follows = answered_refused r e; workspace = quiet_words (improve_words k) whole r ws₀ e q }
 
   after_rest : (x y z w : Bool) (p : spec.Improved) (stated : ℕ) (ws : List ℕ)
       → cleared ws stated ≡ workspace_after stated (checked (check x InvalidTree ∷ check y InvalidFlags ∷ check z TotalBeyond ∷ check w DanglingIndex ∷ []) (Ok p)) ws
@@ -170,12 +159,12 @@ module _ (N : Network) (k passes : ℕ) (limit : Option ℕ) (flags kids₀ ws�
   after_rest false false false false p stated ws = refl
 
   -- a call that the later checks decide
-  pub rest_call_lem : {kids ws : List ℕ} {r : Improved} → whole ≡ rest_call N k passes limit flags kids₀ → ws ≡ cleared ws₀ (improve_words k)
-      → Answered (rest_call N k passes limit flags kids₀) kids₀ kids r → Reconfigures N k passes limit flags kids₀ ws₀ kids ws r
+  pub rest_call_lem : {kids ws : List ℕ} {r : Result Visited Refusal} → whole ≡ rest_call N k passes limit flags kids₀ → ws ≡ cleared ws₀ (improve_words k)
+      → Follows (rest_call N k passes limit flags kids₀) kids₀ kids r → Improving N k passes limit flags kids₀ ws₀ kids ws r
   unfolding rest_call
   rest_call_lem e q a =
       record {
-        answered = answered_as e a;
+        follows = answered_as e a;
         workspace =
             q
             ∙ after_rest (tree_check N kids₀).holds (flags_check N flags).holds (beyond_check N (flag_at flags) (pairs_of kids₀)).holds (dangling_check N).holds

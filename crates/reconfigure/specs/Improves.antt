@@ -1,7 +1,6 @@
 -- What the passes leave is what the definition answers. Assumes nothing.
-use Rattle.std.specs.Prelude.{Bool, true, false, not, ◌≡◌, refl, ℕ, zero, suc, ◌+◌, ◌-◌, ◌*◌, ◌^◌, ◌≤◌, ◌<◌, length, Option, None, Some, Result, Ok}
+use Rattle.std.specs.Prelude.{Bool, false, not, ◌≡◌, refl, ℕ, zero, suc, ◌-◌, ◌*◌, ◌≤◌, ◌<◌, length, Option, None, Some, Result, Ok}
 use mathlib.Core.List.{List, [], ◌∷◌}
-use Rattle.spec.specs.declared.Total.TheVariants.{Exact, Beyond}
 use Rattle.spec.specs.declared.Refusal.{Refusal}
 use Rattle.std.proofs.Math.Path.{sym, ap}
 use Rattle.std.proofs.Common.{◌∙◌, subst, arith, eqb-true, le-ltb}
@@ -12,10 +11,9 @@ use Rattle.spec.specs.Tree.{leaf, Pair, tree_at, root, pairs_of, flat_of}
 use Rattle.spec.specs.Improve as spec
 use Rattle.spec.specs.Improve.{Visited, untouched, clamped, pass, improve_tree, array_for, improve_at, improve}
 use Rattle.spec.specs.Lists.{count}
-use Rattle.spec.specs.Layout.{row_at, network_of}
-use Rattle.spec.specs.Price as price
+use Rattle.spec.specs.Layout.{row_at}
 use Rattle.spec.specs.Price.{up_to}
-use Rattle.spec.specs.Calls.{wrong_tree, flag_at, is_beyond, total_is_beyond, dangling, improved_tree}
+use Rattle.spec.specs.Calls.{wrong_tree, flag_at, is_beyond, total_is_beyond, improved_tree}
 use Rattle.laws.specs.Walks.{valid_tree}
 use Rattle.laws.specs.ListLaws.{no_members}
 use Rattle.cells.specs.Cells.{over_all}
@@ -24,14 +22,15 @@ use Rattle.reprice.specs.Held.{or_leaf, tree_of, PriceHeld, Standing}
 use Rattle.reprice.specs.Laws.{tree_of_lem, standing_array, total_held}
 use Rattle.network.specs.Checks.{Lent, Rows}
 use Rattle.network.specs.Codes.{Facts}
+use Rattle.network.specs.Lists.{Holds}
+use Rattle.network.specs.Views.{in_facts, in_rows, in_leaves}
+use Rattle.network.specs.declared.accepted.Accepted.{Accepted}
 use Rattle.network.specs.Layouts.{layout_legs, layout_leaf_count}
 use Rattle.pricing.specs.Sums.{work_sum}
-use Rattle.pricing.specs.Answers.{total_of}
 use Rattle.cost.specs.Checks.{row_places}
-use Rattle.passes.specs.Made.{Ready, Improves}
+use Rattle.passes.specs.Made.{Improves}
 use Rattle.reconf.specs.declared.Visited.{Visited as Counts}
-use Rattle.reconfigure.specs.declared.Improved.TheVariants.{Done}
-use Rattle.reconfigure.specs.Answers.{answer_of, Answered}
+use Rattle.reconfigure.specs.Answers.{given, Follows}
 
 -- ---- flat lists ----
 
@@ -129,12 +128,12 @@ module _ (N : Network) (k passes : ℕ) (limit : Option ℕ) (flag : ℕ → Boo
 pub answered_done : (N : Network) (k passes : ℕ) (limit : Option ℕ) (flags : List ℕ) {kids₀ kids sets sizes works : List ℕ} (r : Counts) (c : Result spec.Improved Refusal)
     → 3 ≤ k → k ≤ 12 → wrong_tree (leaf_count N) kids₀ ≡ false → length kids ≡ length kids₀
     → Improves N (flag_at flags) k limit passes kids₀ kids sets sizes works r.rebuilt r.tried
-    → c ≡ Ok (improve N k passes limit (flag_at flags) (pairs_of kids₀)) → Answered c kids₀ kids (Done r)
+    → c ≡ Ok (improve N k passes limit (flag_at flags) (pairs_of kids₀)) → Follows c kids₀ kids (Ok r)
 answered_done N k passes limit flags {kids₀} {kids} {sets} {sizes} {works} r c low high right long x q =
     let e : c ≡ Ok (record { tree = pairs_of kids; rebuilt = r.rebuilt; tried = r.tried }) =
     q ∙ ap Ok (improved_is N k passes limit (flag_at flags) kids₀ kids sets sizes works r.rebuilt r.tried low high right long x) in
     record {
-      answer = sym (ap answer_of e);
+      answer = sym (ap given e);
       tree =
           sym (ap (λ (y : Result spec.Improved Refusal). improved_tree y kids₀) e
           ∙ back N k passes limit (flag_at flags) kids₀ kids sets sizes works r.rebuilt r.tried low high right long x);
@@ -151,14 +150,6 @@ pub beyond_is : {N : Network} {flag : ℕ → Bool} {kids sets sizes works : Lis
 beyond_is {N} {flag} {kids} {sets} {sizes} {works} n q right h =
     ap (λ (y : ℕ). is_beyond (up_to y)) (ap (λ (i : ℕ). work_sum works i (i - 1)) (sym q) ∙ total_held (right_here N n kids q right) h)
 
-pub beyond_exact : (y : price.Total) (x : ℕ) → Exact x ≡ total_of y → false ≡ is_beyond y
-beyond_exact (Exact z) x e = refl
-beyond_exact Beyond x e = absurd (let w : ◌≡◌ {A = ℕ} 0 1 = cc in omega arith)
-
-pub beyond_beyond : (y : price.Total) → Beyond ≡ total_of y → true ≡ is_beyond y
-beyond_beyond (Exact z) e = absurd (let w : ◌≡◌ {A = ℕ} 0 1 = cc in omega arith)
-beyond_beyond Beyond e = refl
-
 pub standing_start : {N : Network} {flag : ℕ → Bool} {kids sets sizes works : List ℕ} (n : ℕ) → leaf_count N ≡ n → wrong_tree n kids ≡ false
     → PriceHeld N flag kids sets sizes works → total_is_beyond N flag (pairs_of kids) ≡ false → Standing N flag kids sets sizes works
 standing_start {N} {kids = kids} n q right h b = record { right = right_here N n kids q right; prices = h; total = b }
@@ -173,15 +164,14 @@ dangling_asks {m} {n} {o} {weights} {counts} {rows} {outputs} l f = (
       (f.accepted.once i j (omega (arith, layout_leaf_count m n o weights counts rows outputs))),
 )
 
-pub ready : {m n o k words words' sets sizes works : ℕ} {weights counts rows outputs : List ℕ} → Lent weights counts rows outputs
-    → Facts m n o weights counts rows outputs → dangling (network_of m n o weights counts rows outputs) ≡ false → 4096 + 8 * 2 ^ k ≤ words
-    → words' ≡ words → 1020 ≤ sets → 255 ≤ sizes → 255 ≤ works → 3 ≤ k → k ≤ 12 → Ready m n o k words' sets sizes works weights counts rows outputs
-ready l f d h e a b c low high =
-    record {
-      lent = l;
-      facts = f;
-      closed = d;
-      room = record { for_words = rw e h; for_sets = a; for_sizes = b; for_works = c };
-      low = low;
-      high = high;
-    }
+-- the same of an accepted network
+pub dangling_in : (a : Accepted) → Holds a.weights.now a.leg_counts.now a.legs.now a.outputs.now
+    → (length a.weights.now ≤ 256) × Rows (length a.leg_counts.now) a.leg_counts.now a.legs.now × (length a.outputs.now ≤ length a.outputs.now)
+    × ((i j : ℕ) → i < length a.leg_counts.now → count j (row_at a.leg_counts.now a.legs.now i) ≤ 1)
+dangling_in a h = let f = in_facts a h in (
+  f.few_indices,
+  in_rows a h,
+  omega arith,
+  λ i j b. subst (λ (x : List ℕ). count j x ≤ 1) (layout_legs (length a.weights.now) (length a.leg_counts.now) (length a.outputs.now) a.weights.now a.leg_counts.now a.legs.now a.outputs.now i b)
+      (f.accepted.once i j (omega (arith, in_leaves a))),
+)

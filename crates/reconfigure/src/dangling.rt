@@ -2,10 +2,12 @@
 ghost use Rattle.std.specs.Prelude.{◌≡◌, ℕ, ◌<◌, ◌≤◌, eqb, length};
 ghost use Rattle.spec.specs.Lists.{anyb, count};
 ghost use Rattle.spec.specs.Layout.{row_at};
+ghost use Rattle.spec.specs.Calls as calls;
+ghost use Rattle.network.specs.Views.{net_in};
 ghost use Rattle.network.specs.Checks.{Rows, leaves_of};
 ghost use Rattle.reconfigure.specs.Tally.{one_more, tallied, tally_rows, struck, dangling_of};
 
-use network::scan;
+use network::{Accepted, scan};
 
 // One more, up to 2.
 fn one_more(x: u8) -> u8
@@ -18,10 +20,9 @@ fn one_more(x: u8) -> u8
 fn tally_row(tally: &mut [u8], row: &[u16])
     ensures { tally.new ≡ tallied tally.old row.now }
 {
-    for k in 0..row.len() {
-        let j = cells::at16(row, k);
-        let x = one_more(cells::get8(tally, j));
-        cells::put8(tally, j, x);
+    for &j in row {
+        let x = one_more(cells::get_or(tally, usize::from(j), 0));
+        cells::put(tally, usize::from(j), x);
     }
 }
 
@@ -39,8 +40,8 @@ fn tally_leaves<'a>(tally: &mut [u8], n: usize, counts: &'a [u8], legs: &'a [u16
 fn strike(tally: &mut [u8], row: &[u16])
     ensures { tally.new ≡ struck tally.old row.now }
 {
-    for k in 0..row.len() {
-        cells::put8(tally, cells::at16(row, k), 0);
+    for &j in row {
+        cells::put(tally, usize::from(j), 0);
     }
 }
 
@@ -48,8 +49,8 @@ fn strike(tally: &mut [u8], row: &[u16])
 fn any_one(tally: &[u8]) -> bool
     ensures { result ≡ anyb (λ x. eqb x 1) tally.now }
 {
-    for j in 0..tally.len() {
-        if tally[j] == 1 {
+    for &x in tally {
+        if x == 1 {
             return true;
         }
     }
@@ -72,4 +73,18 @@ pub fn dangling<'a>(
     tally_leaves(&mut tally, n, counts, legs);
     strike(&mut tally, &outputs[..o]);
     any_one(&tally[..m])
+}
+
+/// Does just one leaf of a network name an index that is none of its outputs.
+pub fn is_dangling(network: &Accepted) -> bool
+    ensures { result ≡ calls.dangling (net_in network.now) }
+{
+    dangling(
+        network.weights.len(),
+        network.leg_counts.len(),
+        network.outputs.len(),
+        network.leg_counts,
+        network.legs,
+        network.outputs,
+    )
 }

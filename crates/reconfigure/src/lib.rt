@@ -1,31 +1,44 @@
 #![tactic(auto)]
-// Improvement of a network's tree, as an entry that asks nothing of its caller.
+//! Improvement of a network's tree, as an entry that asks nothing of its caller.
 ghost use Rattle.std.specs.Prelude.{false, ◌≡◌, ◌+◌, ◌-◌, ◌*◌, ◌^◌, ◌<◌, ◌≤◌, length};
-ghost use Rattle.spec.specs.Layout.{network_of};
+ghost use Rattle.spec.specs.Network.{leaf_count};
 ghost use Rattle.spec.specs.Price.{up_to};
 ghost use Rattle.spec.specs.Calls.{wrong_tree, is_beyond};
 ghost use Rattle.spec.specs.Improve.{clamped};
 ghost use Rattle.network.specs.Record.{net_of};
-ghost use Rattle.network.specs.Checks.{Lent};
-ghost use Rattle.network.specs.Codes.{Facts};
+ghost use Rattle.network.specs.Views.{net_in};
 ghost use Rattle.pricing.specs.Sums.{work_sum};
 ghost use Rattle.subset.specs.Search.{limit_of};
-ghost use Rattle.reconfigure.specs.Answers.{limit_from, rest_call, last_call, Answered, Reconfigures};
+ghost use Rattle.reconfigure.specs.Answers.{limit_from, rest_call, last_call, Follows, Improving, Reconfigures};
 
 pub mod dangling; // dangling.rt: indices that just one leaf names
 
-use network::{Network, checks, refusal};
-use pricing::Total;
-use reconf::Visited;
+use network::{Accepted, Network};
+use pricing::list::PriceList;
+use reconf::{Search, Visited};
+use spec::{Refusal, Total};
 
-// The limit on the size bits of the tables that a search makes.
+/// What improvement is asked for.
+#[derive(Clone, Copy)]
+pub struct Ask<'a> {
+    /// the sliced indices, by a byte that is 1
+    pub flags: &'a [u8],
+    /// the most members of a region; 3 where it is less, 12 where it is more
+    pub k: usize,
+    /// the most passes, at most 255
+    pub passes: usize,
+    /// the most size bits of a table that a search makes, but for its region's own
+    pub limit: Option<u16>,
+}
+
+// The limit on the size bits of the tables that a search makes, for callers of the old entry.
 #[derive(Clone, Copy)]
 pub enum Limit {
     Unlimited,
     Bits(u16),
 }
 
-// The answer of improvement.
+// The answer of the old entry.
 #[derive(Clone, Copy)]
 pub enum Improved {
     Refused(u8),
@@ -36,10 +49,7 @@ pub enum Improved {
 fn clamp(k: usize) -> usize
     ensures { (result ≡ clamped k) × (3 ≤ result) × (result ≤ 12) }
 {
-    if k < 3 {
-        return 3;
-    }
-    cells::min(12, k)
+    k.min(12).max(3)
 }
 
 // The stated workspace in words, for a `k` that is clamped.
@@ -50,14 +60,24 @@ fn stated(k: usize) -> usize
     4096 + 8 * subset::mask_count(k)
 }
 
-// A number of bits, as wide as the search takes it.
+// The limit of the old entry.
+fn limit_of(limit: Limit) -> Option<u16>
+    ensures { result ≡ limit_from limit }
+{
+    match limit {
+        Limit::Unlimited => None,
+        Limit::Bits(x) => Some(x),
+    }
+}
+
+// A number of bits, as wide as the old search takes it.
 fn wide(x: u16) -> u64
     ensures { (result ≡ x) × (result < 65536) }
 {
-    x as u64
+    u64::from(x)
 }
 
-// The limit as the search takes it: none from 65,536 on.
+// The limit as the old search takes it: none from 65,536 on.
 pub fn limit_bits(limit: Limit) -> u64
     ensures { limit_of result ≡ limit_from limit }
 {
@@ -67,138 +87,122 @@ pub fn limit_bits(limit: Limit) -> u64
     }
 }
 
-// Is the total of a tree of `n` leaves, whose nodes' work bits are at hand, beyond.
+/// Is the total of a tree of `n` leaves, whose nodes' work bits are at hand, beyond.
 pub fn is_beyond(works: &[u16], n: usize) -> bool
     requires { n + (n - 1) ≤ length works.now }
     ensures { result ≡ is_beyond (up_to (work_sum works.now n (n - 1))) }
 {
-    let t = pricing::total_of(works, n, cells::less(n, 1));
-    match t {
+    match pricing::total_of(works, n, n.saturating_sub(1)) {
         Total::Exact(x) => false,
         Total::Beyond => true,
     }
 }
 
+// The same of a price list.
+fn is_total_beyond(list: &PriceList, n: usize) -> bool
+    requires { n + (n - 1) ≤ length list.now.works.now }
+    ensures { result ≡ is_beyond (up_to (work_sum list.now.works.now n (n - 1))) }
+{
+    is_beyond(list.works, n)
+}
+
 // The answer where the tree is valid and the flags are right.
-fn improve_valid<'a>(
-    ws: &mut [u64],
-    kids: &mut [u16],
-    m: usize,
-    n: usize,
-    o: usize,
-    weights: &'a [u8],
-    counts: &'a [u8],
-    legs: &'a [u16],
-    outputs: &'a [u16],
-    flags: &[u8],
-    k: usize,
-    limit: u64,
+fn improve_valid(
+    network: &Accepted,
+    search: &Search,
     most: usize,
-) -> Improved
-    requires { Lent weights.now counts.now legs.now outputs.now × Facts m n o weights.now counts.now legs.now outputs.now × (4096 + 8 * 2 ^ k ≤ length ws.old) × (3 ≤ k) × (k ≤ 12) × (most ≤ 255) × (wrong_tree n kids.old ≡ false) }
-    ensures { Answered (last_call (network_of m n o weights.now counts.now legs.now outputs.now) k most (limit_of limit) flags.now kids.old) kids.old kids.new result }
+    kids: &mut [u16],
+    ws: &mut [u64],
+) -> Result<Visited, Refusal>
+    requires words { 4096 + 8 * 2 ^ search.now.k ≤ length ws.old }
+    requires most { most ≤ 255 }
+    requires right { wrong_tree (leaf_count (net_in network.now)) kids.old ≡ false }
+    ensures { Follows (last_call (net_in network.now) search.now.k most search.now.limit search.now.flags.now kids.old) kids.old kids.new result }
 {
     let mut sets = [0u64; 1020];
     let mut sizes = [0u16; 255];
     let mut works = [0u16; 255];
-    reprice::reprice(
-        ws, &mut sets, &mut sizes, &mut works, m, n, o, weights, counts, legs, outputs, flags, kids,
-    );
-    if is_beyond(&works, n) {
-        return Improved::Refused(refusal::TOTAL_BEYOND);
+    let mut list = PriceList {
+        sets: &mut sets,
+        sizes: &mut sizes,
+        works: &mut works,
+    };
+    reconf::price(ws, &mut list, kids, network, search.flags);
+    if is_total_beyond(&list, network.leaf_count()) {
+        return Err(Refusal::TotalBeyond);
     }
-    if dangling::dangling(m, n, o, counts, legs, outputs) {
-        return Improved::Refused(refusal::DANGLING_INDEX);
+    if dangling::is_dangling(network) {
+        return Err(Refusal::DanglingIndex);
     }
-    Improved::Done(passes::passes(
-        ws, &mut sets, &mut sizes, &mut works, kids, m, n, o, weights, counts, legs, outputs,
-        flags, k, limit, most,
-    ))
+    Ok(passes::improve(ws, &mut list, kids, network, search, most))
 }
 
-// The answer where the network is accepted and the workspace is long enough. On a refusal only `ws` is written.
-fn improve_in<'a>(
-    ws: &mut [u64],
+// The answer where the workspace is long enough. On a refusal only `ws` is written.
+fn improve_tree(
+    network: &Accepted,
+    search: &Search,
+    most: usize,
     kids: &mut [u16],
-    m: usize,
-    n: usize,
-    o: usize,
-    weights: &'a [u8],
-    counts: &'a [u8],
-    legs: &'a [u16],
-    outputs: &'a [u16],
-    flags: &[u8],
-    k: usize,
-    limit: u64,
-    most: usize,
-) -> Improved
-    requires { Lent weights.now counts.now legs.now outputs.now × Facts m n o weights.now counts.now legs.now outputs.now × (4096 + 8 * 2 ^ k ≤ length ws.old) × (3 ≤ k) × (k ≤ 12) × (most ≤ 255) }
-    ensures { Answered (rest_call (network_of m n o weights.now counts.now legs.now outputs.now) k most (limit_of limit) flags.now kids.old) kids.old kids.new result }
+    ws: &mut [u64],
+) -> Result<Visited, Refusal>
+    requires words { 4096 + 8 * 2 ^ search.now.k ≤ length ws.old }
+    requires most { most ≤ 255 }
+    ensures { Follows (rest_call (net_in network.now) search.now.k most search.now.limit search.now.flags.now kids.old) kids.old kids.new result }
 {
-    if !walk::is_tree(kids, n, ws) {
-        return Improved::Refused(refusal::INVALID_TREE);
+    if !walk::is_tree(kids, network.leaf_count(), ws) {
+        return Err(Refusal::InvalidTree);
     }
-    if cost::wrong_flags(m, flags) {
-        return Improved::Refused(refusal::INVALID_FLAGS);
+    if cost::wrong_flags(network.index_count(), search.flags) {
+        return Err(Refusal::InvalidFlags);
     }
-    improve_valid(
-        ws, kids, m, n, o, weights, counts, legs, outputs, flags, k, limit, most,
-    )
+    improve_valid(network, search, most, kids, ws)
 }
 
-// The answer on lists that a record holds, the counts and the network's own check first.
-fn improve_of<'a>(
-    m: usize,
-    n: usize,
-    o: usize,
-    weights: &'a [u8],
-    counts: &'a [u8],
-    legs: &'a [u16],
-    outputs: &'a [u16],
-    k: usize,
-    most: usize,
-    limit: Limit,
-    flags: &[u8],
+/// Improves the tree of an accepted network where it stands. Refusals, in this order: `ShortBuffer`, `InvalidTree`, `InvalidFlags`, `TotalBeyond`,
+/// `DanglingIndex`.
+pub fn improve_of(
+    network: &Accepted,
+    ask: &Ask,
     tree: &mut [u16],
     ws: &mut [u64],
-) -> Improved
-    requires { Lent weights.now counts.now legs.now outputs.now }
-    ensures { Reconfigures (network_of m n o weights.now counts.now legs.now outputs.now) k most (limit_from limit) flags.now tree.old ws.old tree.new ws.new result }
+) -> Result<Visited, Refusal>
+    requires { ask.now.passes ≤ 255 }
+    ensures { Improving (net_in network.now) ask.now.k ask.now.passes ask.now.limit ask.now.flags.now tree.old ws.old tree.new ws.new result }
 {
-    if 255 < most {
-        return Improved::Refused(refusal::TOO_LARGE);
-    }
-    let number = checks::number(m, n, o, weights, counts, legs, outputs);
-    if number != refusal::NONE {
-        return Improved::Refused(number);
-    }
-    let size = clamp(k);
-    let words = stated(size);
+    let k = clamp(ask.k);
+    let words = stated(k);
     if ws.len() < words {
-        return Improved::Refused(refusal::SHORT_BUFFER);
+        return Err(Refusal::ShortBuffer);
     }
-    let bits = limit_bits(limit);
-    let r = improve_in(
-        &mut ws[..words],
-        tree,
-        m,
-        n,
-        o,
-        weights,
-        counts,
-        legs,
-        outputs,
-        flags,
-        size,
-        bits,
-        most,
-    );
+    let search = Search {
+        flags: ask.flags,
+        k,
+        limit: ask.limit,
+    };
+    let answer = improve_tree(network, &search, ask.passes, tree, &mut ws[..words]);
     cells::clear(ws, words);
-    r
+    answer
 }
 
-// Improves the tree of a network where it stands: passes over its nodes, each node's region rebuilt where a cheaper tree over at most `k` members
-// is found, until a pass rebuilds nothing. The answer has how many rebuilds there were and how many splits were tried.
+/// Improves the tree of a network where it stands: passes over its nodes, each node's region rebuilt where a cheaper tree over its members is found,
+/// until a pass rebuilds nothing. The answer has how many rebuilds there were and how many splits were tried. More than 255 passes are `TooLarge`; then
+/// the network's own refusals come, then those of `improve_of`. On a refusal the tree is unchanged.
+pub fn improve(
+    network: &Network,
+    ask: &Ask,
+    tree: &mut [u16],
+    ws: &mut [u64],
+) -> Result<Visited, Refusal>
+    ensures { Improving (net_of network.now) ask.now.k ask.now.passes ask.now.limit ask.now.flags.now tree.old ws.old tree.new ws.new result }
+{
+    if 255 < ask.passes {
+        return Err(Refusal::TooLarge);
+    }
+    let accepted = network.accepted()?;
+    improve_of(&accepted, ask, tree, ws)
+}
+
+// The same as `improve`, answered by a number.
 pub fn reconfigure(
     network: Network,
     k: usize,
@@ -210,22 +214,14 @@ pub fn reconfigure(
 ) -> Improved
     ensures { Reconfigures (net_of network) k passes (limit_from limit) flags.now tree.old ws.old tree.new ws.new result }
 {
-    let m = network.index_count;
-    let n = network.leaf_count;
-    let o = network.output_count;
-    improve_of(
-        m,
-        n,
-        o,
-        &network.weights,
-        &network.leg_counts,
-        &network.legs,
-        &network.outputs,
+    let ask = Ask {
+        flags,
         k,
         passes,
-        limit,
-        flags,
-        tree,
-        ws,
-    )
+        limit: limit_of(limit),
+    };
+    match improve(&network, &ask, tree, ws) {
+        Ok(made) => Improved::Done(made),
+        Err(refusal) => Improved::Refused(refusal.number()),
+    }
 }

@@ -1,11 +1,11 @@
 -- What one split does to the choice so far, case by case. Assumes nothing.
-use Rattle.std.specs.Prelude.{Bool, true, false, not, ◌||◌, List, [], ◌∷◌, ◌≡◌, refl, ℕ, ◌+◌, ◌-◌, ◌*◌, ◌^◌, ◌≤◌, ◌<◌, ltb, Option, None, Some, get_or}
-use Rattle.std.proofs.Common.{sym, ◌∙◌, arith, pow_mono, pow_pos, lt-ltb, le-ltb, ltb-true, ltb-false}
+use Rattle.std.specs.Prelude.{Bool, true, false, not, ◌||◌, List, [], ◌∷◌, ◌≡◌, refl, ℕ, ◌+◌, ◌-◌, ◌^◌, ◌≤◌, ◌<◌, ltb, None, Some, get_or}
+use Rattle.std.proofs.Common.{sym, ◌∙◌, arith, pow_mono, lt-ltb, le-ltb, ltb-true, ltb-false}
 use Rattle.spec.specs.Lists.{keep, range, sum_of}
 use Rattle.std.proofs.lemmas.Option.{none-some, cond_some}
 use Rattle.laws.specs.Booleans.{by_cases, clash, or_introl, or_intror}
 use Rattle.slots.specs.Weigh.{open_weight, weighed}
-use Rattle.masks.specs.Rows.{row_has, has_at, in_either}
+use Rattle.masks.specs.Rows.{has_at, in_either}
 use Rattle.masks.specs.Tables.{work_at}
 use Rattle.subset.specs.Walk.{infinite, step_cost, considered}
 use Rattle.subset.specs.declared.Choice.{Choice}

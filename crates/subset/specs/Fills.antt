@@ -1,7 +1,7 @@
 -- What is found for a mask hangs on smaller masks alone; so the tables are filled from the lowest mask up. Assumes nothing.
-use Rattle.std.specs.Prelude.{◌||◌, List, [], ◌∷◌, ◌≡◌, refl, ℕ, ◌+◌, ◌-◌, ◌*◌, ◌/◌, ◌%◌, ◌≤◌, ◌<◌, eqb, length, get_or, set, drop, Option}
-use Rattle.std.proofs.Common.{sym, ap, ap₂, ◌∙◌, add-one, arith, length-set, get_or-set_same, get_or-set_other, eqb-true}
-use Rattle.std.proofs.Math.Path.{subst, fun_ext}
+use Rattle.std.specs.Prelude.{List, [], ◌∷◌, ◌≡◌, refl, ℕ, ◌+◌, ◌-◌, ◌≤◌, ◌<◌, eqb, length, set, drop, Option}
+use Rattle.std.proofs.Common.{sym, ap, ◌∙◌, add-one, arith, get_or-set_same, get_or-set_other, eqb-true}
+use Rattle.std.proofs.Math.Path.{subst}
 use Rattle.std.specs.Int.Bits.{bit_and, and_le_r}
 use Rattle.std.specs.Int.Count.{ones}
 use Rattle.std.proofs.Math.Pow.{pow_mono}
@@ -129,13 +129,13 @@ module _ (B S B' S' : ℕ → ℕ) (work : ℕ → ℕ → ℕ) (n : ℕ) (limit
 module _ (cost part : List ℕ) (work : ℕ → ℕ → ℕ) (n : ℕ) (limit : Option ℕ) (s tried : ℕ) (e : Entry)
     (long : length cost ≡ n) (long_part : length part ≡ n) (some : 1 ≤ s) (less : s < n)
   where
-  pub fill_next : e ≡ entry_of (best_at cost) work n limit s → Filled (best_at cost) (split_at part) work n limit s tried
-      → Filled (best_at (set cost s e.cost)) (split_at (set part s e.part)) work n limit (s + 1) (tried + e.tried)
-  fill_next h f =
-      fill_step (best_at cost) (split_at part) (best_at (set cost s e.cost)) (split_at (set part s e.part)) work n limit s tried e some less
-      (λ l b. get_or-set_other cost s l e.cost 0 (λ q. omega arith))
-      (λ l b. get_or-set_other part s l e.part 0 (λ q. omega arith))
-      h (get_or-set_same cost s e.cost 0 (omega arith)) (get_or-set_same part s e.part 0 (omega arith)) f
+    pub fill_next : e ≡ entry_of (best_at cost) work n limit s → Filled (best_at cost) (split_at part) work n limit s tried
+        → Filled (best_at (set cost s e.cost)) (split_at (set part s e.part)) work n limit (s + 1) (tried + e.tried)
+    fill_next h f =
+        fill_step (best_at cost) (split_at part) (best_at (set cost s e.cost)) (split_at (set part s e.part)) work n limit s tried e some less
+        (λ l b. get_or-set_other cost s l e.cost 0 (λ q. omega arith))
+        (λ l b. get_or-set_other part s l e.part 0 (λ q. omega arith))
+        h (get_or-set_same cost s e.cost 0 (omega arith)) (get_or-set_same part s e.part 0 (omega arith)) f
 
 pub fill_end : (B S : ℕ → ℕ) (work : ℕ → ℕ → ℕ) (n : ℕ) (limit : Option ℕ) (s tried : ℕ) → s ≡ n → Filled B S work n limit s tried → Filled B S work n limit n tried
 fill_end B S work n limit s tried e f = subst (λ x. Filled B S work n limit x tried) e f

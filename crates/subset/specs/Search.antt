@@ -1,5 +1,5 @@
 -- What the search over members in rows of words answers. Definitions only. Assumes nothing.
-use Rattle.std.specs.Prelude.{Bool, cond, List, [], ℕ, ◌-◌, ◌^◌, ltb, Option, None, Some}
+use Rattle.std.specs.Prelude.{Bool, cond, List, [], ℕ, ◌-◌, ltb, Option, None, Some}
 use Rattle.spec.specs.Lists.{range}
 use Rattle.spec.specs.Improve.{Found, cheapest, split_count}
 use Rattle.slots.specs.Weigh.{weighed}

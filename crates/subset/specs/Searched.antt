@@ -1,14 +1,13 @@
 -- The tables, filled, have the search's answer and its count. Assumes nothing.
-use Rattle.std.specs.Prelude.{Bool, ◌&&◌, ◌||◌, ◌≡◌, refl, ℕ, suc, ◌+◌, ◌-◌, ◌*◌, ◌^◌, ◌≤◌, ◌<◌, ltb, length, get_or, Option, None, Some}
+use Rattle.std.specs.Prelude.{Bool, ◌&&◌, ◌||◌, ◌≡◌, refl, ℕ, suc, ◌-◌, ◌^◌, ◌≤◌, ◌<◌, get_or, Option, None, Some}
 use Rattle.std.proofs.Math.Bool.{or_self}
 use mathlib.Core.List.{List, []}
 use Rattle.std.proofs.Math.Path.{sym, ap₂}
-use Rattle.std.proofs.Common.{ap, ◌∙◌, subst, arith, lt-ltb, le-ltb, ltb-false}
-use Rattle.spec.specs.Lists.{keep, range}
-use Rattle.spec.specs.Improve.{Found, over_limit, keeps, passed, split_work, cheapest, split_count}
-use Rattle.laws.specs.Booleans.{by_cases}
+use Rattle.std.proofs.Common.{ap, ◌∙◌, arith, lt-ltb, le-ltb}
+use Rattle.spec.specs.Lists.{range}
+use Rattle.spec.specs.Improve.{Found, over_limit, keeps, passed, split_work, cheapest}
 use Rattle.laws.specs.Fuel.{best_same}
-use Rattle.laws.specs.ListLaws.{range_length, keep_length, sum_bound}
+use Rattle.laws.specs.ListLaws.{range_length}
 use Rattle.laws.specs.Masks.{places_from}
 use Rattle.slots.specs.Weigh.{weighed_ext}
 use Rattle.masks.specs.Rows.{has_at, in_either}

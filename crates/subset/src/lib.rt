@@ -1,6 +1,6 @@
 #![tactic(auto)]
 //! The search over the subsets of up to 12 members, as masks: for each the least cost of a tree over it, and the first split that has it.
-ghost use Rattle.std.specs.Prelude.{◌≡◌, ◌+◌, ◌*◌, ◌^◌, ◌<◌, ◌≤◌, ltb, length};
+ghost use Rattle.std.specs.Prelude.{◌≡◌, ◌+◌, ◌*◌, ◌^◌, ◌<◌, ◌≤◌, IfSome, ltb, length};
 ghost use Rattle.spec.specs.Improve.{over_limit};
 ghost use Rattle.slots.specs.Weigh.{Light};
 ghost use Rattle.masks.specs.Tables.{work_at, Sized};
@@ -41,7 +41,11 @@ fn step_cost(tables: &Tables, l: usize, r: usize, room: u64) -> Option<u64>
         return None;
     }
     let work = tables.work(l, r);
-    if below(work, room) { Some(1 << work) } else { None }
+    if below(work, room) {
+        Some(1 << work)
+    } else {
+        None
+    }
 }
 
 // The split of `low` + `rest` whose part is `low` + `sub` is taken if it is strictly cheaper. It is not weighed where the costs of both
@@ -191,7 +195,8 @@ pub fn mask_count(m: usize) -> usize
 
 // A cost of the table, if it is one.
 fn finite(cost: u64) -> Option<u64>
-    ensures { result ≡ finite cost }
+    ensures cost { result ≡ finite cost }
+    ensures small { IfSome result (λ c. c < infinite) }
 {
     if cost < INFINITE { Some(cost) } else { None }
 }
@@ -203,6 +208,7 @@ pub fn search<'a>(masks: Masks<'a>, weights: &[u8], limit: Option<u16>, m: usize
     requires members { (1 ≤ m) × (m ≤ 12) }
     requires weights { (128 ≤ length weights.now) × Light weights.now }
     ensures found { found_at result.part.now (2 ^ m) result.cost ≡ searched_in masks.entry.united.now weights.now limit m }
+    ensures small { IfSome result.cost (λ c. c < infinite) }
     ensures tried { result.tried ≡ tried_in masks.entry.united.now weights.now limit m }
 {
     let n = mask_count(m);

@@ -1,5 +1,5 @@
 use Rattle.frontier.specs.Costs.{cost_below}
-use Prim.Native.Nat.{◌<◌, ◌≤◌}
+use Prim.Native.Nat.{◌<◌}
 use mathlib.Core.Path.{◌≡◌}
 use Rattle.frontier.proofs.old_cost.Given as goal
 

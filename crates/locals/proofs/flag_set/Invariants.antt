@@ -1,6 +1,5 @@
 use Rattle.locals.specs.Unions.{Tested}
 use Rattle.spec.specs.Calls.{flag_at}
-use Prim.Native.Nat.{◌≤◌}
 use mathlib.Core.Path.{◌≡◌}
 use lib.ListN.{length}
 use Rattle.locals.proofs.flag_set.Given as goal

@@ -1,5 +1,4 @@
 use Rattle.locals.specs.Unions.{Uniting}
-use Prim.Native.Nat.{◌≤◌}
 use mathlib.Core.Path.{◌≡◌}
 use lib.ListN.{length}
 use Rattle.locals.proofs.unite_members.Given as goal

@@ -1,25 +1,42 @@
-use Rattle.subset.specs.Search.{limit_of}
-use Rattle.spec.specs.Layout.{network_of}
 use Rattle.spec.specs.declared.Refusal.TheVariants.{TotalBeyond, DanglingIndex}
-use Rattle.network.specs.Layouts.{layout_leaf_count}
-use Rattle.reconfigure.specs.Tally.{dangling_of_lem}
-use Rattle.reconfigure.specs.Improves.{answered_done, right_here, beyond_is, standing_start, dangling_asks, ready}
+use Rattle.spec.specs.Calls.{wrong_tree}
+use Rattle.network.specs.Views.{net_in}
+use Rattle.reconfigure.specs.Improves.{answered_done, beyond_is, standing_start}
 use Rattle.reconfigure.specs.Checks.{last_beyond, last_dangling, last_done, answered_refused}
 use native.Mathlib.Omega.{arith}
-use mathlib.Core.Path.{refl, sym, ◌∙◌}
+use Prim.Native.Nat.{ℕ}
+use mathlib.Core.Bool.{false}
+use mathlib.Core.Path.{◌≡◌, sym, subst, ◌∙◌}
 use Rattle.reconfigure.proofs.improve_valid.Goals as goal
 
-pub returns-then-is_beyond : goal.returns-then-is_beyond
-returns-then-is_beyond c = let a = c.args in answered_refused TotalBeyond 10 (last_beyond (network_of a.m a.n a.o a.weights.now a.counts.now a.legs.now a.outputs.now) a.k a.most (limit_of a.limit) a.flags.now a.kids.now (sym (beyond_is a.n (layout_leaf_count a.m a.n a.o a.weights.now a.counts.now a.legs.now a.outputs.now) c.requires.6 c.reprice.ensures) ∙ sym c.is_beyond.ensures ∙ c.if-is_beyond.true)) refl
+pub returns-then-is_total_beyond : goal.returns-then-is_total_beyond
+returns-then-is_total_beyond c = let a = c.args in let N = net_in a.network.now in let n : ℕ = c.leaf_count.result in
+    let right : wrong_tree n a.kids.now ≡ false = subst (λ (x : ℕ). wrong_tree x a.kids.now ≡ false) (sym c.leaf_count.ensures) c.requires.right in
+    let is = beyond_is n (sym c.leaf_count.ensures) right c.price.ensures.held in
+    answered_refused TotalBeyond (last_beyond N a.search.now.k a.most a.search.now.limit a.search.now.flags.now a.kids.now (sym is ∙ sym c.is_total_beyond.ensures ∙ c.if-is_total_beyond.true))
 
-pub dangling-requires : goal.dangling-requires
-dangling-requires c = dangling_asks c.requires.0 c.requires.1
+pub returns-then-is_dangling : goal.returns-then-is_dangling
+returns-then-is_dangling c = let a = c.args in let N = net_in a.network.now in let n : ℕ = c.leaf_count.result in
+    let right : wrong_tree n a.kids.now ≡ false = subst (λ (x : ℕ). wrong_tree x a.kids.now ≡ false) (sym c.leaf_count.ensures) c.requires.right in
+    let is = beyond_is n (sym c.leaf_count.ensures) right c.price.ensures.held in
+    let off = sym is ∙ sym c.is_total_beyond.ensures ∙ c.if-is_total_beyond.false in
+    answered_refused DanglingIndex (last_dangling N a.search.now.k a.most a.search.now.limit a.search.now.flags.now a.kids.now off (sym c.is_dangling.ensures ∙ c.if-is_dangling.true))
 
-pub returns-then-dangling : goal.returns-then-dangling
-returns-then-dangling c = let a = c.args in answered_refused DanglingIndex 11 (last_dangling (network_of a.m a.n a.o a.weights.now a.counts.now a.legs.now a.outputs.now) a.k a.most (limit_of a.limit) a.flags.now a.kids.now (sym (beyond_is a.n (layout_leaf_count a.m a.n a.o a.weights.now a.counts.now a.legs.now a.outputs.now) c.requires.6 c.reprice.ensures) ∙ sym c.is_beyond.ensures ∙ c.if-is_beyond.false) (sym (dangling_of_lem a.m a.n a.o a.weights.now a.counts.now a.legs.now a.outputs.now) ∙ sym c.dangling.ensures ∙ c.if-dangling.true)) refl
+pub improve-requires-clause-ready : goal.improve-requires-clause-ready
+improve-requires-clause-ready c = let l = c.price.ensures.long in
+    (sym c.is_dangling.ensures ∙ c.if-is_dangling.false, record { for_words = omega (arith, c.requires.words, c.price.auto.words); for_sets = omega (arith, l.0); for_sizes = omega (arith, l.1); for_works = omega (arith, l.2) })
 
-pub passes-requires : goal.passes-requires
-passes-requires c = let a = c.args in let kept = c.reprice.auto in let off = sym (beyond_is a.n (layout_leaf_count a.m a.n a.o a.weights.now a.counts.now a.legs.now a.outputs.now) c.requires.6 c.reprice.ensures) ∙ sym c.is_beyond.ensures ∙ c.if-is_beyond.false in (ready c.requires.0 c.requires.1 (sym (dangling_of_lem a.m a.n a.o a.weights.now a.counts.now a.legs.now a.outputs.now) ∙ sym c.dangling.ensures ∙ c.if-dangling.false) c.requires.2 kept.words (omega (arith, kept.sets)) (omega (arith, kept.sizes)) (omega (arith, kept.works)) c.requires.3 c.requires.4, standing_start a.n (layout_leaf_count a.m a.n a.o a.weights.now a.counts.now a.legs.now a.outputs.now) c.requires.6 c.reprice.ensures off, c.requires.5)
+pub improve-requires-clause-standing : goal.improve-requires-clause-standing
+improve-requires-clause-standing c = let a = c.args in let N = net_in a.network.now in let n : ℕ = c.leaf_count.result in
+    let right : wrong_tree n a.kids.now ≡ false = subst (λ (x : ℕ). wrong_tree x a.kids.now ≡ false) (sym c.leaf_count.ensures) c.requires.right in
+    let is = beyond_is n (sym c.leaf_count.ensures) right c.price.ensures.held in
+    let off = sym is ∙ sym c.is_total_beyond.ensures ∙ c.if-is_total_beyond.false in
+    standing_start n (sym c.leaf_count.ensures) right c.price.ensures.held off
 
 pub returns : goal.returns
-returns c = let a = c.args in let off = sym (beyond_is a.n (layout_leaf_count a.m a.n a.o a.weights.now a.counts.now a.legs.now a.outputs.now) c.requires.6 c.reprice.ensures) ∙ sym c.is_beyond.ensures ∙ c.if-is_beyond.false in answered_done (network_of a.m a.n a.o a.weights.now a.counts.now a.legs.now a.outputs.now) a.k a.most (limit_of a.limit) a.flags.now c.passes.result _ c.requires.3 c.requires.4 (right_here (network_of a.m a.n a.o a.weights.now a.counts.now a.legs.now a.outputs.now) a.n a.kids.now (layout_leaf_count a.m a.n a.o a.weights.now a.counts.now a.legs.now a.outputs.now) c.requires.6) c.passes.auto.kids c.passes.ensures (last_done (network_of a.m a.n a.o a.weights.now a.counts.now a.legs.now a.outputs.now) a.k a.most (limit_of a.limit) a.flags.now a.kids.now off (sym (dangling_of_lem a.m a.n a.o a.weights.now a.counts.now a.legs.now a.outputs.now) ∙ sym c.dangling.ensures ∙ c.if-dangling.false))
+returns c = let a = c.args in let N = net_in a.network.now in let n : ℕ = c.leaf_count.result in
+    let right : wrong_tree n a.kids.now ≡ false = subst (λ (x : ℕ). wrong_tree x a.kids.now ≡ false) (sym c.leaf_count.ensures) c.requires.right in
+    let is = beyond_is n (sym c.leaf_count.ensures) right c.price.ensures.held in
+    let off = sym is ∙ sym c.is_total_beyond.ensures ∙ c.if-is_total_beyond.false in
+    answered_done N a.search.now.k a.most a.search.now.limit a.search.now.flags.now c.improve.result _ a.search.now.clamped.0 a.search.now.clamped.1 c.requires.right c.improve.auto.kids c.improve.ensures.improves
+    (last_done N a.search.now.k a.most a.search.now.limit a.search.now.flags.now a.kids.now off (sym c.is_dangling.ensures ∙ c.if-is_dangling.false))

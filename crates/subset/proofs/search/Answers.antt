@@ -4,7 +4,7 @@ use Rattle.subset.specs.Walk.{finite, Filled, best_at, split_at}
 use Rattle.subset.specs.Searched.{search_found, search_tried}
 use native.Mathlib.Omega.{arith}
 use Prim.Native.Nat.{ℕ, ◌-◌, ◌^◌}
-use mathlib.Core.Path.{◌≡◌, refl, sym, ap, ◌∙◌, subst}
+use mathlib.Core.Path.{◌≡◌, refl, ap, ◌∙◌, subst}
 use lib.ListN.{length, get_or}
 use Rattle.subset.proofs.search.Goals as goal
 
@@ -30,7 +30,7 @@ returns-clause-found c = let a = c.args in let un = c.unions.new.united in let k
     (subst (λ (n : ℕ). United a.masks.united.now un n n) e0 c.unions.ensures)
     (subst (λ (n : ℕ). KeptBelow un a.weights.now k.kept k.bits n n) e1 c.keep_sets.ensures)
     (subst (λ (n : ℕ). Filled (best_at f.new.cost) (split_at f.new.part) (work_at k.kept a.weights.now) n a.limit n f.result) e2 f.ensures)
-    c.finite-least.result (c.finite-least.ensures ∙ ap (λ (n : ℕ). finite (get_or f.new.cost (n - 1) 0)) c.mask_count-n.ensures.0)
+    c.finite-least.result (c.finite-least.ensures.cost ∙ ap (λ (n : ℕ). finite (get_or f.new.cost (n - 1) 0)) c.mask_count-n.ensures.0)
 
 pub returns-clause-tried : goal.returns-clause-tried
 returns-clause-tried c = let a = c.args in let un = c.unions.new.united in let k = c.keep_sets.new in let f = c.fill_from-tried in

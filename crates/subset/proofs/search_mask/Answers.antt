@@ -4,8 +4,8 @@ use Rattle.masks.specs.Tables.{work_at}
 use Rattle.subset.specs.Walk.{best_at}
 use lib.Bits.{bit_and, and_le_l}
 use native.Mathlib.Omega.{arith}
-use Prim.Native.Nat.{ℕ, ◌-◌, ◌<◌, ◌+◌}
-use mathlib.Core.Path.{sym, ap, ◌∙◌, subst, ◌≡◌}
+use Prim.Native.Nat.{ℕ, ◌-◌}
+use mathlib.Core.Path.{sym, ap, ◌∙◌}
 use lib.ListN.{length}
 use Rattle.subset.proofs.search_mask.Goals as goal
 use Rattle.subset.proofs.search_mask.Goals.{then-s-len+else-is_over, else-s-len}

@@ -1,5 +1,4 @@
 use Rattle.subset.specs.Considers.{work_left, work_right, not_below, step_none, step_some, small_power}
-use Rattle.masks.specs.Tables.{work_at}
 use Rattle.subset.specs.Walk.{step_cost}
 use Rattle.bits.specs.Bit.{one_shl}
 use native.Mathlib.Omega.{arith}

@@ -1,8 +1,6 @@
 use lib.Dec.{eqb}
 use Rattle.network.specs.Searches.{NoneBefore}
-use mathlib.Core.Path.{◌≡◌}
-use lib.ListN.{length}
 use Rattle.reconfigure.proofs.dangling.any_one.Given as goal
 
-abbrev pub invariant-loop-j : goal.invariant-loop-j
-invariant-loop-j l = (l.j-end ≡ length l.tally) × NoneBefore (λ x. eqb x 1) l.tally l.j
+abbrev pub invariant-loop-x : goal.invariant-loop-x
+invariant-loop-x l = NoneBefore (λ x. eqb x 1) l.tally l.x-index

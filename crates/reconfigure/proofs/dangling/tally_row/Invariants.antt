@@ -1,8 +1,7 @@
 use lib.ListN.{drop, length}
 use Rattle.reconfigure.specs.Tally.{tallied}
-use Prim.Native.Nat.{◌≤◌}
 use mathlib.Core.Path.{◌≡◌}
 use Rattle.reconfigure.proofs.dangling.tally_row.Given as goal
 
-abbrev pub invariant-loop-k : goal.invariant-loop-k
-invariant-loop-k l = (l.k-end ≡ length l.row) × (l.k ≤ l.k-end) × (length l.tally ≡ length l.initial.tally) × (tallied l.tally (drop l.k l.row) ≡ tallied l.initial.tally l.row)
+abbrev pub invariant-loop-j : goal.invariant-loop-j
+invariant-loop-j l = (length l.tally ≡ length l.initial.tally) × (tallied l.tally (drop l.j-index l.row) ≡ tallied l.initial.tally l.row)
