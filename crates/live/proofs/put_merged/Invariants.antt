@@ -1,7 +1,0 @@
-use Rattle.live.specs.Merged.{written_to}
-use Prim.Native.Nat.{◌≤◌}
-use mathlib.Core.Path.{◌≡◌}
-use Rattle.live.proofs.put_merged.Given as goal
-
-abbrev pub invariant-loop-k : goal.invariant-loop-k
-invariant-loop-k l = (l.k ≤ l.w) × (l.ws ≡ written_to l.initial.ws l.w l.x l.y l.z l.k)

@@ -1,0 +1,63 @@
+#![tactic(auto)]
+//! Greedy's tables in one value: the sets by slot in lent words, and beside them typed local lists. What its crates share: what is known of a
+//! table's least pair, and the order of pairs.
+
+use arrayvec::ArrayVec;
+
+pub mod scoring;
+
+/// How many words a set has: one slot of the lent words.
+pub const WIDTH: usize = 4;
+
+/// The slot of the indices that stay whatever is merged: the outputs, and what is named by leaves that are not planned.
+pub const OUTSIDE: usize = 256;
+
+/// The slot of what two live tables or more hold.
+pub const TWICE: usize = 257;
+
+/// The slot of what three live tables or more hold.
+pub const THRICE: usize = 258;
+
+/// How many words the sets take: 259 slots, and one to spare.
+pub const WORDS: usize = 1040;
+
+/// What is known of a table's least pair with the live tables before it.
+#[derive(Clone, Copy, Debug, PartialEq, Eq)]
+pub enum Row {
+    /// It is yet to be found.
+    Stale,
+    /// The table is gone.
+    Gone,
+    /// The table shares no index with one before it.
+    Alone,
+    /// A table of such a pair, or its merged table, has over 40 bits.
+    TooWide,
+    /// The slot of the other table, and the size bits of the table that a merge makes.
+    With { other: u8, bits: u8 },
+}
+
+/// A pair's place in greedy's order, which is the derived one: the least score first, then the lower first slot, then the lower second.
+#[derive(Clone, Copy, Debug, PartialEq, Eq, PartialOrd, Ord)]
+pub struct Score {
+    /// 2^merged - 2^left - 2^right, raised by 2^41 so that it is never below 0
+    pub raised: u64,
+    /// the slot of the table that goes on the left
+    pub first: u8,
+    /// the slot of the table that goes on the right
+    pub second: u8,
+}
+
+/// Greedy's lists: all by slot but the list of live slots. A table keeps its slot, and each new table takes the next one.
+#[derive(Drop)]
+pub struct Tables<'a> {
+    /// the sets in lent words, of `WIDTH` words each
+    pub sets: &'a mut [u64],
+    /// the numbers of the tables' nodes
+    pub nodes: [u16; 256],
+    /// the size bits of the tables
+    pub sizes: [u16; 256],
+    /// the slots of the live tables, rising
+    pub live: ArrayVec<u8, 256>,
+    /// the least pairs
+    pub rows: [Row; 256],
+}
