@@ -1,0 +1,7 @@
+use Rattle.live.specs.Merged.{written_to}
+use Prim.Native.Nat.{◌≤◌}
+use mathlib.Core.Path.{◌≡◌}
+use Rattle.live.proofs.put_merged.Given as goal
+
+abbrev pub invariant-loop-k : goal.invariant-loop-k
+invariant-loop-k l = (l.k ≤ 4) × (l.sets ≡ written_to l.initial.sets 4 l.x l.y l.z l.k)

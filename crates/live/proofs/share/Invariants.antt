@@ -1,0 +1,8 @@
+use mathlib.Core.List.{[]}
+use Rattle.live.specs.Common.{both}
+use Prim.Native.Nat.{◌*◌, ◌≤◌}
+use mathlib.Core.Path.{◌≡◌}
+use Rattle.live.proofs.share.Given as goal
+
+abbrev pub invariant-loop-k : goal.invariant-loop-k
+invariant-loop-k l = (l.k ≤ 4) × (both l.sets 4 l.x l.y (l.k * 64) ≡ [])
