@@ -1,10 +1,12 @@
 -- Greedy's five lists, whatever keeps them. Assumes nothing.
-use Rattle.std.specs.Prelude.{◌≡◌, Bool, List, [], ◌∷◌, ℕ, zero, suc, map, not, ◌&&◌, cond, eqb, ◌+◌, ◌*◌, ◌/◌, ◌%◌, ◌≤◌, ◌<◌, length, get_or, set}
+use Rattle.std.specs.Prelude.{◌≡◌, Bool, List, [], ◌∷◌, ℕ, zero, suc, map, not, ◌&&◌, cond, eqb, ◌+◌, ◌*◌, ◌/◌, ◌%◌, ◌≤◌, ◌<◌, length, get_or, set, Option, None, Some, Result, Ok, Err}
 use Rattle.std.proofs.Common.{refl, ap, arith}
 use Rattle.std.proofs.lemmas.List.{length-map}
 use Rattle.spec.specs.Lists.{keep}
 use Rattle.tables.specs.declared.Row.{Row}
-use Rattle.tables.specs.declared.Row.TheVariants.{Stale, Gone, Alone, TooWide, With}
+use Rattle.tables.specs.declared.Row.TheVariants.{Stale, Gone, TooWide, Found}
+use Rattle.tables.specs.declared.partner.Partner.{Partner}
+use Rattle.spec.specs.declared.Refusal.{Refusal}
 use Rattle.tables.specs.declared.Tables.{Tables}
 
 -- the lists: sets by slot, node numbers and size bits by slot, the live slots, and the least pairs by slot
@@ -18,14 +20,22 @@ pub record Lists : Type 0 where
 abbrev pub lists_of : List ℕ → List ℕ → List ℕ → List ℕ → List ℕ → Lists
 lists_of words nodes sizes live rows = record { words = words; nodes = nodes; sizes = sizes; live = live; rows = rows }
 
--- A row as a number: 256 where the table has no pair with one before it, 257 where such a pair is too wide, 258 where it is yet to be
--- found, 259 for a table that is gone, and else 512 times the merged size bits and the other slot.
+-- A pair that is looked for as a number: 256 where there is none, and else 512 times the merged size bits and the other slot.
+abbrev pub pair_code : Option Partner → ℕ
+pair_code None = 256
+pair_code (Some p) = p.bits * 512 + p.other
+
+-- the same, or 257 where a pair is too wide
+abbrev pub least_code : Result (Option Partner) Refusal → ℕ
+least_code (Err r) = 257
+least_code (Ok p) = pair_code p
+
+-- a row as a number: 258 where it is yet to be found, 259 for a table that is gone
 abbrev pub code : Row → ℕ
 code Stale = 258
 code Gone = 259
-code Alone = 256
 code TooWide = 257
-code (With x m) = m * 512 + x
+code (Found p) = pair_code p
 
 -- the rows as numbers
 unfoldable pub coded : List Row → List ℕ
@@ -68,3 +78,18 @@ with_rows M y = lists_of M.words M.nodes M.sizes M.live y
 -- the same words are lent, whatever they hold
 abbrev pub IsSameLoan : Tables → Tables → Type 0
 IsSameLoan old new = new.sets.ghost_name ≡ old.sets.ghost_name
+
+-- a pair's number, and back
+pub pair_slot : (p : Partner) → (p.bits * 512 + p.other) % 512 ≡ p.other
+pair_slot p = omega (arith, p.slot)
+
+pub pair_size : (p : Partner) → (p.bits * 512 + p.other) / 512 ≡ p.bits
+pair_size p = omega (arith, p.slot)
+
+-- a pair is none of the other numbers
+pub pair_apart : (p : Partner) (k : ℕ) → k < 256 → p.bits * 512 + p.other ≡ 256 + k → ⊥
+pair_apart p k h e = omega (arith, p.slot)
+
+pub not_wide : (b : Option Partner) → pair_code b ≡ 257 → ⊥
+not_wide None e = omega arith
+not_wide (Some p) e = pair_apart p 1 (omega arith) e

@@ -2,8 +2,14 @@
 //! Greedy's tables in one value: the sets by slot in lent words, and beside them typed local lists. What its crates share: what is known of a
 //! table's least pair, and the order of pairs.
 
-use arrayvec::ArrayVec;
+ghost use Rattle.std.specs.Prelude.{◌≡◌};
+ghost use Rattle.spec.specs.Greedy.{Key, key_before};
+ghost use Rattle.tables.specs.Scores.{Scores};
 
+use arrayvec::ArrayVec;
+use partner::Partner;
+
+pub mod partner;
 pub mod scoring;
 
 /// How many words a set has: one slot of the lent words.
@@ -28,12 +34,10 @@ pub enum Row {
     Stale,
     /// The table is gone.
     Gone,
-    /// The table shares no index with one before it.
-    Alone,
     /// A table of such a pair, or its merged table, has over 40 bits.
     TooWide,
-    /// The slot of the other table, and the size bits of the table that a merge makes.
-    With { other: u8, bits: u8 },
+    /// The other table of the pair; none where the table shares no index with one before it.
+    Found(Option<Partner>),
 }
 
 /// A pair's place in greedy's order, which is the derived one: the least score first, then the lower first slot, then the lower second.
@@ -45,6 +49,16 @@ pub struct Score {
     pub first: u8,
     /// the slot of the table that goes on the right
     pub second: u8,
+}
+
+impl Score {
+    /// Does the pair come before the other.
+    #[inline]
+    pub fn is_before(self, other: Score) -> bool
+        ensures { (k h : Key) → Scores k self → Scores h other → result ≡ key_before k h }
+    {
+        self < other
+    }
 }
 
 /// Greedy's lists: all by slot but the list of live slots. A table keeps its slot, and each new table takes the next one.
