@@ -9,7 +9,8 @@ ghost use Rattle.live.specs.Common.{shares};
 ghost use Rattle.live.specs.Holders.{count_word, with_holders};
 ghost use Rattle.live.specs.Merged.{merged_set, pair_bits, word_at};
 
-use tables::{OUTSIDE, THRICE, TWICE, Tables, WIDTH};
+use tables::slotted::Tables;
+use tables::{OUTSIDE, THRICE, TWICE, WIDTH};
 
 /// Word `k` of slot `s`.
 #[inline]

@@ -8,7 +8,8 @@ ghost use Rattle.scores.specs.Scores.{power, first_of, second_of, key_at, over_f
 use spec::Refusal;
 use tables::partner::Partner;
 use tables::scoring::Scoring;
-use tables::{Score, Tables};
+use tables::Score;
+use tables::slotted::Tables;
 
 /// 2 to the power `bits`, and 0 above 40.
 fn exp2(bits: usize) -> u64

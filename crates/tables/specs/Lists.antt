@@ -7,7 +7,7 @@ use Rattle.tables.specs.declared.Row.{Row}
 use Rattle.tables.specs.declared.Row.TheVariants.{Stale, Gone, TooWide, Found}
 use Rattle.tables.specs.declared.partner.Partner.{Partner}
 use Rattle.spec.specs.declared.Refusal.{Refusal}
-use Rattle.tables.specs.declared.Tables.{Tables}
+use Rattle.tables.specs.declared.slotted.Tables.{Tables}
 
 -- the lists: sets by slot, node numbers and size bits by slot, the live slots, and the least pairs by slot
 pub record Lists : Type 0 where

@@ -6,11 +6,11 @@ ghost use Rattle.std.specs.Prelude.{◌≡◌};
 ghost use Rattle.spec.specs.Greedy.{Key, key_before};
 ghost use Rattle.tables.specs.Scores.{Scores};
 
-use arrayvec::ArrayVec;
 use partner::Partner;
 
 pub mod partner;
 pub mod scoring;
+pub mod slotted;
 
 /// How many words a set has: one slot of the lent words.
 pub const WIDTH: usize = 4;
@@ -59,19 +59,4 @@ impl Score {
     {
         self < other
     }
-}
-
-/// Greedy's lists: all by slot but the list of live slots. A table keeps its slot, and each new table takes the next one.
-#[derive(Drop)]
-pub struct Tables<'a> {
-    /// the sets in lent words, of `WIDTH` words each
-    pub sets: &'a mut [u64],
-    /// the numbers of the tables' nodes
-    pub nodes: [u16; 256],
-    /// the size bits of the tables
-    pub sizes: [u16; 256],
-    /// the slots of the live tables, rising
-    pub live: ArrayVec<u8, 256>,
-    /// the least pairs
-    pub rows: [Row; 256],
 }
