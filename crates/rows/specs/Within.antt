@@ -10,7 +10,7 @@ use Rattle.cells.specs.Loop.{turns, turns_more}
 use Rattle.tables.specs.declared.partner.Choice.{Choice}
 use Rattle.tables.specs.declared.partner.Partner.{Partner}
 use Rattle.tables.specs.declared.Row.{Row}
-use Rattle.tables.specs.declared.Row.TheVariants.{Found}
+use Rattle.tables.specs.declared.Row.TheVariants.{Stale, Gone, TooWide, Found}
 use Rattle.tables.specs.Lists.{Lists, with_rows, code, coded, coded_at, coded_length, pair_code, pair_slot, pair_size, pair_apart}
 use Rattle.rows.specs.Rows.{stands, renewed, renewed_all, pairless, some_pair, entry_key, bettered, better_over, better_none, better_first, better_sooner, better_later}
 use Rattle.laws.specs.Booleans.{by_cases}
@@ -91,10 +91,13 @@ module _ (rows : List Row) (slots : length rows ≡ 256) where
       ∙ ap (λ (c : Bool). not c && not (eqb (get_or (coded rows) ((p.bits * 512 + p.other) % 512) 0) 259)) (sym b)
       ∙ ap (λ (x : Row). stands (coded rows) (code x)) (sym er)
 
--- a row that names a pair is none of a table that is gone
-pub found_lives : (b : Option Partner) → false ≡ eqb (pair_code b) 259
-found_lives None = refl
-found_lives (Some p) = sym (ne_eqb (p.bits * 512 + p.other) 259 (λ e. pair_apart p 3 (omega arith) e))
+-- a row that is no table's that is gone
+pub lives : (r : Row) → (r ≡ Gone → ⊥) → false ≡ eqb (code r) 259
+lives Gone n = absurd (n refl)
+lives Stale n = refl
+lives TooWide n = refl
+lives (Found None) n = refl
+lives (Found (Some p)) n = sym (ne_eqb (p.bits * 512 + p.other) 259 (λ e. pair_apart p 3 (omega arith) e))
 
 -- ---- the least pair so far and one more ----
 

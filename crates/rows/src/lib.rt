@@ -1,6 +1,7 @@
 #![tactic(auto)]
 //! The least pair of each live table with those before it, kept from turn to turn by slot, and the least of all.
-ghost use Rattle.std.specs.Prelude.{◌≡◌, ◌<◌, eqb, length};
+ghost use Rattle.std.specs.Prelude.{◌≡◌, ◌<◌, eqb, length, IfErr};
+ghost use Rattle.spec.specs.declared.Refusal.TheVariants.{TableTooWide};
 ghost use Rattle.tables.specs.Lists.{code, least_code, coded, lists_in, IsSameLoan};
 ghost use Rattle.rows.specs.Rows.{stands, bettered, least_of};
 ghost use Rattle.rows.specs.Within.{choice_code, chosen_code, Named, NamedIn, sooner_of, renewed_in, all_renewed};
@@ -15,12 +16,7 @@ use tables::slotted::Tables;
 fn is_gone(row: Row) -> bool
     ensures { result ≡ eqb (code row) 259 }
 {
-    match row {
-        Row::Gone => true,
-        Row::Stale => false,
-        Row::TooWide => false,
-        Row::Found(_) => false,
-    }
+    matches!(row, Row::Gone)
 }
 
 /// Does a row stand: it was found, and its other table is not gone.
@@ -96,6 +92,7 @@ fn better(
 ) -> Result<Option<Choice>, Refusal>
     ensures least { Named (coded tables.now.rows) best → chosen_code result ≡ bettered tables.now.sizes scoring.now.start (coded tables.now.rows) (choice_code best) y }
     ensures named { Named (coded tables.now.rows) best → NamedIn (coded tables.now.rows) result }
+    ensures why { IfErr result (λ r. r ≡ TableTooWide) }
 {
     let row = tables.rows[usize::from(y)];
     match row {
@@ -114,6 +111,7 @@ fn better(
 pub fn least(tables: &Tables, scoring: &Scoring) -> Result<Option<Choice>, Refusal>
     ensures least { chosen_code result ≡ least_of tables.now.sizes scoring.now.start (coded tables.now.rows) tables.now.live.items (length tables.now.live.items) }
     ensures named { NamedIn (coded tables.now.rows) result }
+    ensures why { IfErr result (λ r. r ≡ TableTooWide) }
 {
     let mut best = None;
     for &y in tables.live.as_slice() {
