@@ -7,7 +7,7 @@ use Rattle.std.proofs.Math.ListN.{length, get_or}
 use Rattle.std.proofs.lemmas.List.{length-map}
 use Rattle.spec.specs.Lists.{memb, count, from, range}
 use Rattle.spec.specs.Members.{All}
-use Rattle.spec.specs.Memory.{filled, over}
+use Rattle.spec.specs.Memory.{over}
 use Rattle.spec.specs.Network.{Network, leaf_count, index_count}
 use Rattle.spec.specs.NetworkClaims.{Accepted}
 use Rattle.spec.specs.Tree.{Tree, leaf, Pair, flat_of, Describes}
@@ -17,7 +17,6 @@ use Rattle.laws.specs.Booleans.{by_cases, clash, or_intror}
 use Rattle.laws.specs.ListLaws.{memb_head, memb_one, memb-range, from_memb, count_not_memb, range_length, memb_at}
 use Rattle.laws.specs.GreedyForest.{Forest, Topped, fresh, leaves_count, leaves_flat}
 use Rattle.laws.specs.GreedyMerging.{Sound, trees-slots, start_sound}
-use Rattle.cells.specs.Cells.{filled_length, filled_at}
 use Rattle.slots.specs.Slots.{held, with_set_length, held_with, next_slot}
 use Rattle.slots.specs.Writes.{among, memb-firsts}
 use Rattle.slots.specs.Weigh.{weighed, either}
@@ -28,7 +27,7 @@ use Rattle.merging.specs.Ruled.{outer}
 use Rattle.tables.specs.Lists.{lists_of}
 use Rattle.merging.specs.Holds.{Given, Ghost}
 use Rattle.merging.specs.Connect.{Start}
-use Rattle.start.specs.Leaves.{start_words, with_leaves, leaves_length, leaves_held, leaves_other, with_inside, outside_set, with_outside, with_sizes, put_all, put_length, put_at}
+use Rattle.start.specs.Leaves.{start_words, with_leaves, leaves_length, leaves_held, leaves_other, with_inside, outside_set, with_outside, with_sizes, put_length, put_at}
 use Rattle.greedynodes.specs.Lends.{Lends, leaf_size, others-named}
 
 -- ---- lists ----

@@ -1,12 +1,11 @@
 -- The children of new nodes, copied from the words to the array of the caller. Assumes nothing.
 use Rattle.std.specs.Prelude.{◌≡◌, List, [], ◌∷◌, ◌++◌, length, get_or, set, replicate, Result, Err, Ok}
 use Rattle.std.proofs.Math.Path.{refl}
-use Rattle.std.proofs.Common.{sym, ◌∙◌, ap, subst, arith, length-append, ext_get_or, get_or-set_same, get_or-append-add}
+use Rattle.std.proofs.Common.{sym, ◌∙◌, ap, arith, length-append, ext_get_or, get_or-set_same, get_or-append-add}
 use Prim.Native.Nat.{ℕ, zero, suc, ◌+◌, ◌-◌, ◌*◌, ◌≤◌, ◌<◌}
 use Rattle.std.proofs.Math.Decide.{ℕ_discrete, dec_le}
 use Rattle.std.proofs.Math.ListN.{length-set, length-replicate}
 use Rattle.std.proofs.Math.Seq.{get_or-set_other}
-use Rattle.spec.specs.Lists.{memb, count}
 use Rattle.spec.specs.Memory.{over}
 use Rattle.spec.specs.Network.{Network}
 use Rattle.spec.specs.Tree.{Pair, flat_of}

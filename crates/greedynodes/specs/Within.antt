@@ -1,10 +1,9 @@
 -- From the prepared lists to greedy's answer over a list of leaves. Assumes nothing.
-use Rattle.std.specs.Prelude.{◌≡◌, refl, List, [], ◌∷◌, ◌++◌, ℕ, zero, suc, ◌+◌, ◌*◌, ◌≤◌, ◌<◌, length, get_or, drop, replicate, Result, Err, Ok}
-use Rattle.std.proofs.Common.{sym, ◌∙◌, ap, subst, arith, length-append, length-drop}
+use Rattle.std.specs.Prelude.{◌≡◌, refl, List, [], ◌∷◌, ◌++◌, ℕ, zero, suc, ◌+◌, ◌<◌, length, get_or, drop, replicate, Result, Err, Ok}
+use Rattle.std.proofs.Common.{◌∙◌, ap, subst, arith, length-append, length-drop}
 use Rattle.std.proofs.Math.ListN.{length-replicate}
 use Rattle.spec.specs.declared.Refusal.{Refusal}
 use Rattle.spec.specs.Lists.{range}
-use Rattle.spec.specs.Memory.{over}
 use Rattle.spec.specs.Network.{Network}
 use Rattle.spec.specs.Tree.{Tree, Pair, flat_of}
 use Rattle.tables.specs.declared.Row.{Row}

@@ -5,7 +5,6 @@ use Rattle.std.proofs.Common.{refl, sym, ◌∙◌, ap, ap₂, subst, arith, len
 use Rattle.std.proofs.Math.Decide.{ℕ_discrete}
 use Rattle.std.proofs.lemmas.Bool.{eqb-false, not-true}
 use Rattle.spec.specs.Lists.{memb, anyb}
-use Rattle.spec.specs.Memory.{over}
 use Rattle.spec.specs.Network.{Network, leaf_count, named}
 use Rattle.spec.specs.Tree.{Tree, number, below, Pair}
 use Rattle.spec.specs.Price.{lists}
@@ -16,7 +15,6 @@ use Rattle.laws.specs.ListLaws.{memb-append}
 use Rattle.laws.specs.GreedyMerging.{Sound, connect_sound}
 use Rattle.laws.specs.GreedyLists.{merged_size_lem}
 use Rattle.laws.specs.GreedySlots.{entry, pair_at, tree_after}
-use Rattle.cells.specs.Cells.{over_length, over_at}
 use Rattle.slots.specs.Slots.{held, with_set, with_set_length, held_with, held_with_other, next_slot}
 use Rattle.live.specs.Holders.{holders_length}
 use Rattle.live.specs.Merged.{merged_set}

@@ -1,6 +1,6 @@
 -- Greedy's merging over the lent lists: from a state that they hold, turn after turn, to the state in which merging ends, or to its
 -- refusal. Assumes nothing.
-use Rattle.std.specs.Prelude.{true, ◌≡◌, refl, List, [], ◌∷◌, ◌++◌, ℕ, suc, ◌+◌, ◌-◌, ◌/◌, ◌%◌, ◌≤◌, ◌<◌, length, get_or, set, Result, Err, Ok}
+use Rattle.std.specs.Prelude.{true, ◌≡◌, refl, List, [], ◌∷◌, ◌++◌, ℕ, suc, ◌+◌, ◌-◌, ◌/◌, ◌%◌, ◌<◌, length, get_or, set, Result, Err, Ok}
 use Rattle.std.proofs.Common.{sym, ◌∙◌, ap, ap₂, subst, arith, add-one, length-append}
 use Rattle.spec.specs.Lists.{memb}
 use Rattle.spec.specs.Memory.{over}

@@ -1,5 +1,5 @@
 -- What a merge writes into the lent lists. Assumes nothing.
-use Rattle.std.specs.Prelude.{◌≡◌, List, [], ◌∷◌, ◌++◌, ℕ, ◌+◌, ◌*◌, ◌/◌, ◌%◌, ◌<◌, ltb, length, get_or, set}
+use Rattle.std.specs.Prelude.{◌≡◌, List, [], ◌∷◌, ◌++◌, ℕ, ◌+◌, ◌*◌, ◌%◌, ◌<◌, ltb, length, get_or, set}
 use Rattle.laws.specs.Booleans.{by_cases}
 use Rattle.slots.specs.Slots.{with_set}
 use Rattle.tables.specs.declared.partner.Choice.{Choice}

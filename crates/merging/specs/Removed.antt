@@ -1,14 +1,10 @@
 -- The array as a flat list with one node more. Assumes nothing.
-use Rattle.std.specs.Prelude.{Bool, cond, ◌≡◌, refl, List, [], ◌∷◌, ◌++◌, ℕ, ◌+◌, ◌*◌, ◌≤◌, ◌<◌, length, get_or, set, take, eqb}
-use Rattle.std.proofs.Common.{sym, ◌∙◌, ap, ap₂, append-nil, arith, add-one, length-append, take-suc, length-take-le, eq-eqb, ne_eqb}
-use Rattle.spec.specs.Lists.{keep}
+use Rattle.std.specs.Prelude.{◌≡◌, refl, List, [], ◌∷◌, ◌++◌, ℕ, ◌+◌, ◌*◌, length, set}
+use Rattle.std.proofs.Common.{sym, ◌∙◌, ap, ap₂, arith, length-append}
 use Rattle.spec.specs.Memory.{over}
 use Rattle.spec.specs.Tree.{Tree, number, Pair, flat_of}
 use Rattle.spec.specs.Greedy.{plus}
-use Rattle.laws.specs.Booleans.{by_cases}
-use Rattle.laws.specs.ListLaws.{keep_length}
-use Rattle.cells.specs.Cells.{over_past, over_snoc, over-nil}
-use Rattle.merging.specs.Listed.{other, remaining}
+use Rattle.cells.specs.Cells.{over_snoc}
 
 -- ---- one node more ----
 

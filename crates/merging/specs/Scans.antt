@@ -1,5 +1,5 @@
 -- A turn of greedy's merging, from the lists that the scan and the merge leave. Assumes nothing.
-use Rattle.std.specs.Prelude.{◌≡◌, refl, List, [], ◌∷◌, ◌++◌, ℕ, suc, ◌+◌, ◌-◌, ◌*◌, ◌/◌, ◌%◌, ◌≤◌, ◌<◌, length, get_or, set, Option, None, Some, Result, Err, Ok}
+use Rattle.std.specs.Prelude.{◌≡◌, refl, List, [], ◌∷◌, ◌++◌, ℕ, ◌+◌, ◌*◌, ◌/◌, ◌%◌, ◌<◌, length, get_or, set, Option, None, Some, Result, Err, Ok}
 use Rattle.std.proofs.Common.{sym, ◌∙◌, ap, ap₂, subst, zero-add, suc-add, arith}
 use Rattle.spec.specs.declared.Refusal.{Refusal}
 use Rattle.spec.specs.declared.Refusal.TheVariants.{TableTooWide}
@@ -10,9 +10,8 @@ use Rattle.slots.specs.Slots.{with_set}
 use Rattle.live.specs.Merged.{merged_set}
 use Rattle.scores.specs.Scores.{first_of, second_of}
 use Rattle.rows.specs.Rows.{least_of}
-use Rattle.rows.specs.Within.{chosen_code, choice_code, Named}
+use Rattle.rows.specs.Within.{chosen_code, Named}
 use Rattle.merging.specs.Listed.{remaining}
-use Rattle.merging.specs.Removed.{flat_length}
 use Rattle.merging.specs.Merge.{first_at, second_at, marked, with_node, scanned_in, first_chosen, second_chosen, merged_in}
 use Rattle.merging.specs.Holds.{Given, Ghost}
 use Rattle.merging.specs.Connect.{Start, Reached, Connected, turn_ends, turn_refused, turn_merges}

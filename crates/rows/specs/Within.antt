@@ -11,7 +11,7 @@ use Rattle.tables.specs.declared.partner.Choice.{Choice}
 use Rattle.tables.specs.declared.partner.Partner.{Partner}
 use Rattle.tables.specs.declared.Row.{Row}
 use Rattle.tables.specs.declared.Row.TheVariants.{Stale, Gone, TooWide, Found}
-use Rattle.tables.specs.Lists.{Lists, with_rows, code, coded, coded_at, coded_length, pair_code, pair_slot, pair_size, pair_apart}
+use Rattle.tables.specs.Lists.{Lists, with_rows, code, coded, coded_at, coded_length, pair_slot, pair_size, pair_apart}
 use Rattle.rows.specs.Rows.{stands, renewed, renewed_all, pairless, some_pair, entry_key, bettered, better_over, better_none, better_first, better_sooner, better_later}
 use Rattle.laws.specs.Booleans.{by_cases}
 

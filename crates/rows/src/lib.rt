@@ -7,9 +7,9 @@ ghost use Rattle.rows.specs.Rows.{stands, bettered, least_of};
 ghost use Rattle.rows.specs.Within.{choice_code, chosen_code, Named, NamedIn, sooner_of, renewed_in, all_renewed};
 
 use spec::Refusal;
+use tables::Row;
 use tables::partner::{Choice, Partner};
 use tables::scoring::Scoring;
-use tables::Row;
 use tables::slotted::Tables;
 
 /// Is the table of a row gone.

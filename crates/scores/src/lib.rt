@@ -6,9 +6,9 @@ ghost use Rattle.tables.specs.Scores.{Scores};
 ghost use Rattle.scores.specs.Scores.{power, first_of, second_of, key_at, over_forty, lesser_of, considered, row_of};
 
 use spec::Refusal;
+use tables::Score;
 use tables::partner::Partner;
 use tables::scoring::Scoring;
-use tables::Score;
 use tables::slotted::Tables;
 
 /// 2 to the power `bits`, and 0 above 40.

@@ -100,7 +100,6 @@ pub fn count_up(list: &mut [u16], n: usize)
     }
 }
 
-
 /// The slots of `count` tables, all of them live.
 pub fn live_slots(count: usize) -> ArrayVec<u8, 256>
     requires { count ≤ 256 }

@@ -1,8 +1,7 @@
 -- Greedy's five lists, whatever keeps them. Assumes nothing.
-use Rattle.std.specs.Prelude.{◌≡◌, Bool, List, [], ◌∷◌, ℕ, zero, suc, map, not, ◌&&◌, cond, eqb, ◌+◌, ◌*◌, ◌/◌, ◌%◌, ◌≤◌, ◌<◌, length, get_or, set, Option, None, Some, Result, Ok, Err}
+use Rattle.std.specs.Prelude.{◌≡◌, List, [], ◌∷◌, ℕ, zero, suc, map, ◌+◌, ◌*◌, ◌/◌, ◌%◌, ◌<◌, length, get_or, set, Option, None, Some, Result, Ok, Err}
 use Rattle.std.proofs.Common.{refl, ap, arith}
 use Rattle.std.proofs.lemmas.List.{length-map}
-use Rattle.spec.specs.Lists.{keep}
 use Rattle.tables.specs.declared.Row.{Row}
 use Rattle.tables.specs.declared.Row.TheVariants.{Stale, Gone, TooWide, Found}
 use Rattle.tables.specs.declared.partner.Partner.{Partner}

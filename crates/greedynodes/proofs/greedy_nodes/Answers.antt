@@ -1,9 +1,6 @@
-use Rattle.std.proofs.Common.{rules, Err, Ok}
 use Rattle.greedynodes.specs.Begin.{fits_room}
-use Rattle.greedynodes.specs.Ends.{Planned, Greedied, by_number, number_in}
-use native.Mathlib.Omega.{arith}
-use Prim.Native.Nat.{ℕ}
-use mathlib.Core.Path.{◌≡◌, refl, sym, ap, ◌∙◌, subst}
+use Rattle.greedynodes.specs.Ends.{Greedied, by_number, number_in}
+use mathlib.Core.Path.{ap, subst}
 use Rattle.greedynodes.proofs.greedy_nodes.Goals as goal
 
 pub plan_lists-requires : goal.plan_lists-requires

@@ -1,5 +1,4 @@
 use Rattle.std.proofs.Common.{rules, Err, Ok, replicate, drop}
-use Rattle.spec.specs.declared.Refusal.{Refusal}
 use Rattle.spec.specs.Tree.{flat_of}
 use Rattle.laws.specs.ListLaws.{range_length}
 use Rattle.merging.specs.Removed.{flat_length}
@@ -9,7 +8,7 @@ use native.Mathlib.Omega.{arith}
 use Prim.Native.Nat.{ℕ}
 use mathlib.Core.List.{List, ◌++◌}
 use lib.ListN.{length}
-use mathlib.Core.Path.{◌≡◌, refl, sym, ap, ◌∙◌, subst}
+use mathlib.Core.Path.{◌≡◌, refl, sym, ap, subst}
 use Rattle.greedynodes.proofs.grow.Goals as goal
 
 pub returns-in_err-merges : goal.returns-in_err-merges

@@ -1,10 +1,9 @@
 use Rattle.std.proofs.Common.{rules, Err, Ok}
-use Rattle.spec.specs.Tree.{flat_of}
 use Rattle.greedynodes.specs.Ends.{Planned}
 use Rattle.greedynodes.specs.Copied.{asks_behind, copied_wide, copied_plan}
 use native.Mathlib.Omega.{arith}
 use Prim.Native.Nat.{◌*◌}
-use mathlib.Core.Path.{◌≡◌, refl, sym, ap, ◌∙◌, subst}
+use mathlib.Core.Path.{◌≡◌, refl, sym, subst}
 use Rattle.greedynodes.proofs.plan_lists.Goals as goal
 
 pub returns-in_err-top-clause-planned : goal.returns-in_err-top-clause-planned

@@ -13,7 +13,7 @@ loop-k-preserved c = let d = c.args in
     let h = c.count_holders-held in (
       omega arith,
       side_next d.sets.now 4 d.live.now (length d.live.now) l.k h.result.two h.result.three c.word-staying.result l.sets _ _ (omega arith) l.invariant.1
-      h.ensures.two h.ensures.three c.word-staying.ensures (omega arith) refl c.put_words.ensures,
+          h.ensures.two h.ensures.three c.word-staying.ensures (omega arith) refl c.put_words.ensures,
     )
 
 pub returns : goal.returns

@@ -1,11 +1,11 @@
 use Rattle.slots.specs.Slots.{with_set}
 use Rattle.live.specs.Merged.{merged_set}
-use Rattle.tables.specs.Lists.{coded, lists_in}
+use Rattle.tables.specs.Lists.{lists_in}
 use Rattle.merging.specs.Listed.{remaining}
-use Rattle.merging.specs.Merge.{first_chosen, second_chosen, marked, marked_coded, lists_merged}
+use Rattle.merging.specs.Merge.{first_chosen, second_chosen, marked_coded, lists_merged}
 use mathlib.Core.List.{List, [], ◌∷◌, ◌++◌}
 use Prim.Native.Nat.{ℕ}
-use mathlib.Core.Path.{◌≡◌, ap, ap₂, ◌∙◌}
+use mathlib.Core.Path.{ap, ap₂, ◌∙◌}
 use lib.ListN.{set}
 use Rattle.merging.proofs.merge.Goals as goal
 
