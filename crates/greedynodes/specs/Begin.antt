@@ -7,7 +7,7 @@ use Rattle.std.proofs.Math.ListN.{length, get_or}
 use Rattle.std.proofs.lemmas.List.{length-map}
 use Rattle.spec.specs.Lists.{memb, count, from, range}
 use Rattle.spec.specs.Members.{All}
-use Rattle.spec.specs.Memory.{filled, over}
+use Rattle.spec.specs.Memory.{over}
 use Rattle.spec.specs.Network.{Network, leaf_count, index_count}
 use Rattle.spec.specs.NetworkClaims.{Accepted}
 use Rattle.spec.specs.Tree.{Tree, leaf, Pair, flat_of, Describes}
@@ -17,7 +17,6 @@ use Rattle.laws.specs.Booleans.{by_cases, clash, or_intror}
 use Rattle.laws.specs.ListLaws.{memb_head, memb_one, memb-range, from_memb, count_not_memb, range_length, memb_at}
 use Rattle.laws.specs.GreedyForest.{Forest, Topped, fresh, leaves_count, leaves_flat}
 use Rattle.laws.specs.GreedyMerging.{Sound, trees-slots, start_sound}
-use Rattle.cells.specs.Cells.{filled_length, filled_at}
 use Rattle.slots.specs.Slots.{held, with_set_length, held_with, next_slot}
 use Rattle.slots.specs.Writes.{among, memb-firsts}
 use Rattle.slots.specs.Weigh.{weighed, either}
@@ -25,10 +24,10 @@ use Rattle.network.specs.Layouts.{firsts_all}
 use Rattle.rows.specs.Renewed.{Kept, stale}
 use Rattle.merging.specs.Listed.{listed, state_at}
 use Rattle.merging.specs.Ruled.{outer}
-use Rattle.parts.specs.Lists.{lists_of}
+use Rattle.tables.specs.Lists.{lists_of}
 use Rattle.merging.specs.Holds.{Given, Ghost}
 use Rattle.merging.specs.Connect.{Start}
-use Rattle.start.specs.Leaves.{start_words, with_leaves, leaves_length, leaves_held, leaves_other, with_inside, outside_set, with_outside, with_sizes, put_all, put_length, put_at}
+use Rattle.start.specs.Leaves.{start_words, with_leaves, leaves_length, leaves_held, leaves_other, with_inside, outside_set, with_outside, with_sizes, put_length, put_at}
 use Rattle.greedynodes.specs.Lends.{Lends, leaf_size, others-named}
 
 -- ---- lists ----
@@ -75,7 +74,16 @@ leaves_forest n a l low =
 
 -- ---- the start ----
 
--- what the code asks of the lengths
+-- what the code asks of the lengths: sets of four words
+pub record Room (n made : ℕ) (weights outputs leaves lent : List ℕ) : Type 0 where
+  pub indices : length weights ≤ 256
+  pub leaf_sets : n ≤ 256
+  pub few : length leaves ≤ 128
+  pub outputs_fit : length outputs ≤ 4294967296
+  pub words : 1036 ≤ length lent
+  pub array : made < 8192
+
+-- what an older function asks of them
 pub record Fits (w n made : ℕ) (weights outputs leaves ws : List ℕ) : Type 0 where
   pub width : w ≤ 4
   pub indices : length weights ≤ w * 64
@@ -84,6 +92,17 @@ pub record Fits (w n made : ℕ) (weights outputs leaves ws : List ℕ) : Type 0
   pub outputs_fit : length outputs ≤ 4294967296
   pub words : 2320 ≤ length ws
   pub array : made < 8192
+
+pub fits_room : (w n made : ℕ) (weights outputs leaves ws : List ℕ) → Fits w n made weights outputs leaves ws → Room n made weights outputs leaves ws
+fits_room w n made weights outputs leaves ws f =
+    record {
+      indices = omega (arith, f.width, f.indices);
+      leaf_sets = omega (arith, f.width, f.leaf_sets);
+      few = f.few;
+      outputs_fit = f.outputs_fit;
+      words = omega (arith, f.words);
+      array = f.array;
+    }
 
 -- what greedy over a list of leaves is given: the leaves are some of the network's, each once; the array so far has `made` nodes
 pub record Asks (N : Network) (a : List Pair) (n made : ℕ) (weights counts legs outputs leaves kids : List ℕ) : Type 0 where
@@ -168,9 +187,9 @@ module _ (N : Network) (a : List Pair) (W n made : ℕ) (weights counts cells ou
             ∙ sym (memb-firsts leaves 0 (length leaves) i) ∙ ap (memb i) (firsts_all leaves)
 
     -- the other lists
-    module _ (sizes₀ live₀ rows₀ : List ℕ) (bs : 256 ≤ length sizes₀) (bl : 256 ≤ length live₀) (br : 256 ≤ length rows₀)
+    module _ (sizes₀ : List ℕ) (bs : 256 ≤ length sizes₀)
         (nodes sizes live rows : List ℕ) (bn : 256 ≤ length nodes) (en : (u : ℕ) → u < tables → get_or nodes u 0 ≡ get_or leaves u 0) (es : sizes ≡ with_sizes words₂ W weights sizes₀ tables)
-        (el : live ≡ put_all (λ i. i) live₀ tables) (er : rows ≡ filled (length rows₀) 258)
+        (el : live ≡ range tables) (br : 256 ≤ length rows) (all_stale : (u : ℕ) → u < 256 → get_or rows u 0 ≡ 258)
       where
         size : (u : ℕ) → u < tables → get_or sizes u 0 ≡ size_of N (tree u)
         unfolding with_sizes
@@ -180,15 +199,12 @@ module _ (N : Network) (a : List Pair) (W n made : ℕ) (weights counts cells ou
             ∙ ap (λ (l : List ℕ). weighed l [] (either words₂ W u u) (W * 64)) asks.lends.weighed
             ∙ leaf_size N asks.accepted words₂ W u (get_or leaves u 0) index_fits (omega (arith, leaf_low u h, asks.lends.leaves)) (sets u h)
 
-        all_stale : (u : ℕ) → u < 256 → get_or rows u 0 ≡ 258
-        all_stale u h = ap (λ (l : List ℕ). get_or l u 0) er ∙ filled_at (length rows₀) u 258 0 (omega (arith, br))
-
         kept : Kept N tables tree (range tables) tables rows
         kept =
             record {
               found = λ u m. stale (all_stale u (omega (arith, from_memb u 0 tables m, few)));
               gone = λ u h m. clash (memb-range u tables h) m;
-              room = omega (arith, ap length er, filled_length {A = ℕ} (length rows₀) 258, br, few);
+              room = omega (arith, br, few);
             }
 
         sizes_long : 256 ≤ length sizes
@@ -208,16 +224,13 @@ module _ (N : Network) (a : List Pair) (W n made : ℕ) (weights counts cells ou
                     numbers = en;
                     outside = outside;
                     kept = kept;
-                    lived = λ i h.
-                        let b : i < tables = omega (arith, range_length 0 tables) in
-                        ap (λ (l : List ℕ). get_or l i 0) el ∙ put_at (λ i. i) live₀ tables i b (omega (arith, bl, few)) ∙ sym (range_at 0 tables i b ∙ omega arith);
+                    lived = el;
                     few = omega (arith, range_length 0 tables, few);
                     enough = omega (arith, room, long₁, leaves_length W counts cells leaves words₁ tables);
                     places = (
                       bn,
                       sizes_long,
-                      omega (arith, bl, ap length el, put_length (λ i. i) live₀ tables),
-                      omega (arith, br, ap length er, filled_length {A = ℕ} (length rows₀) 258),
+                      br,
                     );
                   };
               width = refl;
@@ -231,12 +244,12 @@ module _ (N : Network) (a : List Pair) (W n made : ℕ) (weights counts cells ou
             }
 
     -- the lists that the code prepares
-    pub prepared : (sizes₀ live₀ rows₀ : List ℕ) → 256 ≤ length sizes₀ → 256 ≤ length live₀ → 256 ≤ length rows₀
+    pub prepared : (sizes₀ : List ℕ) → 256 ≤ length sizes₀
         → (words nodes sizes live rows : List ℕ) → words ≡ start_words W n counts cells outputs leaves ws₀ → 256 ≤ length nodes
         → ((u : ℕ) → u < tables → get_or nodes u 0 ≡ get_or leaves u 0)
-        → sizes ≡ with_sizes words W weights sizes₀ tables → live ≡ put_all (λ i. i) live₀ tables → rows ≡ filled (length rows₀) 258
+        → sizes ≡ with_sizes words W weights sizes₀ tables → live ≡ range tables → 256 ≤ length rows → ((u : ℕ) → u < 256 → get_or rows u 0 ≡ 258)
         → Start given ghost (lists_of words nodes sizes live rows) W n tables made weights kids
     unfolding start_words
-    prepared sizes₀ live₀ rows₀ bs bl br words nodes sizes live rows ew bn en es el er =
+    prepared sizes₀ bs words nodes sizes live rows ew bn en es el br stale_all =
         subst (λ (l : List ℕ). Start given ghost (lists_of l nodes sizes live rows) W n tables made weights kids) (sym ew)
-        (begins sizes₀ live₀ rows₀ bs bl br nodes sizes live rows bn en (es ∙ ap (λ (l : List ℕ). with_sizes l W weights sizes₀ tables) ew) el er)
+        (begins sizes₀ bs nodes sizes live rows bn en (es ∙ ap (λ (l : List ℕ). with_sizes l W weights sizes₀ tables) ew) el br stale_all)

@@ -1,12 +1,13 @@
 -- From the merging and the rest to greedy's answer. Assumes nothing.
-use Rattle.std.specs.Prelude.{◌≡◌, refl, List, [], ◌∷◌, ℕ, ◌+◌, ◌-◌, ◌*◌, ◌≤◌, ◌<◌, length, Err, Ok}
-use Rattle.std.proofs.Common.{sym, ◌∙◌, ap, arith}
+use Rattle.std.specs.Prelude.{◌≡◌, refl, List, [], ◌∷◌, ℕ, ◌+◌, ◌-◌, ◌*◌, ◌≤◌, ◌<◌, length, Result, Err, Ok}
+use Rattle.std.proofs.Common.{sym, ◌∙◌, ap, subst, arith}
 use Rattle.std.proofs.Math.Path.{ap₂}
 use Rattle.std.proofs.Math.Decide.{dec_le}
 use Rattle.std.proofs.lemmas.List.{length-map}
 use Rattle.spec.specs.Memory.{over}
 use Rattle.spec.specs.Network.{Network}
 use Rattle.spec.specs.Tree.{Tree, leaf, number, Pair, flat_of}
+use Rattle.spec.specs.declared.Refusal.{Refusal}
 use Rattle.spec.specs.declared.Refusal.TheVariants.{TableTooWide}
 use Rattle.spec.specs.Greedy.{State, connect, Built, finish, leaves_of, greedy_from}
 use Rattle.laws.specs.GreedyMerging.{connect_some}
@@ -23,6 +24,32 @@ pub data Greedied (N : Network) (a : List Pair) (leaves kids₀ kids : List ℕ)
   is_built : r < 65536 → (b : Built) → greedy_from N a (leaves_of leaves) ≡ Ok b → kids ≡ over kids₀ (flat_of b.pairs)
       → length b.pairs ≡ length a + (length leaves - 1) → (0 < length leaves → (t : Tree) × (b.tops ≡ t ∷ []) × (r ≡ number t))
       → Greedied N a leaves kids₀ kids r
+
+-- the same as a `Result`
+pub data Planned (N : Network) (a : List Pair) (leaves kids₀ kids : List ℕ) (r : Result ℕ Refusal) : Type 0 where
+  is_too_wide : r ≡ Err TableTooWide → greedy_from N a (leaves_of leaves) ≡ Err TableTooWide → Planned N a leaves kids₀ kids r
+  is_planned : (top : ℕ) → r ≡ Ok top → top < 65536 → (b : Built) → greedy_from N a (leaves_of leaves) ≡ Ok b → kids ≡ over kids₀ (flat_of b.pairs)
+      → length b.pairs ≡ length a + (length leaves - 1) → (0 < length leaves → (t : Tree) × (b.tops ≡ t ∷ []) × (top ≡ number t))
+      → Planned N a leaves kids₀ kids r
+
+-- its number
+abbrev pub number_in : Result ℕ Refusal → ℕ
+number_in (Err r) = 65536
+number_in (Ok t) = t
+
+pub by_number : {N : Network} {a : List Pair} {leaves kids₀ kids : List ℕ} {r : Result ℕ Refusal} → Planned N a leaves kids₀ kids r → Greedied N a leaves kids₀ kids (number_in r)
+by_number (is_too_wide z q) = is_refused (ap number_in z) q
+by_number (is_planned top z l b q w k t) =
+    let e = ap number_in z in
+    is_built (omega (arith, e, l)) b q w k (λ h. let (u, v, x) = t h in (u, v, e ∙ x))
+
+-- an answer is no refusal
+abbrev answered : Result ℕ Refusal → Type 0
+answered (Ok t) = ◌≡◌ {A = ℕ} 0 0
+answered (Err r) = ⊥
+
+pub apart : {t : ℕ} {r : Refusal} → ◌≡◌ {A = Result ℕ Refusal} (Ok t) (Err r) → ⊥
+apart e = subst answered e refl
 
 module _ (N : Network) (a : List Pair) (W n made : ℕ) (weights counts cells outputs leaves kids : List ℕ)
     (asks : Asks N a n made weights counts cells outputs leaves kids) (fits : length weights ≤ W * 64) (few_leaves : n ≤ W * 64)
@@ -41,17 +68,18 @@ module _ (N : Network) (a : List Pair) (W n made : ℕ) (weights counts cells ou
         (sym (state_is N a W n made weights counts cells outputs leaves kids asks fits few_leaves few ws₀ room))
 
     -- refused
-    pub answer_refused : (nodes sizes live kids₁ kids₂ : List ℕ) (r : ℕ) → r ≡ 65536 → Connected G S kids nodes sizes live kids₁ r → Greedied N a leaves kids kids₂ 65536
-    answer_refused nodes sizes live kids₁ kids₂ r e (too_wide z q) = is_refused refl (from_is ∙ ap (finish N) q)
-    answer_refused nodes sizes live kids₁ kids₂ r e (ended F) = absurd (omega (arith, F.left, few))
+    pub answer_refused : (nodes sizes live kids₁ kids₂ : List ℕ) (r : Result ℕ Refusal) (w : Refusal) → r ≡ Err w → Connected G S kids nodes sizes live kids₁ r
+        → Planned N a leaves kids kids₂ (Err w)
+    answer_refused nodes sizes live kids₁ kids₂ r w e (too_wide z q) = is_too_wide (sym e ∙ z) (from_is ∙ ap (finish N) q)
+    answer_refused nodes sizes live kids₁ kids₂ r w e (ended t z F) = absurd (apart (sym z ∙ e))
 
-    module _ (nodes sizes live kids₁ : List ℕ) (t : ℕ) (n₁ : t ≡ 65536 → ⊥) where
-      final : Connected G S kids nodes sizes live kids₁ t → Final G S kids nodes sizes live kids₁ t
-      final (too_wide z q) = absurd (n₁ z)
-      final (ended F) = F
+    module _ (nodes sizes live kids₁ : List ℕ) (t : ℕ) where
+      final : Connected G S kids nodes sizes live kids₁ (Ok t) → Final G S kids nodes sizes live kids₁ t
+      final (too_wide z q) = absurd (apart z)
+      final (ended u z F) = subst (Final G S kids nodes sizes live kids₁) (sym (ap number_in z)) F
 
       rest_of : (F : Final G S kids nodes sizes live kids₁ t)
-          → Rest N F.state.tree F.state.slots F.state.array n (made + t) (length leaves - t) nodes sizes live kids kids₁
+          → Rest N F.state.tree F.state.slots F.state.array n (made + t) (length live) nodes sizes live kids kids₁
       rest_of F =
           let T = F.state in
           let used = used_slots N G.base G.lo G.all T.array T.tree T.slots T.next F.sound in
@@ -60,37 +88,38 @@ module _ (N : Network) (a : List Pair) (W n made : ℕ) (weights counts cells ou
             size = λ u m. F.size u (used u m);
             numbers = λ u m. F.numbers u (used u m);
             lived = F.lived;
-            room = F.room;
-            many = omega (arith, F.left);
+            many = sym (ap length F.lived);
             leaves = asks.lends.leaves;
             made = omega (arith, F.made, asks.array);
             written = F.written;
           }
 
       -- the rest was joined
-      pub answer_built : (c : Connected G S kids nodes sizes live kids₁ t) (kids₂ : List ℕ) (r : ℕ) → r < 65536
-          → ((N : Network) (tree : ℕ → Tree) (L : List ℕ) (a : List Pair) (before : List ℕ) → Rest N tree L a n (made + t) (length leaves - t) nodes sizes live before kids₁
-          → Joined N tree L a (length leaves - t) before kids₂ r)
-          → Greedied N a leaves kids kids₂ r
+      pub answer_built : (c : Connected G S kids nodes sizes live kids₁ (Ok t)) (kids₂ : List ℕ) (r : ℕ) → r < 65536
+          → ((N : Network) (tree : ℕ → Tree) (L : List ℕ) (a : List Pair) (before : List ℕ) → Rest N tree L a n (made + t) (length live) nodes sizes live before kids₁
+          → Joined N tree L a (length live) before kids₂ r)
+          → Planned N a leaves kids kids₂ (Ok r)
       answer_built c kids₂ r low f =
           let F = final c in
           let T = F.state in
-          let J : Joined N T.tree T.slots T.array (length leaves - t) kids kids₂ r = f N T.tree T.slots T.array kids (rest_of F) in
-          let some : 0 < length leaves → 0 < length leaves - t = λ h.
+          let l : length live ≡ length leaves - t = omega (arith, ap length F.lived, F.left) in
+          let J : Joined N T.tree T.slots T.array (length live) kids kids₂ r = f N T.tree T.slots T.array kids (rest_of F) in
+          let some : 0 < length leaves → 0 < length live = λ h.
           omega (
             arith,
             connect_some N (length leaves) (length leaves) (state_of S) (state_of T) F.same
                 (omega (arith, count_trees S.tree S.slots, range_length 0 (length leaves))),
             count_trees T.tree T.slots,
             F.left,
+            l,
           ) in
-          is_built low (built_of N T.tree T.slots T.array) (from_is ∙ ap (finish N) F.same) J.written
-          (lengths (length leaves) t (length a) (length T.array) _ (length T.slots) J.made F.made F.left some)
+          is_planned r refl low (built_of N T.tree T.slots T.array) (from_is ∙ ap (finish N) F.same) J.written
+          (lengths (length leaves) t (length live) (length a) (length T.array) _ (length T.slots) l J.made F.made F.left some)
           (λ h. J.top (some h))
         where
-          lengths : (l t x y z k : ℕ) → z ≡ y + (l - t - 1) → y ≡ x + t → k + t ≡ l → (0 < l → 0 < l - t) → z ≡ x + (l - 1)
-          lengths l t x y z k p q s h =
+          lengths : (l t m x y z k : ℕ) → m ≡ l - t → z ≡ y + (m - 1) → y ≡ x + t → k + t ≡ l → (0 < l → 0 < m) → z ≡ x + (l - 1)
+          lengths l t m x y z k e p q s h =
               elim (dec_le l 0) [
-                | yes e ↦ omega (arith, p, q, s)
-                | no e ↦ omega (arith, p, q, s, h (omega arith))
+                | yes e' ↦ omega (arith, e, p, q, s)
+                | no e' ↦ omega (arith, e, p, q, s, h (omega arith))
               ]

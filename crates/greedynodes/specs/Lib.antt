@@ -5,3 +5,4 @@ pub mod Ends
 pub mod Within
 pub mod Copied
 pub mod Counted
+pub mod Networks

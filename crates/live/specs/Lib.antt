@@ -1,4 +1,3 @@
 pub mod Common
 pub mod Holders
 pub mod Merged
-pub mod Within

@@ -1,25 +1,34 @@
 #![tactic(auto)]
-// Live tables, in slots of lent words: which share an index, and what a merge of two makes.
-// Slot 256 holds the outputs and what is named outside, slot 257 what two live tables or more hold, slot 258 what three or more hold.
-ghost use Rattle.std.specs.Prelude.{◌≡◌, ◌+◌, ◌*◌, ◌<◌, ◌≤◌, length, set};
-ghost use Rattle.parts.specs.Parts.{low};
-ghost use Rattle.parts.specs.Lists.{sets_in, live_in, lists_in, with_sets};
+//! Live tables, in slots of lent words: which share an index, and what a merge of two makes.
+//! Slot 256 holds the outputs and what is named outside, slot 257 what two live tables or more hold, slot 258 what three or more hold.
+ghost use Rattle.std.specs.Prelude.{◌≡◌, ◌+◌, ◌*◌, ◌<◌, ◌≤◌, length, get_or, set};
 ghost use Rattle.slots.specs.Slots.{with_set};
 ghost use Rattle.slots.specs.Weigh.{Light};
+ghost use Rattle.tables.specs.Lists.{lists_in, with_sets, IsSameLoan};
 ghost use Rattle.live.specs.Common.{shares};
 ghost use Rattle.live.specs.Holders.{count_word, with_holders};
 ghost use Rattle.live.specs.Merged.{merged_set, pair_bits, word_at};
 
-// Have slots `x` and `y` an index in common.
-pub fn share(ws: &[u64], w: usize, x: usize, y: usize) -> bool
-    requires { (w ≤ 16) × (x < 1048576) × (y < 1048576) }
-    ensures { result ≡ shares ws.now w x y }
+use tables::slotted::Tables;
+use tables::{OUTSIDE, THRICE, TWICE, WIDTH};
+
+/// Word `k` of slot `s`.
+#[inline]
+fn word(sets: &[u64], s: usize, k: usize) -> u64
+    requires { (s < 1048576) × (k < 1048576) }
+    ensures { result ≡ get_or sets.now (s * 4 + k) 0 }
 {
-    let p = x * w;
-    let q = y * w;
-    for k in 0..w {
-        let a = cells::get64(ws, p + k);
-        let b = cells::get64(ws, q + k);
+    cells::get_or(sets, s * WIDTH + k, 0)
+}
+
+/// Have slots `x` and `y` an index in common.
+pub fn share(sets: &[u64], x: usize, y: usize) -> bool
+    requires { (x < 1048576) × (y < 1048576) }
+    ensures { result ≡ shares sets.now 4 x y }
+{
+    for k in 0..WIDTH {
+        let a = word(sets, x, k);
+        let b = word(sets, y, k);
         if a & b != 0 {
             return true;
         }
@@ -27,83 +36,91 @@ pub fn share(ws: &[u64], w: usize, x: usize, y: usize) -> bool
     false
 }
 
+/// What two or more tables hold, and what three or more hold, in a word of their sets.
 #[derive(Clone, Copy)]
 struct Holders {
     two: u64,
     three: u64,
 }
 
-// Of word `k` the indices that two or more of the first `m` slots of `live` hold, and those that three or more hold.
-fn count_holders(ws: &[u64], w: usize, live: &[u64], m: usize, k: usize) -> Holders
-    requires { (w ≤ 16) × (k < 1048576) }
-    ensures { (result.two ≡ count_word ws.now w (low live.now) k 2 m) × (result.three ≡ count_word ws.now w (low live.now) k 3 m) }
+/// Of word `k` the indices that two or more of the live tables hold, and those that three or more hold.
+fn count_holders(sets: &[u64], live: &[u8], k: usize) -> Holders
+    requires { k < 1048576 }
+    ensures two { result.two ≡ count_word sets.now 4 live.now k 2 (length live.now) }
+    ensures three { result.three ≡ count_word sets.now 4 live.now k 3 (length live.now) }
 {
     let mut one: u64 = 0;
     let mut two: u64 = 0;
     let mut three: u64 = 0;
-    for i in 0..m {
-        let x = cells::get64(ws, parts::low_at(live, i) * w + k);
-        three = three | two & x;
-        two = two | one & x;
-        one = one | x;
+    for &slot in live {
+        let x = word(sets, usize::from(slot), k);
+        three |= two & x;
+        two |= one & x;
+        one |= x;
     }
     Holders { two, three }
 }
 
-// Makes word `k` of slot 257 `two`, and that of slot 258 `three`.
-fn put_words(sets: &mut [u64], w: usize, k: usize, two: u64, three: u64)
-    requires { (w ≤ 16) × (k < 1048576) }
-    ensures { sets.new ≡ set (set sets.old (257 * w + k) two) (258 * w + k) three }
+/// Makes word `k` of slot 257 `two`, and that of slot 258 `three`.
+fn put_words(sets: &mut [u64], k: usize, two: u64, three: u64)
+    requires { k < 1048576 }
+    ensures { sets.new ≡ set (set sets.old (257 * 4 + k) two) (258 * 4 + k) three }
 {
-    cells::put64(sets, 257 * w + k, two);
-    cells::put64(sets, 258 * w + k, three);
+    cells::put(sets, TWICE * WIDTH + k, two);
+    cells::put(sets, THRICE * WIDTH + k, three);
 }
 
-// Makes slot 257 what two or more of the first `m` live slots hold, and slot 258 what three or more hold, each with slot 256.
-pub fn put_holders(ws: &mut [u64], w: usize, m: usize)
-    requires { (w ≤ 16) × (2064 ≤ length ws.old) }
-    ensures { lists_in ws.new ≡ with_sets (lists_in ws.old) (with_holders (sets_in ws.old) w (live_in ws.old) m) }
+/// Makes slot 257 what two or more of the live tables hold, and slot 258 what three or more hold, each with slot 256.
+pub fn put_holders(sets: &mut [u64], live: &[u8])
+    ensures { sets.new ≡ with_holders sets.old 4 live.now (length live.now) }
 {
-    for k in 0..w {
-        let h = count_holders(&ws[0..1040], w, &ws[1552..1808], m, k);
-        let e = cells::get64(&ws[0..1040], 256 * w + k);
-        put_words(&mut ws[0..1040], w, k, h.two | e, h.three | e);
+    for k in 0..WIDTH {
+        let held = count_holders(sets, live, k);
+        let staying = word(sets, OUTSIDE, k);
+        put_words(sets, k, held.two | staying, held.three | staying);
     }
 }
 
-// Word `k` of the table that a merge of slots `x` and `y` makes.
-fn merged_word(ws: &[u64], w: usize, x: usize, y: usize, k: usize) -> u64
-    requires { (w ≤ 16) × (x < 1048576) × (y < 1048576) × (k < 1048576) }
-    ensures { result ≡ word_at ws.now w x y k }
+/// Word `k` of the table that a merge of slots `x` and `y` makes.
+fn merged_word(sets: &[u64], x: usize, y: usize, k: usize) -> u64
+    requires { (x < 1048576) × (y < 1048576) × (k < 1048576) }
+    ensures { result ≡ word_at sets.now 4 x y k }
 {
-    let a = cells::get64(ws, x * w + k);
-    let b = cells::get64(ws, y * w + k);
-    let two = cells::get64(ws, 257 * w + k);
-    let three = cells::get64(ws, 258 * w + k);
+    let a = word(sets, x, k);
+    let b = word(sets, y, k);
+    let two = word(sets, TWICE, k);
+    let three = word(sets, THRICE, k);
     a & b & three | (a ^ b) & two
 }
 
-// Its size bits.
-pub fn merged_size(ws: &[u64], w: usize, x: usize, y: usize, weights: &[u8]) -> usize
-    requires { (w ≤ 16) × (x < 1048576) × (y < 1048576) × Light weights.now }
-    ensures { result ≡ pair_bits ws.now w weights.now x y }
+/// Its size bits.
+pub fn merged_size(sets: &[u64], x: usize, y: usize, weights: &[u8]) -> usize
+    requires { (x < 1048576) × (y < 1048576) × Light weights.now }
+    ensures { result ≡ pair_bits sets.now 4 weights.now x y }
 {
     let mut sum: usize = 0;
-    for k in 0..w {
-        let v = merged_word(ws, w, x, y, k);
+    for k in 0..WIDTH {
+        let v = merged_word(sets, x, y, k);
         sum += slots::weigh_word(v, k * 64, weights, &weights[..0]);
     }
     sum
 }
 
-// Makes slot `z` the table that a merge of slots `x` and `y` makes.
-pub fn put_merged(ws: &mut [u64], w: usize, x: usize, y: usize, z: usize)
-    requires { (w ≤ 16) × (x < 1048576) × (y < 1048576) × (z < 1048576) }
-    ensures { ws.new ≡ with_set ws.old w z (merged_set ws.old w x y) }
+/// Makes slot `z` the table that a merge of slots `x` and `y` makes.
+pub fn put_merged(sets: &mut [u64], x: usize, y: usize, z: usize)
+    requires { (x < 1048576) × (y < 1048576) × (z < 1048576) }
+    ensures { sets.new ≡ with_set sets.old 4 z (merged_set sets.old 4 x y) }
 {
-    let r = z * w;
-    for k in 0..w {
-        let v = merged_word(ws, w, x, y, k);
-        cells::put64(ws, r + k, v);
+    for k in 0..WIDTH {
+        let v = merged_word(sets, x, y, k);
+        cells::put(sets, z * WIDTH + k, v);
     }
+}
+
+/// Makes slots 257 and 258 of some tables what two or more and three or more of the live ones hold.
+pub fn mark_holders(tables: &mut Tables)
+    ensures same { IsSameLoan tables.old tables.new }
+    ensures lists { lists_in tables.new ≡ with_sets (lists_in tables.old) (with_holders tables.old.sets.now 4 tables.old.live.items (length tables.old.live.items)) }
+{
+    put_holders(&mut *tables.sets, tables.live.as_slice());
 }

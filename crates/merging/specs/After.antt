@@ -1,11 +1,10 @@
 -- The lent lists after the two tables of the least pair were merged hold greedy's next state. Assumes nothing.
 use Rattle.std.specs.Prelude.{Bool, true, false, not, ◌&&◌, ◌||◌, ◌≡◌, List, [], ◌∷◌, ◌++◌, ℕ, zero, suc, ◌+◌, ◌*◌, ◌/◌, ◌≤◌, ◌<◌, eqb, ltb, length, get_or, set}
 use Rattle.std.proofs.Math.Bool.{or-false, or_assoc}
-use Rattle.std.proofs.Common.{sym, ◌∙◌, ap, ap₂, subst, arith, length-append, length-set, get_or-set_same, get_or-set_other, eqb-true, ne_eqb}
+use Rattle.std.proofs.Common.{refl, sym, ◌∙◌, ap, ap₂, subst, arith, length-append, length-set, get_or-set_same, get_or-set_other, eqb-true, ne_eqb}
 use Rattle.std.proofs.Math.Decide.{ℕ_discrete}
 use Rattle.std.proofs.lemmas.Bool.{eqb-false, not-true}
 use Rattle.spec.specs.Lists.{memb, anyb}
-use Rattle.spec.specs.Memory.{over}
 use Rattle.spec.specs.Network.{Network, leaf_count, named}
 use Rattle.spec.specs.Tree.{Tree, number, below, Pair}
 use Rattle.spec.specs.Price.{lists}
@@ -16,7 +15,6 @@ use Rattle.laws.specs.ListLaws.{memb-append}
 use Rattle.laws.specs.GreedyMerging.{Sound, connect_sound}
 use Rattle.laws.specs.GreedyLists.{merged_size_lem}
 use Rattle.laws.specs.GreedySlots.{entry, pair_at, tree_after}
-use Rattle.cells.specs.Cells.{over_length, over_at}
 use Rattle.slots.specs.Slots.{held, with_set, with_set_length, held_with, held_with_other, next_slot}
 use Rattle.live.specs.Holders.{holders_length}
 use Rattle.live.specs.Merged.{merged_set}
@@ -27,7 +25,7 @@ use Rattle.rows.specs.Renewed.{Entry, stale, known, Kept, rows_gone}
 use Rattle.merging.specs.Listed.{listed, other, remaining, remaining_memb, merge_listed}
 use Rattle.merging.specs.Tables.{HoldsList}
 use Rattle.merging.specs.Ruled.{outer, held_same, merged_is, outside_is}
-use Rattle.parts.specs.Lists.{Lists}
+use Rattle.tables.specs.Lists.{Lists}
 use Rattle.merging.specs.Holds.{Given, Ghost, state_of, Holds, count_trees, tree_new, tree_old, row_known}
 use Rattle.merging.specs.Turn.{words₁, rows₁, rises, used, small, hold, said, entries, Chosen, chosen_merges}
 
@@ -258,9 +256,9 @@ module _ (G : Given) (S : Ghost) (M : Lists) (H : Holds G S M) (y : ℕ) (c : Ch
         found = λ u m. or_cases (other f g u && memb u L) (eqb u next) (sym (member' u) ∙ m)
             (λ t. found' u (and_right (other f g u) (memb u L) t) (and_left (other f g u) (memb u L) t))
             (λ t. stale (ap (λ (v : ℕ). get_or rows₂ v 0) (eqb-true u next t)
-            ∙ get_or-set_same (set (set entries_of f 259) g 259) next 258 0 (simp length-set (omega (arith, high, H.places.3, long_rows)))));
+            ∙ get_or-set_same (set (set entries_of f 259) g 259) next 258 0 (simp length-set (omega (arith, high, H.places.2, long_rows)))));
         gone = gone';
-        room = simp length-set (omega (arith, high, H.places.3, long_rows));
+        room = simp length-set (omega (arith, high, H.places.2, long_rows));
       }
     where
       gone' : (u : ℕ) → u < suc next → memb u L' ≡ false → get_or rows₂ u 0 ≡ 259
@@ -270,12 +268,12 @@ module _ (G : Given) (S : Ghost) (M : Lists) (H : Holds G S M) (y : ℕ) (c : Ch
           elim (ℕ_discrete u g) [
             | yes e ↦ get_or-set_other (set (set entries_of f 259) g 259) next u 258 0 n
                 ∙ ap (λ (v : ℕ). get_or (set (set entries_of f 259) g 259) v 0) e
-                ∙ get_or-set_same (set entries_of f 259) g 259 0 (simp length-set (omega (arith, high, below_next g in_g, H.places.3, long_rows)))
+                ∙ get_or-set_same (set entries_of f 259) g 259 0 (simp length-set (omega (arith, high, below_next g in_g, H.places.2, long_rows)))
             | no n₂ ↦ elim (ℕ_discrete u f) [
               | yes e ↦ get_or-set_other (set (set entries_of f 259) g 259) next u 258 0 n
                   ∙ get_or-set_other (set entries_of f 259) g u 259 0 n₂
                   ∙ ap (λ (v : ℕ). get_or (set entries_of f 259) v 0) e
-                  ∙ get_or-set_same entries_of f 259 0 (omega (arith, high, below_next f in_f, H.places.3, long_rows))
+                  ∙ get_or-set_same entries_of f 259 0 (omega (arith, high, below_next f in_f, H.places.2, long_rows))
               | no n₁ ↦ untouched u n₁ n₂ n
                   ∙ rows_gone N n₀ tree L (rises G S M H) words W N.weights M.sizes (said G S M H) next below_next M.rows H.kept u (omega (arith, n))
                   (by_cases (memb u L) (λ t. clash (and_both (other f g u) (memb u L) (ap₂ (λ (a b : Bool). not a && not b) (ne_eqb u f n₁) (ne_eqb u g n₂)) t) p) (λ t. t))
@@ -290,7 +288,7 @@ module _ (G : Given) (S : Ghost) (M : Lists) (H : Holds G S M) (y : ℕ) (c : Ch
         words = words₂;
         nodes = set M.nodes next (leaf_count N + length a);
         sizes = set M.sizes next bits;
-        live = over M.live L';
+        live = L';
         rows = rows₂;
       }
 
@@ -303,13 +301,12 @@ module _ (G : Given) (S : Ghost) (M : Lists) (H : Holds G S M) (y : ℕ) (c : Ch
         numbers = numbers';
         outside = outside';
         kept = kept';
-        lived = λ i b. over_at M.live L' i 0 (omega (arith, count', H.few, H.places.2)) b;
+        lived = refl;
         few = omega (arith, count', H.few);
         enough = omega (arith, long, with_set_length words W next (merged_set words W f g));
         places = (
           simp length-set H.places.0,
           simp length-set H.places.1,
-          rw (over_length M.live L') H.places.2,
-          simp length-set (omega (arith, H.places.3, long_rows)),
+          simp length-set (omega (arith, H.places.2, long_rows)),
         );
       }

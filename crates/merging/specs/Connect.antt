@@ -1,11 +1,12 @@
 -- Greedy's merging over the lent lists: from a state that they hold, turn after turn, to the state in which merging ends, or to its
 -- refusal. Assumes nothing.
-use Rattle.std.specs.Prelude.{true, ◌≡◌, refl, List, [], ◌∷◌, ◌++◌, ℕ, suc, ◌+◌, ◌-◌, ◌/◌, ◌%◌, ◌≤◌, ◌<◌, length, get_or, set, take, Err, Ok}
+use Rattle.std.specs.Prelude.{true, ◌≡◌, refl, List, [], ◌∷◌, ◌++◌, ℕ, suc, ◌+◌, ◌-◌, ◌/◌, ◌%◌, ◌<◌, length, get_or, set, Result, Err, Ok}
 use Rattle.std.proofs.Common.{sym, ◌∙◌, ap, ap₂, subst, arith, add-one, length-append}
 use Rattle.spec.specs.Lists.{memb}
 use Rattle.spec.specs.Memory.{over}
 use Rattle.spec.specs.Network.{Network, leaf_count}
 use Rattle.spec.specs.Tree.{number, flat_of}
+use Rattle.spec.specs.declared.Refusal.{Refusal}
 use Rattle.spec.specs.declared.Refusal.TheVariants.{TableTooWide}
 use Rattle.spec.specs.Greedy.{size_of, merged_size, connect}
 use Rattle.laws.specs.GreedyMerging.{Sound}
@@ -17,10 +18,9 @@ use Rattle.scores.specs.Scores.{first_of, second_of}
 use Rattle.rows.specs.Rows.{renewed_all, least_of}
 use Rattle.rows.specs.Known.{code_slot}
 use Rattle.merging.specs.Listed.{remaining}
-use Rattle.merging.specs.Agree.{front_is, words_same, rows_same, least_same}
 use Rattle.merging.specs.Removed.{put_node}
 use Rattle.merging.specs.Merge.{first_at, second_at, marked, with_node}
-use Rattle.parts.specs.Lists.{Lists}
+use Rattle.tables.specs.Lists.{Lists}
 use Rattle.merging.specs.Holds.{Given, Ghost, state_of, Holds}
 use Rattle.merging.specs.Turn.{words₁, rows₁, small, used, Chosen, Scanned, ends, refuses, chooses, scanned}
 use Rattle.merging.specs.After.{next_ghost, next_lists, in_f, in_g, count', turn_on, holds'}
@@ -57,29 +57,27 @@ module _ (G : Given) (S : Ghost) where
     pub sound : Sound N G.base G.lo G.all (state_of state)
     pub size : (u : ℕ) → u < state.next → get_or sizes u 0 ≡ size_of N (state.tree u)
     pub numbers : (u : ℕ) → u < state.next → get_or nodes u 0 ≡ number (state.tree u)
-    pub lived : (i : ℕ) → i < length state.slots → get_or live i 0 ≡ get_or state.slots i 0
-    pub room : length state.slots ≤ length live
+    pub lived : live ≡ state.slots
     pub left : length state.slots + r ≡ G.start
     pub made : length state.array ≡ length S.array + r
     pub written : kids ≡ over kids₀ (flat_of state.array)
     pub same : connect N G.start G.start (state_of S) ≡ Ok (state_of state)
 
-  -- what the merging answers: how many turns there were, or 65536 if it is refused
-  pub data Connected (kids₀ : List ℕ) (nodes sizes live kids : List ℕ) (r : ℕ) : Type 0 where
-    too_wide : r ≡ 65536 → connect N G.start G.start (state_of S) ≡ Err TableTooWide → Connected kids₀ nodes sizes live kids r
-    ended : Final kids₀ nodes sizes live kids r → Connected kids₀ nodes sizes live kids r
+  -- what the merging answers: how many turns there were, or its refusal
+  pub data Connected (kids₀ : List ℕ) (nodes sizes live kids : List ℕ) (r : Result ℕ Refusal) : Type 0 where
+    too_wide : r ≡ Err TableTooWide → connect N G.start G.start (state_of S) ≡ Err TableTooWide → Connected kids₀ nodes sizes live kids r
+    ended : (t : ℕ) → r ≡ Ok t → Final kids₀ nodes sizes live kids t → Connected kids₀ nodes sizes live kids r
 
   final : (kids₀ : List ℕ) (t : ℕ) (M : Lists) (kids : List ℕ) (R : Reached kids₀ t M kids)
-      → connect N G.start G.start (state_of S) ≡ Ok (state_of R.state) → Connected kids₀ M.nodes M.sizes M.live kids t
+      → connect N G.start G.start (state_of S) ≡ Ok (state_of R.state) → Connected kids₀ M.nodes M.sizes M.live kids (Ok t)
   final kids₀ t M kids R e =
-      ended
+      ended t refl
       (record {
         state = R.state;
         sound = R.holds.sound;
         size = R.holds.size;
         numbers = R.holds.numbers;
         lived = R.holds.lived;
-        room = omega (arith, R.holds.few, R.holds.places.2);
         left = R.left;
         made = R.made;
         written = R.written;
@@ -100,15 +98,15 @@ module _ (G : Given) (S : Ghost) where
 
   module _ (w n n0 count : ℕ) (weights kids₀ : List ℕ) (M₀ : Lists) (start : Start G S M₀ w n n0 count weights kids₀) where
     -- all turns are over
-    pub reached_end : (t : ℕ) (M : Lists) (kids : List ℕ) → t ≡ n0 → Reached kids₀ t M kids → Connected kids₀ M.nodes M.sizes M.live kids t
+    pub reached_end : (t : ℕ) (M : Lists) (kids : List ℕ) → t ≡ n0 → Reached kids₀ t M kids → Connected kids₀ M.nodes M.sizes M.live kids (Ok t)
     reached_end t M kids e R =
         final kids₀ t M kids R
         (R.same ∙ ap (λ (f : ℕ). connect N G.start f (state_of R.state)) (let z : G.start - t ≡ 0 = omega (arith, e, start.tables) in z))
 
     -- a turn: the lists before it, and after its scan
     module _ (t : ℕ) (M : Lists) (kids : List ℕ) (R : Reached kids₀ t M kids) (less : t < n0)
-        (m y : ℕ) (em : m ≡ n0 - t) (words rows : List ℕ) (ew : words ≡ with_holders M.words w M.live m)
-        (er : rows ≡ renewed_all words w weights M.sizes n0 M.live M.rows m) (ey : y ≡ least_of M.sizes n0 rows M.live m)
+        (y : ℕ) (words rows : List ℕ) (ew : words ≡ with_holders M.words w M.live (length M.live))
+        (er : rows ≡ renewed_all words w weights M.sizes n0 M.live M.rows (length M.live)) (ey : y ≡ least_of M.sizes n0 rows M.live (length M.live))
       where
         abbrev T : Ghost
         T = R.state
@@ -116,26 +114,20 @@ module _ (G : Given) (S : Ghost) where
         abbrev H : Holds G T M
         H = R.holds
 
-        count_is : m ≡ length T.slots
-        count_is = omega (arith, em, R.left, start.tables)
-
         words_are : words ≡ words₁ G T M H
         words_are =
-            ew ∙ ap₂ (λ (v k : ℕ). with_holders M.words v M.live k) start.width count_is
-            ∙ words_same M.live T.slots H.lived M.words G.width
+            ew ∙ ap₂ (λ (v : ℕ) (l : List ℕ). with_holders M.words v l (length l)) start.width H.lived
 
         rows_are : rows ≡ rows₁ G T M H
         rows_are =
-            er ∙ ap₂ (λ (a : List ℕ) (v : ℕ). renewed_all a v weights M.sizes n0 M.live M.rows m) words_are start.width
-            ∙ ap₂ (λ (a : List ℕ) (v : ℕ). renewed_all (words₁ G T M H) G.width a M.sizes v M.live M.rows m) start.weighed start.tables
-            ∙ ap (renewed_all (words₁ G T M H) G.width N.weights M.sizes G.start M.live M.rows) count_is
-            ∙ rows_same M.live T.slots H.lived (words₁ G T M H) G.width N.weights M.sizes G.start M.rows
+            er ∙ ap₂ (λ (a : List ℕ) (v : ℕ). renewed_all a v weights M.sizes n0 M.live M.rows (length M.live)) words_are start.width
+            ∙ ap₂ (λ (a : List ℕ) (v : ℕ). renewed_all (words₁ G T M H) G.width a M.sizes v M.live M.rows (length M.live)) start.weighed start.tables
+            ∙ ap (λ (l : List ℕ). renewed_all (words₁ G T M H) G.width N.weights M.sizes G.start l M.rows (length l)) H.lived
 
         least_are : y ≡ least_of M.sizes G.start (rows₁ G T M H) T.slots (length T.slots)
         least_are =
-            ey ∙ ap₂ (λ (v : ℕ) (a : List ℕ). least_of M.sizes v a M.live m) start.tables rows_are
-            ∙ ap (least_of M.sizes G.start (rows₁ G T M H) M.live) count_is
-            ∙ least_same M.live T.slots H.lived M.sizes G.start (rows₁ G T M H)
+            ey ∙ ap₂ (λ (v : ℕ) (a : List ℕ). least_of M.sizes v a M.live (length M.live)) start.tables rows_are
+            ∙ ap (λ (l : List ℕ). least_of M.sizes G.start (rows₁ G T M H) l (length l)) H.lived
 
         found : Scanned G T M H (G.start - suc t) y
         found = subst (Scanned G T M H (G.start - suc t)) (sym least_are) (scanned G T M H (G.start - suc t))
@@ -144,19 +136,19 @@ module _ (G : Given) (S : Ghost) where
         more = R.same ∙ ap (λ (f : ℕ). connect N G.start f (state_of T)) (let z : G.start - t ≡ suc (G.start - suc t) = omega (arith, less, start.tables) in z)
 
         -- no pair is left
-        pub turn_ends : y ≡ 256 → Connected kids₀ M.nodes M.sizes M.live kids t
+        pub turn_ends : y ≡ 256 → Connected kids₀ M.nodes M.sizes M.live kids (Ok t)
         turn_ends e = go found
           where
-            go : Scanned G T M H (G.start - suc t) y → Connected kids₀ M.nodes M.sizes M.live kids t
+            go : Scanned G T M H (G.start - suc t) y → Connected kids₀ M.nodes M.sizes M.live kids (Ok t)
             go (ends z q) = final kids₀ t M kids R (more ∙ q)
             go (refuses z q) = absurd (omega arith)
             go (chooses z q) = absurd (omega arith)
 
         -- a pair is too wide
-        pub turn_refused : (nodes sizes live kids' : List ℕ) → y ≡ 257 → Connected kids₀ nodes sizes live kids' 65536
+        pub turn_refused : (nodes sizes live kids' : List ℕ) → y ≡ 257 → Connected kids₀ nodes sizes live kids' (Err TableTooWide)
         turn_refused nodes sizes live kids' e = go found
           where
-            go : Scanned G T M H (G.start - suc t) y → Connected kids₀ nodes sizes live kids' 65536
+            go : Scanned G T M H (G.start - suc t) y → Connected kids₀ nodes sizes live kids' (Err TableTooWide)
             go (ends z q) = absurd (omega arith)
             go (refuses z q) = too_wide refl (more ∙ q)
             go (chooses z q) = absurd (omega arith)
@@ -174,7 +166,7 @@ module _ (G : Given) (S : Ghost) where
             (e₁ : words' ≡ with_set words w z (merged_set words w (first_at n0 rows y) (second_at n0 rows y)))
             (e₂ : nodes' ≡ set M.nodes z (n + (count + t)))
             (e₃ : sizes' ≡ set M.sizes z (get_or rows y 0 / 512))
-            (e₄ : live' ≡ over M.live (remaining (first_at n0 rows y) (second_at n0 rows y) (take m M.live) ++ (z ∷ [])))
+            (e₄ : live' ≡ remaining (first_at n0 rows y) (second_at n0 rows y) M.live ++ (z ∷ []))
             (e₅ : rows' ≡ marked rows (first_at n0 rows y) (second_at n0 rows y) z)
             (e₆ : kids' ≡ with_node kids (count + t) (get_or M.nodes (first_at n0 rows y) 0) (get_or M.nodes (second_at n0 rows y) 0))
             (n₁ : y ≡ 256 → ⊥) (n₂ : y ≡ 257 → ⊥)
@@ -205,9 +197,6 @@ module _ (G : Given) (S : Ghost) where
             abbrev M' : Lists
             M' = record { words = words'; nodes = nodes'; sizes = sizes'; live = live'; rows = rows' }
 
-            front : take m M.live ≡ T.slots
-            front = ap (λ (k : ℕ). take k M.live) count_is ∙ front_is M.live T.slots H.lived (omega (arith, H.few, H.places.2))
-
             lists_are : M' ≡ next_lists G T M H y c
             lists_are =
                 let p₁ : words' ≡ with_set (words₁ G T M H) G.width T.next (merged_set (words₁ G T M H) G.width f g) =
@@ -218,9 +207,9 @@ module _ (G : Given) (S : Ghost) where
                 e₂ ∙ ap₂ (λ (u v : ℕ). set M.nodes u v) z_is (omega (arith, start.leaves, start.made, R.made)) in
                 let p₃ : sizes' ≡ set M.sizes T.next (get_or (rows₁ G T M H) y 0 / 512) =
                 e₃ ∙ ap₂ (λ (u : ℕ) (l : List ℕ). set M.sizes u (get_or l y 0 / 512)) z_is rows_are in
-                let p₄ : live' ≡ over M.live (remaining f g T.slots ++ (T.next ∷ [])) =
-                e₄ ∙ ap₂ (λ (a b : ℕ). over M.live (remaining a b (take m M.live) ++ (z ∷ []))) first_is second_is
-                ∙ ap₂ (λ (l : List ℕ) (u : ℕ). over M.live (remaining f g l ++ (u ∷ []))) front z_is in
+                let p₄ : live' ≡ remaining f g T.slots ++ (T.next ∷ []) =
+                e₄ ∙ ap₂ (λ (a b : ℕ). remaining a b M.live ++ (z ∷ [])) first_is second_is
+                ∙ ap₂ (λ (l : List ℕ) (u : ℕ). remaining f g l ++ (u ∷ [])) H.lived z_is in
                 let p₅ : rows' ≡ marked (rows₁ G T M H) f g T.next =
                 e₅ ∙ ap₂ (λ (a b : ℕ). marked rows a b z) first_is second_is ∙ ap₂ (λ (l : List ℕ) (u : ℕ). marked l f g u) rows_are z_is in
                 λ i. record { words = p₁ i; nodes = p₂ i; sizes = p₃ i; live = p₄ i; rows = p₅ i }

@@ -12,7 +12,7 @@ use Rattle.laws.specs.GreedyMerging.{Sound}
 use Rattle.laws.specs.GreedySlots.{entry, tree_after}
 use Rattle.laws.specs.ListLaws.{memb_at}
 use Rattle.slots.specs.Slots.{held}
-use Rattle.parts.specs.Lists.{Lists}
+use Rattle.tables.specs.Lists.{Lists}
 use Rattle.rows.specs.Known.{Rises, places_of, same_place, Share, TooWide, NotBefore, Known, alone, least, RowTo, none, over, pair}
 use Rattle.rows.specs.Renewed.{Kept}
 use Rattle.merging.specs.Listed.{listed, state_at, listed_has}
@@ -49,10 +49,10 @@ pub record Holds (G : Given) (S : Ghost) (M : Lists) : Type 0 where
   -- slot 256 holds what stays whatever is merged
   pub outside : (j : ℕ) → j < G.width * 64 → held M.words G.width 256 j ≡ outer G.net (trees (listed S.tree S.slots)) j
   pub kept : Kept G.net G.start S.tree S.slots S.next M.rows
-  pub lived : (i : ℕ) → i < length S.slots → get_or M.live i 0 ≡ get_or S.slots i 0
+  pub lived : M.live ≡ S.slots
   pub few : S.next + length S.slots ≤ 256
   pub enough : 258 * G.width + G.width ≤ length M.words
-  pub places : (256 ≤ length M.nodes) × (256 ≤ length M.sizes) × (256 ≤ length M.live) × (256 ≤ length M.rows)
+  pub places : (256 ≤ length M.nodes) × (256 ≤ length M.sizes) × (256 ≤ length M.rows)
 
 pub count_trees : (tree : ℕ → Tree) (L : List ℕ) → length (trees (listed tree L)) ≡ length L
 count_trees tree L = length-map (listed tree L) (λ x. x.tree) ∙ length-map L (entry tree)

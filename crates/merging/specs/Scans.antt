@@ -1,19 +1,25 @@
 -- A turn of greedy's merging, from the lists that the scan and the merge leave. Assumes nothing.
-use Rattle.std.specs.Prelude.{◌≡◌, refl, List, [], ◌∷◌, ◌++◌, ℕ, ◌+◌, ◌-◌, ◌*◌, ◌≤◌, ◌<◌, length, get_or, set}
+use Rattle.std.specs.Prelude.{◌≡◌, refl, List, [], ◌∷◌, ◌++◌, ℕ, ◌+◌, ◌*◌, ◌/◌, ◌%◌, ◌<◌, length, get_or, set, Option, None, Some, Result, Err, Ok}
 use Rattle.std.proofs.Common.{sym, ◌∙◌, ap, ap₂, subst, zero-add, suc-add, arith}
+use Rattle.spec.specs.declared.Refusal.{Refusal}
+use Rattle.spec.specs.declared.Refusal.TheVariants.{TableTooWide}
 use Rattle.spec.specs.Tree.{flat_of}
-use Rattle.parts.specs.Parts.{part, back, low}
-use Rattle.parts.specs.Lists.{Lists, lists_in, nodes_in, sizes_in, live_in, rows_in, front_in, kids_in, front_back, kids_back}
+use Rattle.tables.specs.declared.partner.Choice.{Choice}
+use Rattle.tables.specs.Lists.{Lists, pair_slot, pair_size}
+use Rattle.slots.specs.Slots.{with_set}
+use Rattle.live.specs.Merged.{merged_set}
+use Rattle.scores.specs.Scores.{first_of, second_of}
 use Rattle.rows.specs.Rows.{least_of}
-use Rattle.merging.specs.Removed.{flat_length}
-use Rattle.merging.specs.Merge.{first_at, second_at, with_node, scanned_in, merged_in}
+use Rattle.rows.specs.Within.{chosen_code, Named}
+use Rattle.merging.specs.Listed.{remaining}
+use Rattle.merging.specs.Merge.{first_at, second_at, marked, with_node, scanned_in, first_chosen, second_chosen, merged_in}
 use Rattle.merging.specs.Holds.{Given, Ghost}
 use Rattle.merging.specs.Connect.{Start, Reached, Connected, turn_ends, turn_refused, turn_merges}
 
--- ---- the children of the array so far, and behind them those in the words ----
+-- ---- the children of the array so far, and behind them those of the new nodes ----
 
 abbrev pub kids_behind : Ghost → List ℕ → List ℕ
-kids_behind S ws = flat_of S.array ++ kids_in ws
+kids_behind S kids = flat_of S.array ++ kids
 
 set_behind : (pre l : List ℕ) (i v : ℕ) → set (pre ++ l) (length pre + i) v ≡ pre ++ set l i v
 set_behind [] l i v = ap (λ (k : ℕ). set l k v) (zero-add i)
@@ -28,90 +34,47 @@ node_behind pre l c t u v e =
 
 -- ---- a turn ----
 
-module _ (G : Given) (S : Ghost) (w n n0 count : ℕ) (weights kids₀ : List ℕ) (M₀ : Lists) (start : Start G S M₀ w n n0 count weights kids₀)
+module _ (G : Given) (S : Ghost) (n n0 count : ℕ) (weights kids₀ : List ℕ) (M₀ : Lists) (start : Start G S M₀ 4 n n0 count weights kids₀)
     (t : ℕ) (M : Lists) (kids : List ℕ) (R : Reached G S kids₀ t M kids) (less : t < n0)
-    (K : Lists) (y : ℕ) (ek : K ≡ scanned_in w weights n0 (n0 - t) M) (ey : y ≡ least_of K.sizes n0 K.rows K.live (n0 - t))
+    (K : Lists) (r : Result (Option Choice) Refusal) (ek : K ≡ scanned_in weights n0 M) (er : chosen_code r ≡ least_of K.sizes n0 K.rows K.live (length K.live))
   where
     abbrev L : Lists
-    L = scanned_in w weights n0 (n0 - t) M
+    L = scanned_in weights n0 M
 
-    least_is : y ≡ least_of M.sizes n0 L.rows M.live (n0 - t)
-    least_is = ey ∙ ap (λ (l : Lists). least_of l.sizes n0 l.rows l.live (n0 - t)) ek
+    least_is : chosen_code r ≡ least_of M.sizes n0 L.rows M.live (length M.live)
+    least_is = er ∙ ap (λ (l : Lists). least_of l.sizes n0 l.rows l.live (length l.live)) ek
 
     -- a pair is too wide
-    pub scan_refused : (nodes sizes live kids' : List ℕ) → y ≡ 257 → Connected G S kids₀ nodes sizes live kids' 65536
-    scan_refused nodes sizes live kids' e =
-        turn_refused G S w n n0 count weights kids₀ M₀ start t M kids R less (n0 - t) y refl L.words L.rows refl refl least_is nodes sizes live kids' e
+    pub scan_refused : (nodes sizes live kids' : List ℕ) (e : Refusal) → r ≡ Err e → Connected G S kids₀ nodes sizes live kids' (Err TableTooWide)
+    scan_refused nodes sizes live kids' e z =
+        turn_refused G S 4 n n0 count weights kids₀ M₀ start t M kids R less (chosen_code r) L.words L.rows refl refl least_is nodes sizes live kids' (ap chosen_code z)
 
     -- no pair is left
-    pub scan_ends : y ≡ 256 → Connected G S kids₀ K.nodes K.sizes K.live kids t
-    scan_ends e =
-        subst (λ (l : Lists). Connected G S kids₀ l.nodes l.sizes l.live kids t) (sym ek)
-        (turn_ends G S w n n0 count weights kids₀ M₀ start t M kids R less (n0 - t) y refl L.words L.rows refl refl least_is e)
+    pub scan_ends : r ≡ Ok None → Connected G S kids₀ K.nodes K.sizes K.live kids (Ok t)
+    scan_ends z =
+        subst (λ (l : Lists). Connected G S kids₀ l.nodes l.sizes l.live kids (Ok t)) (sym ek)
+        (turn_ends G S 4 n n0 count weights kids₀ M₀ start t M kids R less (chosen_code r) L.words L.rows refl refl least_is (ap chosen_code z))
 
     -- the least pair is merged
-    pub scan_merges : (K' : Lists) (kids' : List ℕ) → K' ≡ merged_in w n0 y (n0 + t) (n0 - t) (n + (count + t)) K
-        → kids' ≡ with_node kids (count + t) (get_or K.nodes (first_at n0 K.rows y) 0) (get_or K.nodes (second_at n0 K.rows y) 0)
-        → (y ≡ 256 → ⊥) → (y ≡ 257 → ⊥) → Reached G S kids₀ (t + 1) K' kids'
-    scan_merges K' kids' e e₆ n₁ n₂ =
-        subst (λ (l : Lists). Reached G S kids₀ (t + 1) l kids') (sym (e ∙ ap (merged_in w n0 y (n0 + t) (n0 - t) (n + (count + t))) ek))
-        (turn_merges G S w n n0 count weights kids₀ M₀ start t M kids R less (n0 - t) y refl L.words L.rows refl refl least_is
-        (n0 + t) refl _ _ _ _ _ kids' refl refl refl refl refl
-        (e₆ ∙ ap (λ (l : Lists). with_node kids (count + t) (get_or l.nodes (first_at n0 l.rows y) 0) (get_or l.nodes (second_at n0 l.rows y) 0)) ek)
-        n₁ n₂)
-
--- the same over words: those before, after the scan (ws₁), after the merge (ws₂), and with the children (ws₃)
-module _ (G : Given) (S : Ghost) (w n n0 count : ℕ) (weights ws₀ : List ℕ) (start : Start G S (lists_in (front_in ws₀)) w n n0 count weights (kids_behind S ws₀))
-    (t : ℕ) (ws : List ℕ) (R : Reached G S (kids_behind S ws₀) t (lists_in (front_in ws)) (kids_behind S ws)) (less : t < n0) (h : 2320 ≤ length ws)
-    (y₁ : List ℕ) (e₁ : length y₁ ≡ length (front_in ws)) (y : ℕ) (ek : lists_in y₁ ≡ scanned_in w weights n0 (n0 - t) (lists_in (front_in ws)))
-    (ey : y ≡ least_of (sizes_in y₁) n0 (rows_in y₁) (live_in y₁) (n0 - t))
-  where
-    abbrev ws₁ : List ℕ
-    ws₁ = back 0 2064 ws y₁
-
-    after : front_in ws₁ ≡ y₁
-    after = (front_back ws y₁ h e₁).0
-
-    lists₁ : lists_in (front_in ws₁) ≡ scanned_in w weights n0 (n0 - t) (lists_in (front_in ws))
-    lists₁ = ap (λ (l : List ℕ). lists_in l) after ∙ ek
-
-    least₁ : y ≡ least_of (sizes_in (front_in ws₁)) n0 (rows_in (front_in ws₁)) (live_in (front_in ws₁)) (n0 - t)
-    least₁ = ey ∙ ap (λ (l : List ℕ). least_of (sizes_in l) n0 (rows_in l) (live_in l) (n0 - t)) (sym after)
-
-    pub words_refused : (nodes sizes live kids' : List ℕ) → y ≡ 257 → Connected G S (kids_behind S ws₀) nodes sizes live kids' 65536
-    words_refused =
-        scan_refused G S w n n0 count weights (kids_behind S ws₀) (lists_in (front_in ws₀)) start t (lists_in (front_in ws)) (kids_behind S ws) R less (lists_in (front_in ws₁)) y lists₁ least₁
-
-    pub words_end : y ≡ 256 → Connected G S (kids_behind S ws₀) (nodes_in (front_in ws₁)) (sizes_in (front_in ws₁)) (live_in (front_in ws₁)) (kids_behind S ws₁) t
-    words_end e =
-        subst (λ (l : List ℕ). Connected G S (kids_behind S ws₀) (nodes_in (front_in ws₁)) (sizes_in (front_in ws₁)) (live_in (front_in ws₁)) (flat_of S.array ++ l) t)
-        (sym (front_back ws y₁ h e₁).1)
-        (scan_ends G S w n n0 count weights (kids_behind S ws₀) (lists_in (front_in ws₀)) start t (lists_in (front_in ws)) (kids_behind S ws) R less (lists_in (front_in ws₁)) y lists₁ least₁ e)
-
-    module _ (y₂ y₃ : List ℕ) (u v : ℕ) (h₁ : 2320 ≤ length ws₁) (e₂ : length y₂ ≡ length (front_in ws₁))
-        (h₂ : 2320 ≤ length (back 0 2064 ws₁ y₂)) (e₃ : length y₃ ≡ length (part 2064 256 (back 0 2064 ws₁ y₂)))
-        (em : lists_in y₂ ≡ merged_in w n0 y (n0 + t) (n0 - t) (n + (count + t)) (lists_in (front_in ws₁)))
-        (eu : u ≡ get_or (nodes_in (front_in ws₁)) (first_at n0 (rows_in (front_in ws₁)) y) 0)
-        (ev : v ≡ get_or (nodes_in (front_in ws₁)) (second_at n0 (rows_in (front_in ws₁)) y) 0)
-        (ew : low y₃ ≡ with_node (kids_in (back 0 2064 ws₁ y₂)) t u v) (n₁ : y ≡ 256 → ⊥) (n₂ : y ≡ 257 → ⊥)
-      where
-        abbrev ws₂ : List ℕ
-        ws₂ = back 0 2064 ws₁ y₂
-
-        abbrev ws₃ : List ℕ
-        ws₃ = back 2064 256 ws₂ y₃
-
-        lists₃ : lists_in (front_in ws₃) ≡ merged_in w n0 y (n0 + t) (n0 - t) (n + (count + t)) (lists_in (front_in ws₁))
-        lists₃ = ap (λ (l : List ℕ). lists_in l) ((kids_back ws₂ y₃ h₂ e₃).0 ∙ (front_back ws₁ y₂ h₁ e₂).0) ∙ em
-
-        kids₃ : kids_behind S ws₃ ≡ with_node (kids_behind S ws) (count + t) u v
-        kids₃ =
-            ap (λ (l : List ℕ). flat_of S.array ++ l)
-            ((kids_back ws₂ y₃ h₂ e₃).1 ∙ ew ∙ ap (λ (l : List ℕ). with_node l t u v) ((front_back ws₁ y₂ h₁ e₂).1 ∙ (front_back ws y₁ h e₁).1))
-            ∙ sym (node_behind (flat_of S.array) (kids_in ws) count t u v (omega (arith, flat_length S.array, start.made)))
-
-        pub words_merge : Reached G S (kids_behind S ws₀) (t + 1) (lists_in (front_in ws₃)) (kids_behind S ws₃)
-        words_merge =
-            scan_merges G S w n n0 count weights (kids_behind S ws₀) (lists_in (front_in ws₀)) start t (lists_in (front_in ws)) (kids_behind S ws) R less (lists_in (front_in ws₁)) y lists₁ least₁
-            (lists_in (front_in ws₃)) (kids_behind S ws₃) lists₃
-            (kids₃ ∙ ap₂ (λ (a b : ℕ). with_node (kids_behind S ws) (count + t) a b) eu ev) n₁ n₂
+    pub scan_merges : (b : Choice) → r ≡ Ok (Some b) → Named K.rows (Some b) → (K' : Lists) (kids' : List ℕ) → K' ≡ merged_in n0 b (n0 + t) (n + (count + t)) K
+        → kids' ≡ with_node kids (count + t) (get_or K.nodes (first_chosen n0 b) 0) (get_or K.nodes (second_chosen n0 b) 0)
+        → Reached G S kids₀ (t + 1) K' kids'
+    scan_merges b z named K' kids' e e₆ =
+        let y : ℕ = b.table in
+        let ey : chosen_code r ≡ y = ap chosen_code z in
+        let h : get_or L.rows y 0 ≡ b.pair.bits * 512 + b.pair.other = ap (λ (l : Lists). get_or l.rows y 0) (sym ek) ∙ named in
+        let slot : b.pair.other ≡ get_or L.rows y 0 % 512 = sym (ap (λ (c : ℕ). c % 512) h ∙ pair_slot b.pair) in
+        let fs : first_chosen n0 b ≡ first_at n0 L.rows y = ap (λ (x : ℕ). first_of n0 x y) slot in
+        let gs : second_chosen n0 b ≡ second_at n0 L.rows y = ap (λ (x : ℕ). second_of n0 x y) slot in
+        let ss : b.pair.bits ≡ get_or L.rows y 0 / 512 = sym (ap (λ (c : ℕ). c / 512) h ∙ pair_size b.pair) in
+        subst (λ (l : Lists). Reached G S kids₀ (t + 1) l kids') (sym (e ∙ ap (merged_in n0 b (n0 + t) (n + (count + t))) ek))
+        (turn_merges G S 4 n n0 count weights kids₀ M₀ start t M kids R less y L.words L.rows refl refl (sym ey ∙ least_is)
+        (n0 + t) refl _ _ _ _ _ kids'
+        (ap₂ (λ (a c : ℕ). with_set L.words 4 (n0 + t) (merged_set L.words 4 a c)) fs gs)
+        refl
+        (ap (set L.sizes (n0 + t)) ss)
+        (ap₂ (λ (a c : ℕ). remaining a c L.live ++ ((n0 + t) ∷ [])) fs gs)
+        (ap₂ (λ (a c : ℕ). marked L.rows a c (n0 + t)) fs gs)
+        (e₆ ∙ ap (λ (l : Lists). with_node kids (count + t) (get_or l.nodes (first_chosen n0 b) 0) (get_or l.nodes (second_chosen n0 b) 0)) ek
+        ∙ ap₂ (λ (a c : ℕ). with_node kids (count + t) (get_or L.nodes a 0) (get_or L.nodes c 0)) fs gs)
+        (λ q. omega (arith, b.slot)) (λ q. omega (arith, b.slot)))

@@ -17,7 +17,7 @@ use Rattle.rows.specs.LeastRow.{LeastTo, nothing, too_broad, at, least_is}
 use Rattle.merging.specs.Listed.{rising_rises, listed_ends, listed_refuses, listed_merges}
 use Rattle.merging.specs.Tables.{HoldsList}
 use Rattle.merging.specs.Ruled.{says}
-use Rattle.parts.specs.Lists.{Lists}
+use Rattle.tables.specs.Lists.{Lists}
 use Rattle.merging.specs.Holds.{Given, Ghost, state_of, Holds, used_slots}
 
 module _ (G : Given) (S : Ghost) (M : Lists) (H : Holds G S M) where

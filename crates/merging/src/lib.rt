@@ -1,157 +1,115 @@
 #![tactic(auto)]
-// Greedy's merging, turn after turn: the two tables of the least pair make one.
-// A table keeps its slot, and each new table takes the next one. By slot: its set, its node number, its size bits, its least pair.
-ghost use Rattle.std.specs.Prelude.{[], ◌∷◌, ◌++◌, ◌≡◌, ◌+◌, ◌<◌, ◌≤◌, length, get_or, take};
-ghost use Rattle.spec.specs.Memory.{over};
-ghost use Rattle.slots.specs.Weigh.{Light};
-ghost use Rattle.parts.specs.Parts.{low};
-ghost use Rattle.parts.specs.Lists.{nodes_in, sizes_in, live_in, rows_in, front_in, lists_in};
+//! Greedy's merging, turn after turn: the two tables of the least pair make one.
+//! A table keeps its slot, and each new table takes the next one.
+ghost use Rattle.std.specs.Prelude.{[], ◌∷◌, ◌++◌, ◌≡◌, ◌+◌, ◌<◌, ◌≤◌, length, get_or, IfOk, IfErr};
+ghost use Rattle.spec.specs.declared.Refusal.TheVariants.{TableTooWide};
+ghost use Rattle.tables.specs.Lists.{coded, lists_in, IsSameLoan};
 ghost use Rattle.rows.specs.Rows.{least_of};
+ghost use Rattle.rows.specs.Within.{chosen_code, NamedIn};
 ghost use Rattle.merging.specs.Listed.{remaining};
-ghost use Rattle.merging.specs.Removed.{kept_at, place_after};
 ghost use Rattle.merging.specs.Holds.{Given, Ghost};
 ghost use Rattle.merging.specs.Connect.{Start, Connected};
 ghost use Rattle.merging.specs.Scans.{kids_behind};
-ghost use Rattle.merging.specs.Merge.{first_at, second_at, marked, with_node, scanned_in, merged_in};
+ghost use Rattle.merging.specs.Merge.{first_chosen, second_chosen, with_node, scanned_in, merged_in};
 
-use rows::{GONE, STALE};
-use scores::{NONE, TOO_WIDE};
+use arrayvec::ArrayVec;
+use spec::Refusal;
+use tables::Row;
+use tables::partner::Choice;
+use tables::scoring::Scoring;
+use tables::slotted::Tables;
 
-// What is answered where a pair is too wide.
+/// What is answered, as a number, where a pair is too wide.
 pub const REFUSED: usize = 65536;
 
-// Puts the `i`-th of `live` at place `t`, unless it is `x` or `y`, and returns the place past it.
-fn keep_at(live: &mut [u64], i: usize, t: usize, x: usize, y: usize) -> usize
-    requires { t < 1048576 }
-    ensures { (result ≡ place_after x y t (get_or (low live.old) i 0)) × (low live.new ≡ kept_at x y (low live.old) t (get_or (low live.old) i 0)) }
+/// Takes the slots `x` and `y` out of a list.
+pub fn remove(live: &mut ArrayVec<u8, 256>, x: u8, y: u8)
+    ensures items { live.new.items ≡ remaining x y live.old.items }
+    ensures few { length live.new.items ≤ length live.old.items }
 {
-    let v = parts::get_low(live, i);
-    let u = v as usize;
-    if u == x {
-        return t;
-    }
-    if u == y {
-        return t;
-    }
-    parts::put_low(live, t, v);
-    t + 1
+    live.retain(|slot| *slot != x && *slot != y);
 }
 
-// Takes `x` and `y` out of the first `m` of `live`, and returns how many are left.
-pub fn remove(live: &mut [u64], m: usize, x: usize, y: usize) -> usize
-    requires { (m ≤ length live.old) × (m < 1048576) }
-    ensures { (result ≡ length (remaining x y (take m (low live.old)))) × (low live.new ≡ over (low live.old) (remaining x y (take m (low live.old)))) }
-{
-    let mut t: usize = 0;
-    for i in 0..m {
-        t = keep_at(live, i, t, x, y);
-    }
-    t
-}
-
-// Takes `x` and `y` out of the first `m` of `live`, and puts `z` after what is left.
-fn replace(live: &mut [u64], m: usize, x: usize, y: usize, z: usize)
-    requires { (m ≤ length live.old) × (m < 1048576) × (z < 65536) }
-    ensures { low live.new ≡ over (low live.old) (remaining x y (take m (low live.old)) ++ (z ∷ [])) }
-{
-    let k = remove(live, m, x, y);
-    parts::put_low(live, k, z as u16);
-}
-
-// The tables `x` and `y` are gone, and the least pair of `z` is yet to be found.
-fn mark(rows: &mut [u64], x: usize, y: usize, z: usize)
-    ensures { rows.new ≡ marked rows.old x y z }
-{
-    cells::put64(rows, x, GONE as u64);
-    cells::put64(rows, y, GONE as u64);
-    cells::put64(rows, z, STALE as u64);
-}
-
-// Puts the numbers of the tables `x` and `y` down as the children of the node at place `count`.
+/// Puts the numbers of two tables down as the children of the node at place `count`.
 pub fn put_node(kids: &mut [u16], count: usize, l: u16, r: u16)
     requires { count < 1048576 }
     ensures { kids.new ≡ with_node kids.old count l r }
 {
-    cells::put16(kids, count * 2, l);
-    cells::put16(kids, count * 2 + 1, r);
+    cells::put(kids, count * 2, l);
+    cells::put(kids, count * 2 + 1, r);
 }
 
-// The same in words.
-pub fn put_children(kids: &mut [u64], i: usize, l: u16, r: u16)
-    requires { i < 1048576 }
-    ensures { low kids.new ≡ with_node (low kids.old) i l r }
-{
-    parts::put_low(kids, i * 2, l);
-    parts::put_low(kids, i * 2 + 1, r);
-}
-
-// The numbers of two tables that make one.
+/// The numbers of two tables that make one.
 #[derive(Clone, Copy)]
 struct Children {
     left: u16,
     right: u16,
 }
 
-// Merges the tables of the pair that stands for `y` into slot `z`.
-fn merge(
-    ws: &mut [u64],
-    w: usize,
-    n: usize,
-    n0: usize,
-    y: usize,
-    z: usize,
-    m: usize,
-    count: usize,
-) -> Children
-    requires { (w ≤ 16) × (y < 65536) × (z < 65536) × (m ≤ 256) × (n + count < 65536) × (2064 ≤ length ws.old) }
-    ensures lists { lists_in ws.new ≡ merged_in w n0 y z m (n + count) (lists_in ws.old) }
-    ensures children { (result.left ≡ get_or (nodes_in ws.old) (first_at n0 (rows_in ws.old) y) 0) × (result.right ≡ get_or (nodes_in ws.old) (second_at n0 (rows_in ws.old) y) 0) }
+/// Merges the tables of a choice into slot `z`, whose number is `node`.
+fn merge(tables: &mut Tables, start: usize, choice: Choice, z: u8, node: u16) -> Children
+    requires { length tables.old.live.items < 256 }
+    ensures same { IsSameLoan tables.old tables.new }
+    ensures lists { lists_in tables.new ≡ merged_in start choice z node (lists_in tables.old) }
+    ensures few { length tables.new.live.items ≤ length tables.old.live.items + 1 }
+    ensures left { result.left ≡ get_or tables.old.nodes (first_chosen start choice) 0 }
+    ensures right { result.right ≡ get_or tables.old.nodes (second_chosen start choice) 0 }
 {
-    let r = scores::at(&ws[1808..2064], y);
-    let x = r % 512;
-    let f = scores::first(n0, x, y);
-    let g = scores::second(n0, x, y);
-    let left = parts::get_low(&ws[1040..1296], f);
-    let right = parts::get_low(&ws[1040..1296], g);
-    live::put_merged(&mut ws[0..1040], w, f, g, z);
-    parts::put_low(&mut ws[1040..1296], z, (n + count) as u16);
-    cells::put64(&mut ws[1296..1552], z, (r / 512) as u64);
-    mark(&mut ws[1808..2064], f, g, z);
-    replace(&mut ws[1552..1808], m, f, g, z);
+    let first = scores::first(start, choice.pair.other, choice.table);
+    let second = scores::second(start, choice.pair.other, choice.table);
+    let left = tables.nodes[usize::from(first)];
+    let right = tables.nodes[usize::from(second)];
+    live::put_merged(
+        &mut *tables.sets,
+        usize::from(first),
+        usize::from(second),
+        usize::from(z),
+    );
+    tables.nodes[usize::from(z)] = node;
+    tables.sizes[usize::from(z)] = u16::from(choice.pair.bits);
+    tables.rows[usize::from(first)] = Row::Gone;
+    tables.rows[usize::from(second)] = Row::Gone;
+    tables.rows[usize::from(z)] = Row::Stale;
+    remove(&mut tables.live, first, second);
+    tables.live.push(z);
     Children { left, right }
 }
 
-// Scans the first `m` live tables for the least pair of all: the table that has it, NONE, or TOO_WIDE.
-fn scan(ws: &mut [u64], w: usize, weights: &[u8], n0: usize, m: usize) -> usize
-    requires { (w ≤ 16) × Light weights.now × (2064 ≤ length ws.old) }
-    ensures lists { lists_in ws.new ≡ scanned_in w weights.now n0 m (lists_in ws.old) }
-    ensures least { (result ≡ least_of (sizes_in ws.new) n0 (rows_in ws.new) (live_in ws.new) m) × (result < 65536) }
+/// Scans the live tables for the least pair of all, none where no two share an index; refused where a pair is too wide.
+fn scan(tables: &mut Tables, scoring: &Scoring) -> Result<Option<Choice>, Refusal>
+    ensures same { IsSameLoan tables.old tables.new }
+    ensures lists { lists_in tables.new ≡ scanned_in scoring.now.weights.now scoring.now.start (lists_in tables.old) }
+    ensures least { chosen_code result ≡ least_of tables.new.sizes scoring.now.start (coded tables.new.rows) tables.new.live.items (length tables.new.live.items) }
+    ensures named { NamedIn (coded tables.new.rows) result }
+    ensures why { IfErr result (λ r. r ≡ TableTooWide) }
 {
-    live::put_holders(ws, w, m);
-    rows::renew_all(ws, w, weights, n0, m);
-    rows::least(&ws[1296..1552], n0, &ws[1808..2064], &ws[1552..1808], m)
+    live::mark_holders(tables);
+    rows::renew_all(tables, scoring);
+    rows::least(&*tables, scoring)
 }
 
-// Merges the least pair of the `n0` live tables and its like until none share an index, and returns how many merges there were, or REFUSED.
-// The array so far has `count` nodes. Each merge makes one more, whose children are put into the words behind the lists.
-pub fn connect(ws: &mut [u64], w: usize, weights: &[u8], n: usize, n0: usize, count: usize) -> usize
-    requires { (w ≤ 16) × Light weights.now × (n0 ≤ 256) × (n < 16384) × (count < 16384) × (2320 ≤ length ws.old) }
-    ensures bound_unless_refused { (result ≡ 65536 → ⊥) → result ≤ n0 }
-    ensures connected { (G : Given) (S : Ghost) → Start G S (lists_in (front_in ws.old)) w n n0 count weights.now (kids_behind S ws.old) → Connected G S (kids_behind S ws.old) (nodes_in (front_in ws.new)) (sizes_in (front_in ws.new)) (live_in (front_in ws.new)) (kids_behind S ws.new) result }
+/// Merges the least pair of the live tables and its like until none share an index, and returns how many merges there were; refused where a
+/// pair is too wide. The array so far has `count` nodes over `n` leaves. Each merge makes one more, whose children are put into `kids`.
+pub fn connect(
+    tables: &mut Tables,
+    scoring: &Scoring,
+    n: usize,
+    count: usize,
+    kids: &mut [u16],
+) -> Result<usize, Refusal>
+    requires { (n < 16384) × (count < 16384) × (length tables.old.live.items ≤ 128) }
+    ensures same { IsSameLoan tables.old tables.new }
+    ensures bound { IfOk result (λ t. t ≤ scoring.now.start) }
+    ensures connected { (G : Given) (S : Ghost) → Start G S (lists_in tables.old) 4 n scoring.now.start count scoring.now.weights.now (kids_behind S kids.old) → Connected G S (kids_behind S kids.old) tables.new.nodes tables.new.sizes tables.new.live.items (kids_behind S kids.new) result }
 {
-    let mut t: usize = 0;
-    while t < n0 {
-        let m = n0 - t;
-        let y = scan(&mut ws[0..2064], w, weights, n0, m);
-        if y == TOO_WIDE {
-            return REFUSED;
-        }
-        if y == NONE {
-            return t;
-        }
-        let c = merge(&mut ws[0..2064], w, n, n0, y, n0 + t, m, count + t);
-        put_children(&mut ws[2064..2320], t, c.left, c.right);
-        t += 1;
+    for t in 0..scoring.start {
+        let Some(choice) = scan(tables, scoring)? else {
+            return Ok(t);
+        };
+        let slot = (scoring.start + t) as u8;
+        let node = (n + (count + t)) as u16;
+        let children = merge(tables, scoring.start, choice, slot, node);
+        put_node(kids, t, children.left, children.right);
     }
-    t
+    Ok(scoring.start)
 }

@@ -1,3 +1,2 @@
 pub mod Smallest
 pub mod Joined
-pub mod Within

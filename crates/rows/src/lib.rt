@@ -1,93 +1,121 @@
 #![tactic(auto)]
-// The least pair of each live table, kept from turn to turn in a list by slot, and the least of all.
-ghost use Rattle.std.specs.Prelude.{◌≡◌, ◌<◌, ◌≤◌, length};
-ghost use Rattle.parts.specs.Parts.{low};
-ghost use Rattle.parts.specs.Lists.{lists_in};
-ghost use Rattle.slots.specs.Weigh.{Light};
+//! The least pair of each live table with those before it, kept from turn to turn by slot, and the least of all.
+ghost use Rattle.std.specs.Prelude.{◌≡◌, ◌<◌, eqb, length, IfErr};
+ghost use Rattle.spec.specs.declared.Refusal.TheVariants.{TableTooWide};
+ghost use Rattle.tables.specs.Lists.{code, least_code, coded, lists_in, IsSameLoan};
 ghost use Rattle.rows.specs.Rows.{stands, bettered, least_of};
-ghost use Rattle.rows.specs.Within.{renewed_in, all_renewed};
+ghost use Rattle.rows.specs.Within.{choice_code, chosen_code, Named, NamedIn, sooner_of, renewed_in, all_renewed};
 
-use scores::{NONE, TOO_WIDE};
+use spec::Refusal;
+use tables::Row;
+use tables::partner::{Choice, Partner};
+use tables::scoring::Scoring;
+use tables::slotted::Tables;
 
-// What stands in the list for a table whose least pair is yet to be found, and for a table that is gone.
-pub const STALE: usize = 258;
-
-pub const GONE: usize = 259;
-
-// Does an entry stand: it was found, and its other table is not gone.
-fn still(rows: &[u64], r: usize) -> bool
-    ensures { result ≡ stands rows.now r }
+/// Is the table of a row gone.
+fn is_gone(row: Row) -> bool
+    ensures { result ≡ eqb (code row) 259 }
 {
-    if r == STALE {
-        return false;
-    }
-    scores::at(rows, r % 512) != GONE
+    matches!(row, Row::Gone)
 }
 
-// Finds the entry of the `k`-th live table anew, where it does not stand.
-fn renew(ws: &mut [u64], w: usize, weights: &[u8], n0: usize, k: usize)
-    requires { (w ≤ 16) × Light weights.now × (2064 ≤ length ws.old) }
-    ensures { lists_in ws.new ≡ renewed_in w weights.now n0 k (lists_in ws.old) }
+/// Does a row stand: it was found, and its other table is not gone.
+fn still(tables: &Tables, row: Row) -> bool
+    ensures { result ≡ stands (coded tables.now.rows) (code row) }
 {
-    let y = parts::low_at(&ws[1552..1808], k);
-    let r = scores::at(&ws[1808..2064], y);
-    if still(&ws[1808..2064], r) {
+    match row {
+        Row::Stale => false,
+        Row::Found(Some(pair)) => !is_gone(tables.rows[usize::from(pair.other)]),
+        Row::Found(None) => true,
+        Row::Gone => true,
+        Row::TooWide => true,
+    }
+}
+
+/// What was found, as a row.
+fn known(found: Result<Option<Partner>, Refusal>) -> Row
+    ensures { code result ≡ least_code found }
+{
+    match found {
+        Ok(pair) => Row::Found(pair),
+        Err(_) => Row::TooWide,
+    }
+}
+
+/// Finds the row of the `k`-th live table anew, where it does not stand.
+fn renew(tables: &mut Tables, scoring: &Scoring, k: usize)
+    requires { k < length tables.old.live.items }
+    ensures same { IsSameLoan tables.old tables.new }
+    ensures lists { lists_in tables.new ≡ renewed_in scoring.now.weights.now scoring.now.start k (lists_in tables.old) }
+{
+    let y = tables.live.as_slice()[k];
+    let row = tables.rows[usize::from(y)];
+    if still(&*tables, row) {
         return;
     }
-    let b = scores::row(
-        &ws[0..1040],
-        w,
-        weights,
-        &ws[1296..1552],
-        n0,
-        &ws[1552..1808],
-        k,
-        y,
-    );
-    cells::put64(&mut ws[1808..2064], y, b as u64);
+    let found = known(scores::row(&*tables, scoring, k, y));
+    tables.rows[usize::from(y)] = found;
 }
 
-// The same for the first `m` live tables.
-pub fn renew_all(ws: &mut [u64], w: usize, weights: &[u8], n0: usize, m: usize)
-    requires { (w ≤ 16) × Light weights.now × (2064 ≤ length ws.old) }
-    ensures { lists_in ws.new ≡ all_renewed w weights.now n0 (lists_in ws.old) m }
+/// The same for all live tables.
+pub fn renew_all(tables: &mut Tables, scoring: &Scoring)
+    ensures same { IsSameLoan tables.old tables.new }
+    ensures lists { lists_in tables.new ≡ all_renewed scoring.now.weights.now scoring.now.start (lists_in tables.old) (length tables.old.live.items) }
 {
-    for k in 0..m {
-        renew(ws, w, weights, n0, k);
+    // By an index, since the rows of the same tables are written.
+    for k in 0..tables.live.len() {
+        renew(tables, scoring, k);
     }
 }
 
-// The table with the least pair so far, when `y` is looked at too.
-fn better(sizes: &[u64], n0: usize, rows: &[u64], best: usize, y: usize) -> usize
-    ensures { result ≡ bettered sizes.now n0 rows.now best y }
+/// Of the least pair so far and one more, the one that comes first.
+fn sooner(tables: &Tables, scoring: &Scoring, best: Option<Choice>, next: Choice) -> Choice
+    ensures { result ≡ sooner_of tables.now.sizes scoring.now.start best next }
 {
-    if best == TOO_WIDE {
-        return best;
+    let Some(known) = best else {
+        return next;
+    };
+    let score = scores::score(tables, scoring, next.table, next.pair);
+    if score.is_before(scores::score(tables, scoring, known.table, known.pair)) {
+        next
+    } else {
+        known
     }
-    let r = scores::at(rows, y);
-    if r == TOO_WIDE {
-        return TOO_WIDE;
-    }
-    if r == NONE {
-        return best;
-    }
-    if best == NONE {
-        return y;
-    }
-    let b = scores::at(rows, best);
-    if scores::sooner(sizes, n0, r % 512, y, r / 512, b % 512, best, b / 512) {
-        return y;
-    }
-    best
 }
 
-// Of the first `m` live tables, the one with the least pair; NONE; or TOO_WIDE where a pair is too wide.
-pub fn least(sizes: &[u64], n0: usize, rows: &[u64], live: &[u64], m: usize) -> usize
-    ensures { (result ≡ least_of sizes.now n0 rows.now (low live.now) m) × (result < 65536) }
+/// The least pair so far, when that of `y` is looked at too; refused where it is too wide.
+fn better(
+    tables: &Tables,
+    scoring: &Scoring,
+    best: Option<Choice>,
+    y: u8,
+) -> Result<Option<Choice>, Refusal>
+    ensures least { Named (coded tables.now.rows) best → chosen_code result ≡ bettered tables.now.sizes scoring.now.start (coded tables.now.rows) (choice_code best) y }
+    ensures named { Named (coded tables.now.rows) best → NamedIn (coded tables.now.rows) result }
+    ensures why { IfErr result (λ r. r ≡ TableTooWide) }
 {
-    let mut best = NONE;
-    for k in 0..m {
-        best = better(sizes, n0, rows, best, parts::low_at(live, k));
+    let row = tables.rows[usize::from(y)];
+    match row {
+        Row::TooWide => Err(Refusal::TableTooWide),
+        Row::Found(Some(pair)) => {
+            let next = Choice { table: y, pair };
+            Ok(Some(sooner(tables, scoring, best, next)))
+        }
+        Row::Found(None) => Ok(best),
+        Row::Gone => Ok(best),
+        Row::Stale => Ok(best),
     }
-    best
+}
+
+/// The least pair of all live tables, none where no two share an index; refused where a pair is too wide.
+pub fn least(tables: &Tables, scoring: &Scoring) -> Result<Option<Choice>, Refusal>
+    ensures least { chosen_code result ≡ least_of tables.now.sizes scoring.now.start (coded tables.now.rows) tables.now.live.items (length tables.now.live.items) }
+    ensures named { NamedIn (coded tables.now.rows) result }
+    ensures why { IfErr result (λ r. r ≡ TableTooWide) }
+{
+    let mut best = None;
+    for &y in tables.live.as_slice() {
+        best = better(tables, scoring, best, y)?;
+    }
+    Ok(best)
 }

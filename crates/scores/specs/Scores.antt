@@ -1,10 +1,10 @@
 -- Scores of pairs by sizes in bits, which of two pairs comes first, and the least pair of a table with those before it in a list.
 -- Assumes nothing.
-use Rattle.std.specs.Prelude.{Bool, true, false, ◌||◌, cond, ◌≡◌, refl, List, ℕ, ◌+◌, ◌*◌, ◌/◌, ◌%◌, ◌^◌, ◌≤◌, ◌<◌, eqb, ltb, get_or}
-use Rattle.std.proofs.Common.{◌∙◌, ap, eq-eqb, ne_eqb, lt-ltb, le-ltb}
+use Rattle.std.specs.Prelude.{Bool, true, false, ◌||◌, cond, ◌≡◌, refl, List, ℕ, zero, suc, ◌+◌, ◌-◌, ◌*◌, ◌/◌, ◌%◌, ◌^◌, ◌≤◌, ◌<◌, eqb, ltb, get_or}
+use Rattle.std.proofs.Common.{sym, ◌∙◌, ap, arith, eq-eqb, ne_eqb, lt-ltb, le-ltb}
 use Rattle.spec.specs.Greedy.{Key, key_before}
 use Rattle.laws.specs.Booleans.{or_intror}
-use Rattle.cells.specs.Loop.{turns}
+use Rattle.cells.specs.Loop.{turns, turns_next}
 use Rattle.live.specs.Common.{shares}
 use Rattle.live.specs.Merged.{pair_bits}
 
@@ -37,6 +37,11 @@ over_forty sizes x y = ltb 40 (get_or sizes x 0) || ltb 40 (get_or sizes y 0)
 -- other slot.
 abbrev pub code_of : ℕ → ℕ → ℕ
 code_of m x = m * 512 + x
+
+-- of the least pair of y so far and its pair with x, whose merged table has m bits, the one that comes first
+abbrev pub lesser_of : List ℕ → ℕ → ℕ → ℕ → ℕ → ℕ → ℕ
+lesser_of sizes n₀ y best x m =
+    cond (eqb best 256 || key_before (key_at sizes n₀ x y m) (key_at sizes n₀ (best % 512) y (best / 512))) (code_of m x) best
 
 -- the pair of y with x is considered too
 unfoldable pub considered : List ℕ → ℕ → List ℕ → List ℕ → ℕ → ℕ → ℕ → ℕ → ℕ
@@ -82,6 +87,10 @@ module _ (ws : List ℕ) (W : ℕ) (wt sizes : List ℕ) (n₀ y best x : ℕ) w
       narrow : (ltb 40 bits || over_forty sizes x y) ≡ false
       narrow = ap (λ (b : Bool). b || over_forty sizes x y) (le-ltb 40 bits le) ∙ o
 
+      -- the lesser of the two
+      pub consider_lesser : lesser_of sizes n₀ y best x bits ≡ considered ws W wt sizes n₀ y best x
+      consider_lesser = to_scored false _ _ narrow refl refl
+
       -- the first pair; a pair that comes before the least so far; and one that does not
       pub consider_first : best ≡ 256 → code_of bits x ≡ considered ws W wt sizes n₀ y best x
       consider_first e = to_scored false true _ narrow (eq-eqb best 256 e) refl
@@ -99,3 +108,27 @@ module _ (ws : List ℕ) (W : ℕ) (wt sizes : List ℕ) (n₀ y best x : ℕ) w
 -- the least pair of y with the first k slots of a list
 unfoldable pub row_of : List ℕ → ℕ → List ℕ → List ℕ → ℕ → List ℕ → ℕ → ℕ → ℕ
 row_of ws W wt sizes n₀ live k y = turns (λ i best. considered ws W wt sizes n₀ y best (get_or live i 0)) 256 k
+
+-- ---- as the loop finds it ----
+
+pub row_none : (ws : List ℕ) (W : ℕ) (wt sizes : List ℕ) (n₀ : ℕ) (live : List ℕ) (y : ℕ) → 256 ≡ row_of ws W wt sizes n₀ live 0 y
+unfolding row_of turns
+row_none ws W wt sizes n₀ live y = refl
+
+module _ (ws : List ℕ) (W : ℕ) (wt sizes : List ℕ) (n₀ : ℕ) (live : List ℕ) (y : ℕ) where
+  pub row_next : (k best b x : ℕ) → best ≡ row_of ws W wt sizes n₀ live k y → x ≡ get_or live k 0
+      → b ≡ considered ws W wt sizes n₀ y best x → b ≡ row_of ws W wt sizes n₀ live (k + 1) y
+  unfolding row_of
+  row_next k best b x e ex eb = turns_next _ _ k e (eb ∙ ap (considered ws W wt sizes n₀ y best) ex)
+
+  -- once a pair is too wide, it stays so
+  sticks : (k d : ℕ) → row_of ws W wt sizes n₀ live k y ≡ 257 → row_of ws W wt sizes n₀ live (d + k) y ≡ 257
+  unfolding row_of turns
+  sticks k zero e = ap (λ (n : ℕ). row_of ws W wt sizes n₀ live n y) (let z : 0 + k ≡ k = omega arith in z) ∙ e
+  sticks k (suc d) e =
+      ap (λ (n : ℕ). row_of ws W wt sizes n₀ live n y) (let z : suc d + k ≡ suc (d + k) = omega arith in z)
+      ∙ sym (consider_refused ws W wt sizes n₀ y (row_of ws W wt sizes n₀ live (d + k) y) (get_or live (d + k) 0) (sticks k d e)) ∙ sticks k d e
+
+  pub row_sticks : (j k : ℕ) → j ≤ k → row_of ws W wt sizes n₀ live j y ≡ 257 → 257 ≡ row_of ws W wt sizes n₀ live k y
+  row_sticks j k h e =
+      sym (sticks j (k - j) e) ∙ ap (λ (n : ℕ). row_of ws W wt sizes n₀ live n y) (let z : (k - j) + j ≡ k = omega arith in z)

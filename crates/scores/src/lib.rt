@@ -1,151 +1,121 @@
 #![tactic(auto)]
-// Scores of pairs of live tables, and the least pair of a table.
-ghost use Rattle.std.specs.Prelude.{◌&&◌, ◌||◌, ◌≡◌, ◌+◌, ◌^◌, ◌<◌, ◌≤◌, eqb, ltb, get_or};
-ghost use Rattle.parts.specs.Parts.{low};
-ghost use Rattle.spec.specs.Greedy.{key_before};
-ghost use Rattle.slots.specs.Weigh.{Light};
-ghost use Rattle.scores.specs.Scores.{power, first_of, second_of, key_at, over_forty, considered, row_of};
+//! Scores of pairs of live tables, and the least pair of a table with those before it.
+ghost use Rattle.std.specs.Prelude.{◌≡◌, ◌+◌, ◌^◌, ◌<◌, ◌≤◌, length, get_or, Some};
+ghost use Rattle.tables.specs.Lists.{pair_code, least_code};
+ghost use Rattle.tables.specs.Scores.{Scores};
+ghost use Rattle.scores.specs.Scores.{power, first_of, second_of, key_at, over_forty, lesser_of, considered, row_of};
 
-// What is said of the pairs of a table where none is to be named: there is none, or one is too wide.
-pub const NONE: usize = 256;
+use spec::Refusal;
+use tables::Score;
+use tables::partner::Partner;
+use tables::scoring::Scoring;
+use tables::slotted::Tables;
 
-pub const TOO_WIDE: usize = 257;
-
-// The number that stands at `i`, as wide as an index.
-pub fn at(words: &[u64], i: usize) -> usize
-    ensures { result ≡ get_or words.now i 0 }
+/// 2 to the power `bits`, and 0 above 40.
+fn exp2(bits: usize) -> u64
+    ensures { (result ≡ power bits) × (result ≤ 2 ^ 40) }
 {
-    cells::get64(words, i) as usize
+    if bits < 41 { 1 << bits } else { 0 }
 }
 
-fn exp2(b: usize) -> u64
-    ensures { (result ≡ power b) × (result ≤ 2 ^ 40) }
+/// What a merge of slots `x` and `y` takes.
+fn takes(tables: &Tables, x: u8, y: u8) -> u64
+    ensures { (result ≡ power (get_or tables.now.sizes x 0) + power (get_or tables.now.sizes y 0)) × (result ≤ 2 ^ 41) }
 {
-    if b < 41 { 1 << b } else { 0 }
+    let left = usize::from(tables.sizes[usize::from(x)]);
+    let right = usize::from(tables.sizes[usize::from(y)]);
+    exp2(left) + exp2(right)
 }
 
-// What a merge of slots `x` and `y` takes.
-fn takes(sizes: &[u64], x: usize, y: usize) -> u64
-    ensures { (result ≡ power (get_or sizes.now x 0) + power (get_or sizes.now y 0)) × (result ≤ 2 ^ 41) }
+/// Of two slots, the lower first, the one that goes first in their pair: `start` slots are the start's.
+pub fn first(start: usize, x: u8, y: u8) -> u8
+    ensures { result ≡ first_of start x y }
 {
-    exp2(at(sizes, x)) + exp2(at(sizes, y))
+    if usize::from(y) < start { x } else { y }
 }
 
-// Of two slots, the lower first, the one that goes first in their pair, and the one that goes second: `n0` slots are the start's.
-pub fn first(n0: usize, x: usize, y: usize) -> usize
-    ensures { result ≡ first_of n0 x y }
+/// The one that goes second.
+pub fn second(start: usize, x: u8, y: u8) -> u8
+    ensures { result ≡ second_of start x y }
 {
-    if y < n0 { x } else { y }
+    if usize::from(y) < start { y } else { x }
 }
 
-pub fn second(n0: usize, x: usize, y: usize) -> usize
-    ensures { result ≡ second_of n0 x y }
+/// The place in greedy's order of the pair of `y` with another table.
+pub fn score(tables: &Tables, scoring: &Scoring, y: u8, pair: Partner) -> Score
+    ensures { Scores (key_at tables.now.sizes scoring.now.start pair.other y pair.bits) result }
 {
-    if y < n0 { y } else { x }
-}
-
-// By the first numbers, then by the second, then by the third: is `a`, `f`, `s` before `b`, `g`, `t`.
-fn precedes(a: u64, b: u64, f: usize, g: usize, s: usize, t: usize) -> bool
-    ensures { result ≡ (ltb a b || (eqb a b && (ltb f g || (eqb f g && ltb s t)))) }
-{
-    if a < b {
-        return true;
+    Score {
+        raised: exp2(usize::from(pair.bits)) + (1 << 41) - takes(tables, pair.other, y),
+        first: first(scoring.start, pair.other, y),
+        second: second(scoring.start, pair.other, y),
     }
-    if b < a {
-        return false;
-    }
-    if f < g {
-        return true;
-    }
-    if g < f {
-        return false;
-    }
-    s < t
 }
 
-// Does the pair of slots `x` and `y`, with `m` merged bits, come before that of `u` and `v`, with `b`.
-pub fn sooner(
-    sizes: &[u64],
-    n0: usize,
-    x: usize,
-    y: usize,
-    m: usize,
-    u: usize,
-    v: usize,
-    b: usize,
-) -> bool
-    ensures { result ≡ key_before (key_at sizes.now n0 x y m) (key_at sizes.now n0 u v b) }
+/// Has one of two slots more than 40 bits.
+fn too_wide(tables: &Tables, x: u8, y: u8) -> bool
+    ensures { result ≡ over_forty tables.now.sizes x y }
 {
-    let mine = exp2(m) + takes(sizes, u, v);
-    let other = exp2(b) + takes(sizes, x, y);
-    let f = first(n0, x, y);
-    let g = first(n0, u, v);
-    precedes(mine, other, f, g, second(n0, x, y), second(n0, u, v))
+    40 < tables.sizes[usize::from(x)] || 40 < tables.sizes[usize::from(y)]
 }
 
-// Has one of two slots more than 40 bits.
-fn too_wide(sizes: &[u64], x: usize, y: usize) -> bool
-    ensures { result ≡ over_forty sizes.now x y }
+/// Of the least pair of `y` so far and one more, the one that comes first.
+fn lesser(
+    tables: &Tables,
+    scoring: &Scoring,
+    y: u8,
+    best: Option<Partner>,
+    pair: Partner,
+) -> Partner
+    ensures { pair_code (Some result) ≡ lesser_of tables.now.sizes scoring.now.start y (pair_code best) pair.other pair.bits }
 {
-    if 40 < at(sizes, x) {
-        return true;
+    let Some(known) = best else {
+        return pair;
+    };
+    if score(tables, scoring, y, pair).is_before(score(tables, scoring, y, known)) {
+        pair
+    } else {
+        known
     }
-    40 < at(sizes, y)
 }
 
-// The least pair of `y` so far, when its pair with `x` is looked at too.
+/// The least pair of `y` so far, when its pair with `x` is looked at too; refused where that is too wide.
 fn consider(
-    ws: &[u64],
-    w: usize,
-    weights: &[u8],
-    sizes: &[u64],
-    n0: usize,
-    y: usize,
-    best: usize,
-    x: usize,
-) -> usize
-    requires { (w ≤ 16) × (x < 1048576) × (y < 1048576) × Light weights.now }
-    ensures { result ≡ considered ws.now w weights.now sizes.now n0 y best x }
+    tables: &Tables,
+    scoring: &Scoring,
+    y: u8,
+    best: Option<Partner>,
+    x: u8,
+) -> Result<Option<Partner>, Refusal>
+    ensures { least_code result ≡ considered tables.now.sets.now 4 scoring.now.weights.now tables.now.sizes scoring.now.start y (pair_code best) x }
 {
-    if best == TOO_WIDE {
-        return best;
+    let left = usize::from(x);
+    let right = usize::from(y);
+    if !live::share(&*tables.sets, left, right) {
+        return Ok(best);
     }
-    if !live::share(ws, w, x, y) {
-        return best;
+    let bits = live::merged_size(&*tables.sets, left, right, scoring.weights);
+    if 40 < bits {
+        return Err(Refusal::TableTooWide);
     }
-    let m = live::merged_size(ws, w, x, y, weights);
-    if 40 < m {
-        return TOO_WIDE;
+    if too_wide(tables, x, y) {
+        return Err(Refusal::TableTooWide);
     }
-    if too_wide(sizes, x, y) {
-        return TOO_WIDE;
-    }
-    if best == NONE {
-        return m * 512 + x;
-    }
-    if sooner(sizes, n0, x, y, m, best % 512, y, best / 512) {
-        return m * 512 + x;
-    }
-    best
+    let pair = Partner {
+        other: x,
+        bits: bits as u8,
+    };
+    Ok(Some(lesser(tables, scoring, y, best, pair)))
 }
 
-// The least pair of `y` with the first `k` slots of `live`: NONE, TOO_WIDE, or 512 times the merged size bits and the other slot.
-pub fn row(
-    ws: &[u64],
-    w: usize,
-    weights: &[u8],
-    sizes: &[u64],
-    n0: usize,
-    live: &[u64],
-    k: usize,
-    y: usize,
-) -> usize
-    requires { (w ≤ 16) × (y < 1048576) × Light weights.now }
-    ensures { result ≡ row_of ws.now w weights.now sizes.now n0 (low live.now) k y }
+/// The least pair of `y` with the first `k` of the live tables; refused where such a pair is too wide.
+pub fn row(tables: &Tables, scoring: &Scoring, k: usize, y: u8) -> Result<Option<Partner>, Refusal>
+    requires { k ≤ length tables.now.live.items }
+    ensures { least_code result ≡ row_of tables.now.sets.now 4 scoring.now.weights.now tables.now.sizes scoring.now.start tables.now.live.items k y }
 {
-    let mut best = NONE;
-    for i in 0..k {
-        best = consider(ws, w, weights, sizes, n0, y, best, parts::low_at(live, i));
+    let mut best = None;
+    for &x in &tables.live.as_slice()[..k] {
+        best = consider(tables, scoring, y, best, x)?;
     }
-    best
+    Ok(best)
 }

@@ -3,13 +3,14 @@ use Rattle.std.specs.Prelude.{Bool, false, not, ◌&&◌, ◌||◌, cond, ◌≡
 use Rattle.std.proofs.Math.Bool.{true, or_assoc, or-false}
 use Rattle.std.proofs.Math.Path.{refl, ap, fun_ext}
 use Rattle.std.proofs.Common.{sym, ◌∙◌, arith, add-one, get_or-set_same}
-use mathlib.Core.List.{List, []}
+use mathlib.Core.List.{List, [], ◌∷◌, ◌++◌}
+use Rattle.spec.specs.Lists.{from, range}
 use Prim.Native.Nat.{ℕ, zero, suc, ◌+◌, ◌*◌, ◌≤◌, ◌<◌}
 use Rattle.std.proofs.Math.Decide.{ℕ_discrete}
 use Rattle.std.proofs.Math.ListN.{length-set}
 use Rattle.std.proofs.Math.Seq.{get_or-set_other}
 use Rattle.laws.specs.Booleans.{by_cases}
-use Rattle.cells.specs.Loop.{turns}
+use Rattle.cells.specs.Loop.{turns, turns_next}
 use Rattle.slots.specs.Slots.{held, with_set, with_set_length, with_set_then, held_with, held_with_other}
 use Rattle.slots.specs.Writes.{among, leaf_has}
 use Rattle.slots.specs.Weigh.{weighed, either}
@@ -140,3 +141,39 @@ with_sizes ws W wt sizes n = put_all (λ i. weighed wt [] (either ws W i i) (W *
 -- the words of the start: what stays, and the leaves' sets
 unfoldable pub start_words : ℕ → ℕ → List ℕ → List ℕ → List ℕ → List ℕ → List ℕ → List ℕ
 start_words W n counts legs outputs leaves ws = with_leaves W counts legs leaves (with_outside W counts legs leaves ws outputs n) (length leaves)
+
+-- ---- as the loops write them ----
+
+-- no slot yet, and one slot more
+pub leaves_none : (W : ℕ) (counts legs leaves ws : List ℕ) → ws ≡ with_leaves W counts legs leaves ws 0
+unfolding with_leaves turns
+leaves_none W counts legs leaves ws = refl
+
+pub leaves_next : (W : ℕ) (counts legs leaves ws l r : List ℕ) (i v : ℕ) → l ≡ with_leaves W counts legs leaves ws i → v ≡ get_or leaves i 0
+    → r ≡ with_set l W i (leaf_has counts legs v) → r ≡ with_leaves W counts legs leaves ws (i + 1)
+unfolding with_leaves
+leaves_next W counts legs leaves ws l r i v e ev er =
+    turns_next _ _ i e (er ∙ ap (λ (u : ℕ). with_set l W i (leaf_has counts legs u)) ev)
+
+pub sizes_none : (ws : List ℕ) (W : ℕ) (wt sizes : List ℕ) → sizes ≡ with_sizes ws W wt sizes 0
+unfolding with_sizes turns
+sizes_none ws W wt sizes = refl
+
+pub sizes_next : (ws : List ℕ) (W : ℕ) (wt sizes l r : List ℕ) (i b : ℕ) → l ≡ with_sizes ws W wt sizes i → b ≡ weighed wt [] (either ws W i i) (W * 64)
+    → r ≡ set l i b → r ≡ with_sizes ws W wt sizes (i + 1)
+unfolding with_sizes
+sizes_next ws W wt sizes l r i b e eb er = turns_next _ _ i e (er ∙ ap (set l i) eb)
+
+-- the sets of the start, one step after the other
+pub sets_started : (W n : ℕ) (counts legs outputs leaves ws a b r : List ℕ) → a ≡ with_set ws W 257 (among leaves 0 (length leaves))
+    → b ≡ outside_to W counts legs a outputs n → r ≡ with_leaves W counts legs leaves b (length leaves) → r ≡ start_words W n counts legs outputs leaves ws
+unfolding start_words with_outside
+sets_started W n counts legs outputs leaves ws a b r ea eb er =
+    er ∙ ap (λ (x : List ℕ). with_leaves W counts legs leaves x (length leaves)) (eb ∙ ap (λ (x : List ℕ). outside_to W counts legs x outputs n) ea)
+
+from_more : (k n : ℕ) → from k (suc n) ≡ from k n ++ ((k + n) ∷ [])
+from_more k zero = ap (λ (j : ℕ). j ∷ []) (let e : k ≡ k + 0 = omega arith in e)
+from_more k (suc n) = ap (λ (l : List ℕ). k ∷ l) (from_more (suc k) n ∙ ap (λ (j : ℕ). from (suc k) n ++ (j ∷ [])) (let e : suc k + n ≡ k + suc n = omega arith in e))
+
+pub range_more : (n : ℕ) → range (n + 1) ≡ range n ++ (n ∷ [])
+range_more n = ap (from 0) (add-one n) ∙ from_more 0 n ∙ ap (λ (j : ℕ). range n ++ (j ∷ [])) (let e : 0 + n ≡ n = omega arith in e)

@@ -1,2 +1,1 @@
 pub mod Leaves
-pub mod Within

@@ -1,136 +1,113 @@
 #![tactic(auto)]
-// Greedy's start: the leaves' tables in slots of lent words, their sizes, and the indices that stay whatever is merged.
-ghost use Rattle.std.specs.Prelude.{◌≡◌, ◌*◌, ◌<◌, ◌≤◌, length, get_or, take};
+//! Greedy's start: the leaves' tables in slots of lent words, their sizes, and the indices that stay whatever is merged.
+ghost use Rattle.std.specs.Prelude.{◌≡◌, ◌+◌, ◌*◌, ◌<◌, ◌≤◌, length};
+ghost use Rattle.spec.specs.Lists.{range};
 ghost use Rattle.slots.specs.Slots.{with_set};
 ghost use Rattle.slots.specs.Writes.{among, leaf_has};
 ghost use Rattle.slots.specs.Weigh.{Light};
-ghost use Rattle.parts.specs.Parts.{low};
-ghost use Rattle.parts.specs.Lists.{nodes_in, lists_in};
-ghost use Rattle.start.specs.Leaves.{with_other, outside_to, put_all};
-ghost use Rattle.start.specs.Within.{leaf_sets_in, inside_in, weighed_in, prepared_in};
+ghost use Rattle.start.specs.Leaves.{with_other, outside_to, with_leaves, with_sizes, start_words, put_all};
 
-// Makes slot `s` the set of the indices of leaf `v`.
-fn put_leaf(ws: &mut [u64], w: usize, s: usize, counts: &[u8], legs: &[u16], v: usize)
-    requires { (w ≤ 16) × (s < 1048576) × (v < 65536) }
-    ensures { ws.new ≡ with_set ws.old w s (leaf_has counts.now legs.now v) }
+use arrayvec::ArrayVec;
+use tables::{OUTSIDE, TWICE, WIDTH};
+
+/// Makes slot `s` the set of the indices of leaf `v`.
+fn put_leaf(sets: &mut [u64], s: usize, counts: &[u8], legs: &[u16], v: usize)
+    requires { (s < 1048576) × (v < 65536) }
+    ensures { sets.new ≡ with_set sets.old 4 s (leaf_has counts.now legs.now v) }
 {
-    slots::empty(ws, w, s);
-    slots::put_all(ws, w, s, legs, v * 32, cells::at8(counts, v));
+    let count = usize::from(cells::get_or(counts, v, 0));
+    slots::empty(sets, WIDTH, s);
+    slots::put_all(sets, WIDTH, s, legs, v * 32, count);
 }
 
-// Makes slot i the set of the indices of the leaf whose number slot i has, for the first `n` slots.
-fn put_leaves(ws: &mut [u64], w: usize, counts: &[u8], legs: &[u16], n: usize)
-    requires { (w ≤ 16) × (n < 1048576) × (2064 ≤ length ws.old) }
-    ensures { lists_in ws.new ≡ leaf_sets_in w counts.now legs.now n (lists_in ws.old) }
+/// Makes slots 0, 1, .. the sets of the indices of some leaves.
+fn put_leaves(sets: &mut [u64], counts: &[u8], legs: &[u16], leaves: &[u16])
+    requires { length leaves.now < 1048576 }
+    ensures { sets.new ≡ with_leaves 4 counts.now legs.now leaves.now sets.old (length leaves.now) }
 {
-    for i in 0..n {
-        let v = parts::low_at(&ws[1040..1296], i);
-        put_leaf(&mut ws[0..1040], w, i, counts, legs, v);
+    for (i, &v) in leaves.iter().enumerate() {
+        put_leaf(sets, i, counts, legs, usize::from(v));
     }
 }
 
-// Makes slot 257 the set of the numbers of the first `n` slots.
-fn put_inside(ws: &mut [u64], w: usize, n: usize)
-    requires { (w ≤ 16) × (2064 ≤ length ws.old) }
-    ensures { lists_in ws.new ≡ inside_in w n (lists_in ws.old) }
+/// Makes slot `s` the set of the numbers of a list.
+fn put_list(sets: &mut [u64], s: usize, list: &[u16])
+    requires { (s < 1048576) × (length list.now ≤ 4294967296) }
+    ensures { sets.new ≡ with_set sets.old 4 s (among list.now 0 (length list.now)) }
 {
-    slots::empty(&mut ws[0..1040], w, 257);
-    for i in 0..n {
-        let v = parts::low_at(&ws[1040..1296], i);
-        slots::insert(&mut ws[0..1040], w, 257, v);
-    }
+    slots::empty(sets, WIDTH, s);
+    slots::put_all(sets, WIDTH, s, list, 0, list.len());
 }
 
-// Makes slot `s` the set of the first `n` numbers of `list`.
-fn put_list(ws: &mut [u64], w: usize, s: usize, list: &[u16], n: usize)
-    requires { (w ≤ 16) × (s < 1048576) × (n ≤ 4294967296) }
-    ensures { ws.new ≡ with_set ws.old w s (among list.now 0 n) }
+/// Puts the indices of leaf `l` into slot 256, unless slot 257 has `l`.
+fn put_other(sets: &mut [u64], counts: &[u8], legs: &[u16], l: usize)
+    requires { l < 65536 }
+    ensures { sets.new ≡ with_other 4 counts.now legs.now sets.old l }
 {
-    slots::empty(ws, w, s);
-    slots::put_all(ws, w, s, list, 0, n);
-}
-
-// Puts the indices of leaf `l` into slot 256, unless slot 257 has `l`.
-fn put_other(ws: &mut [u64], w: usize, counts: &[u8], legs: &[u16], l: usize)
-    requires { (w ≤ 16) × (l < 65536) }
-    ensures { ws.new ≡ with_other w counts.now legs.now ws.old l }
-{
-    if slots::has(ws, w, 257, l) {
+    if slots::has(sets, WIDTH, TWICE, l) {
         return;
     }
-    slots::put_all(ws, w, 256, legs, l * 32, cells::at8(counts, l));
+    let count = usize::from(cells::get_or(counts, l, 0));
+    slots::put_all(sets, WIDTH, OUTSIDE, legs, l * 32, count);
 }
 
-// Makes slot 256 the set of the outputs and of the indices of the leaves, of `n` in all, that slot 257 has not.
-fn put_outside(ws: &mut [u64], w: usize, n: usize, counts: &[u8], legs: &[u16], outputs: &[u16])
-    requires { (w ≤ 16) × (n ≤ w * 64) × (length outputs.now ≤ 4294967296) }
-    ensures { ws.new ≡ outside_to w counts.now legs.now ws.old outputs.now n }
+/// Makes slot 256 the set of the outputs and of the indices of the leaves, of `n` in all, that slot 257 has not.
+fn put_outside(sets: &mut [u64], n: usize, counts: &[u8], legs: &[u16], outputs: &[u16])
+    requires { (n ≤ 256) × (length outputs.now ≤ 4294967296) }
+    ensures { sets.new ≡ outside_to 4 counts.now legs.now sets.old outputs.now n }
 {
-    put_list(ws, w, 256, outputs, outputs.len());
+    put_list(sets, OUTSIDE, outputs);
     for l in 0..n {
-        put_other(ws, w, counts, legs, l);
+        put_other(sets, counts, legs, l);
     }
 }
 
-// Puts the size bits of the first `n` slots down.
-fn weigh_all(ws: &mut [u64], w: usize, weights: &[u8], n: usize)
-    requires { (w ≤ 16) × (n < 1048576) × Light weights.now × (2064 ≤ length ws.old) }
-    ensures { lists_in ws.new ≡ weighed_in w weights.now n (lists_in ws.old) }
+/// Makes the sets of the start: those of some leaves in slots 0, 1, .., and what stays whatever is merged. Leaves are `n` in all.
+pub fn put_sets(
+    sets: &mut [u64],
+    n: usize,
+    counts: &[u8],
+    legs: &[u16],
+    outputs: &[u16],
+    leaves: &[u16],
+)
+    requires { (n ≤ 256) × (length outputs.now ≤ 4294967296) × (length leaves.now < 1048576) }
+    ensures { sets.new ≡ start_words 4 n counts.now legs.now outputs.now leaves.now sets.old }
+{
+    put_list(sets, TWICE, leaves);
+    put_outside(sets, n, counts, legs, outputs);
+    put_leaves(sets, counts, legs, leaves);
+}
+
+/// Puts the size bits of the first `n` slots down.
+pub fn weigh_all(sizes: &mut [u16], sets: &[u64], weights: &[u8], n: usize)
+    requires { (n < 1048576) × Light weights.now }
+    ensures { sizes.new ≡ with_sizes sets.now 4 weights.now sizes.old n }
 {
     for i in 0..n {
-        let b = slots::weigh(&ws[0..1040], w, i, i, weights, &weights[..0]);
-        cells::put64(&mut ws[1296..1552], i, b as u64);
+        let bits = slots::weigh(sets, WIDTH, i, i, weights, &weights[..0]);
+        cells::put(sizes, i, bits as u16);
     }
 }
 
-// Puts 0, 1, .. at the first `n` places.
+/// Puts 0, 1, .. at the first `n` places.
 pub fn count_up(list: &mut [u16], n: usize)
     requires { n < 65536 }
     ensures { list.new ≡ put_all (λ i. i) list.old n }
 {
     for i in 0..n {
-        cells::put16(list, i, i as u16);
+        cells::put(list, i, i as u16);
     }
 }
 
-// The same in words.
-pub fn count_words(list: &mut [u64], n: usize)
-    requires { n < 65536 }
-    ensures { low list.new ≡ put_all (λ i. i) (low list.old) n }
+/// The slots of `count` tables, all of them live.
+pub fn live_slots(count: usize) -> ArrayVec<u8, 256>
+    requires { count ≤ 256 }
+    ensures { result.items ≡ range count }
 {
-    for i in 0..n {
-        parts::put_low(list, i, i as u16);
+    let mut live = ArrayVec::new();
+    for slot in 0..count {
+        live.push(slot as u8);
     }
-}
-
-// Puts the numbers of a list at the front of words.
-pub fn put_numbers(to: &mut [u64], list: &[u16])
-    ensures { low to.new ≡ put_all (λ i. get_or list.now i 0) (low to.old) (length list.now) }
-{
-    for i in 0..list.len() {
-        parts::put_low(to, i, cells::get16(list, i));
-    }
-}
-
-// Makes slots 0, 1, .. the tables of the leaves whose numbers stand at the front of the node numbers, with their sets and size bits; none has
-// its least pair yet.
-pub fn prepare(
-    ws: &mut [u64],
-    w: usize,
-    weights: &[u8],
-    n: usize,
-    counts: &[u8],
-    legs: &[u16],
-    outputs: &[u16],
-    tables: usize,
-)
-    requires { (w ≤ 16) × (n ≤ w * 64) × (tables ≤ 128) × (length outputs.now ≤ 4294967296) × Light weights.now × (2064 ≤ length ws.old) }
-    ensures { lists_in ws.new ≡ prepared_in w weights.now n counts.now legs.now outputs.now (take tables (nodes_in ws.old)) (lists_in ws.old) }
-{
-    put_inside(ws, w, tables);
-    put_outside(&mut ws[0..1040], w, n, counts, legs, outputs);
-    put_leaves(ws, w, counts, legs, tables);
-    weigh_all(ws, w, weights, tables);
-    count_words(&mut ws[1552..1808], tables);
-    cells::fill64(&mut ws[1808..2064], 258);
+    live
 }

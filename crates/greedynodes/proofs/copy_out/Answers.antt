@@ -13,4 +13,4 @@ loop-i-init c = (omega arith, sym (turns_none _ _))
 pub loop-i-preserved : goal.loop-i-preserved
 unfolding copied_to
 loop-i-preserved c = let d = c.args in
-    let l = c.loop-i in (omega arith, turns_next _ _ l.i l.invariant.1 (c.put16.ensures ∙ ap (set l.kids (d.at + l.i)) c.get_low.ensures))
+    let l = c.loop-i in (omega arith, turns_next _ _ l.i l.invariant.1 (c.put.ensures ∙ ap (set l.kids (d.at + l.i)) c.get_or.ensures))

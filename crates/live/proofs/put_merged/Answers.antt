@@ -10,8 +10,8 @@ pub loop-k-preserved : goal.loop-k-preserved
 loop-k-preserved c = let d = c.args in
     let l = c.loop-k in (
       omega arith,
-      merged_next d.ws.now d.w d.x d.y d.z (λ j. (c.slice_known-1.given j).fits) l.k c.merged_word-v.result _ _ (omega arith) l.invariant.1 c.merged_word-v.ensures c.put64.ensures,
+      merged_next d.sets.now 4 d.x d.y d.z (λ j. (c.slice_known-1.given j).fits) l.k c.merged_word-v.result _ _ (omega arith) l.invariant.1 c.merged_word-v.ensures c.put.ensures,
     )
 
 pub returns : goal.returns
-returns c = let d = c.args in with_set_end d.ws.now d.w d.z _ _ _ (omega arith) c.loop-k.invariant.1
+returns c = let d = c.args in with_set_end d.sets.now 4 d.z _ _ _ (omega arith) c.loop-k.invariant.1

@@ -5,17 +5,17 @@ use Rattle.live.proofs.share.Goals as goal
 
 pub returns-then-a-b-ne0 : goal.returns-then-a-b-ne0
 returns-then-a-b-ne0 c = let d = c.args in
-    let a = c.get64-a.result in
-    let b = c.get64-b.result in
-    share_found d.ws.now d.w d.x d.y c.loop-k.k a b (omega arith) c.get64-a.ensures
-    c.get64-b.ensures c.if-a-b-ne0.true (and_lt 64 a b (omega arith) (omega arith)) c.loop-k.invariant.1
+    let a = c.word-a.result in
+    let b = c.word-b.result in
+    share_found d.sets.now 4 d.x d.y c.loop-k.k a b (omega arith) c.word-a.ensures
+    c.word-b.ensures c.if-a-b-ne0.true (and_lt 64 a b (omega arith) (omega arith)) c.loop-k.invariant.1
 
 pub loop-k-preserved : goal.loop-k-preserved
 loop-k-preserved c = let d = c.args in (
   omega arith,
-  share_next d.ws.now d.w d.x d.y c.loop-k.k c.get64-a.result c.get64-b.result c.get64-a.ensures
-      c.get64-b.ensures c.if-a-b-ne0.false c.loop-k.invariant.1,
+  share_next d.sets.now 4 d.x d.y c.loop-k.k c.word-a.result c.word-b.result c.word-a.ensures
+      c.word-b.ensures c.if-a-b-ne0.false c.loop-k.invariant.1,
 )
 
 pub returns : goal.returns
-returns c = let d = c.args in share_end d.ws.now d.w d.x d.y c.loop-k.k (omega arith) c.loop-k.invariant.1
+returns c = let d = c.args in share_end d.sets.now 4 d.x d.y c.loop-k.k (omega arith) c.loop-k.invariant.1

@@ -1,48 +1,80 @@
-use Rattle.merging.specs.Scans.{kids_behind, words_refused, words_end, words_merge}
-use Rattle.merging.specs.Connect.{reached_start, reached_end}
-use Rattle.parts.specs.Lists.{lists_in, front_in}
-use Rattle.parts.specs.Parts.{back}
+use Rattle.std.proofs.Common.{rules, Err, Ok, Some, None}
+use Rattle.spec.specs.declared.Refusal.{Refusal}
+use Rattle.spec.specs.declared.Refusal.TheVariants.{TableTooWide}
+use Rattle.spec.specs.Tree.{flat_of}
+use Rattle.tables.specs.Lists.{Lists, coded, lists_in}
+use Rattle.rows.specs.Within.{NamedIn}
+use Rattle.merging.specs.Removed.{flat_length}
+use Rattle.merging.specs.Merge.{with_node}
+use Rattle.merging.specs.Connect.{Connected, reached_start, reached_end}
+use Rattle.merging.specs.Scans.{kids_behind, node_behind, scan_refused, scan_ends, scan_merges}
 use native.Mathlib.Omega.{arith}
-use Prim.Native.Nat.{◌<◌}
-use mathlib.Core.Path.{◌≡◌, refl, ◌∙◌}
+use mathlib.Core.List.{List, ◌++◌}
+use Prim.Native.Nat.{ℕ, ◌+◌, ◌<◌}
+use mathlib.Core.Path.{◌≡◌, refl, sym, ap, ap₂, ◌∙◌, subst}
 use lib.ListN.{length}
+use Rattle.std.specs.Prelude.{Result}
 use Rattle.merging.proofs.connect.Goals as goal
 
+pub returns-in_err-choice-clause-connected : goal.returns-in_err-choice-clause-connected
+returns-in_err-choice-clause-connected c =
+    let d = c.args in
+    let s = d.scoring.now in
+    let l = c.loop-t in
+    let z : c.scan.result ≡ Err c.in_err-choice.field-0.0 = search rules in
+    let e : c.from_residual.result ≡ Err c.in_err-choice.field-0.0 = search rules in
+    let why : c.in_err-choice.field-0.0 ≡ TableTooWide = search rules in
+    let less : l.t < s.start = omega arith in
+    λ G S start. subst (λ (q : Result ℕ Refusal). Connected G S (kids_behind S d.kids.now) c.scan.new.tables.nodes c.scan.new.tables.sizes c.scan.new.tables.live.items (kids_behind S l.kids) q) (sym (e ∙ ap (λ (r : Refusal). Err r) why))
+    (scan_refused G S d.n s.start d.count s.weights.now (kids_behind S d.kids.now) (lists_in d.tables.now) start l.t (lists_in l.tables) (kids_behind S l.kids) (l.invariant.3 G S start) less
+    (lists_in c.scan.new.tables) c.scan.result c.scan.ensures.lists c.scan.ensures.least _ _ _ _ c.in_err-choice.field-0.0 z)
+
+pub returns-in_default-clause-connected : goal.returns-in_default-clause-connected
+returns-in_default-clause-connected c =
+    let d = c.args in
+    let s = d.scoring.now in
+    let l = c.loop-t in
+    let z : c.scan.result ≡ Ok None = search rules in
+    let less : l.t < s.start = omega arith in
+    λ G S start. scan_ends G S d.n s.start d.count s.weights.now (kids_behind S d.kids.now) (lists_in d.tables.now) start l.t (lists_in l.tables) (kids_behind S l.kids) (l.invariant.3 G S start) less
+    (lists_in c.scan.new.tables) c.scan.result c.scan.ensures.lists c.scan.ensures.least z
+
 pub loop-t-init : goal.loop-t-init
-loop-t-init c = let d = c.args in (omega arith, c.requires.5, refl, λ G S s. reached_start G S _ d.w d.n d.n0 d.count d.weights.now _ s)
-
-pub returns-then-y-eq-TOO_WIDE-clause-connected : goal.returns-then-y-eq-TOO_WIDE-clause-connected
-returns-then-y-eq-TOO_WIDE-clause-connected c = let d = c.args in
-    let l = c.loop-t in
-    let e = c.scan-y.ensures in (λ G S s. words_refused G S d.w d.n d.n0 d.count d.weights.now d.ws.now s l.t l.ws (l.invariant.3 G S s) c.loop-t-test.true l.invariant.1 c.scan-y.new.ws c.ws-1.given.0 c.scan-y.result e.lists e.least.0 _ _ _ _ c.if-y-eq-TOO_WIDE.true)
-
-pub returns-then-y-eq-NONE-clause-connected : goal.returns-then-y-eq-NONE-clause-connected
-returns-then-y-eq-NONE-clause-connected c = let d = c.args in
-    let l = c.loop-t in
-    let e = c.scan-y.ensures in (λ G S s. words_end G S d.w d.n d.n0 d.count d.weights.now d.ws.now s l.t l.ws (l.invariant.3 G S s) c.loop-t-test.true l.invariant.1 c.scan-y.new.ws c.ws-1.given.0 c.scan-y.result e.lists e.least.0 c.if-y-eq-NONE.true)
+loop-t-init c =
+    let d = c.args in
+    let s = d.scoring.now in (
+      omega arith,
+      refl,
+      omega arith,
+      (λ G S start. reached_start G S (lists_in d.tables.now) 4 d.n s.start d.count s.weights.now (kids_behind S d.kids.now) start),
+    )
 
 pub loop-t-preserved : goal.loop-t-preserved
-loop-t-preserved c = let d = c.args in
+loop-t-preserved c =
+    let d = c.args in
+    let s = d.scoring.now in
     let l = c.loop-t in
-    let e = c.scan-y.ensures in
-    let g = c.merge-c.ensures in
-    let y₁ = c.scan-y.new.ws in
-    let w₁ = back 0 2064 l.ws y₁ in
-    let y₂ = c.merge-c.new.ws in
-    let w₂ = back 0 2064 w₁ y₂ in
-    let y₃ = c.put_children.new.kids in
-    let w₃ = back 2064 256 w₂ y₃ in
-    let l₁ : length w₁ ≡ length l.ws = c.ws-1.given.1 in
-    let l₂ : length w₂ ≡ length w₁ = c.ws-in-loop-t-1.given.1 in
-    let l₃ : length w₃ ≡ length w₂ = c.ws-in-loop-t-2-1.given.1 in
-    let less : l.t < d.n0 = c.loop-t-test.true in (
-      omega (arith, less),
-      omega (arith, l.invariant.1, l₁, l₂, l₃),
-      l₃ ∙ l₂ ∙ l₁ ∙ l.invariant.2,
-      (λ G S s. words_merge G S d.w d.n d.n0 d.count d.weights.now d.ws.now s l.t l.ws (l.invariant.3 G S s) less l.invariant.1 y₁ c.ws-1.given.0 c.scan-y.result e.lists e.least.0
-          y₂ y₃ _ _ (omega (arith, l.invariant.1, l₁)) c.ws-in-loop-t-1.given.0 (omega (arith, l.invariant.1, l₁, l₂)) c.ws-in-loop-t-2-1.given.0 g.lists g.children.0 g.children.1 c.put_children.ensures c.if-y-eq-NONE.false c.if-y-eq-TOO_WIDE.false),
+    let z : c.scan.result ≡ Ok (Some c.in-Some.choice) = search rules in
+    let named = subst (NamedIn (coded c.scan.new.tables.rows)) z c.scan.ensures.named in
+    let less : l.t < s.start = omega arith in
+    let kept = ap (λ (M : Lists). length M.live) c.scan.ensures.lists in (
+      omega arith,
+      c.merge-children.ensures.same ∙ c.scan.ensures.same ∙ l.invariant.1,
+      omega (arith, c.merge-children.ensures.few, kept, l.invariant.2),
+      (λ G S start.
+          scan_merges G S d.n s.start d.count s.weights.now (kids_behind S d.kids.now) (lists_in d.tables.now) start l.t (lists_in l.tables) (kids_behind S l.kids) (l.invariant.3 G S start) less
+          (lists_in c.scan.new.tables) c.scan.result c.scan.ensures.lists c.scan.ensures.least c.in-Some.choice z named
+          (lists_in c.merge-children.new.tables) (kids_behind S c.put_node.new.kids) c.merge-children.ensures.lists
+          (ap (λ (k : List ℕ). flat_of S.array ++ k) c.put_node.ensures
+          ∙ sym (node_behind (flat_of S.array) l.kids d.count l.t _ _ (omega (arith, flat_length S.array, start.made)))
+          ∙ ap₂ (λ (a b : ℕ). with_node (kids_behind S l.kids) (d.count + l.t) a b) c.merge-children.ensures.left c.merge-children.ensures.right)),
     )
 
 pub returns-clause-connected : goal.returns-clause-connected
-returns-clause-connected c = let d = c.args in
-    let l = c.loop-t in (λ G S s. reached_end G S d.w d.n d.n0 d.count d.weights.now (kids_behind S d.ws.now) (lists_in (front_in d.ws.now)) s l.t (lists_in (front_in l.ws)) (kids_behind S l.ws) (omega arith) (l.invariant.3 G S s))
+returns-clause-connected c =
+    let d = c.args in
+    let s = d.scoring.now in
+    let l = c.loop-t in
+    let e : l.t ≡ s.start = omega arith in
+    λ G S start. subst (λ (t : ℕ). Connected G S (kids_behind S d.kids.now) l.tables.nodes l.tables.sizes l.tables.live.items (kids_behind S l.kids) (Ok t)) e
+    (reached_end G S 4 d.n s.start d.count s.weights.now (kids_behind S d.kids.now) (lists_in d.tables.now) start l.t (lists_in l.tables) (kids_behind S l.kids) e (l.invariant.3 G S start))

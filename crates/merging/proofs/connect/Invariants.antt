@@ -1,17 +1,14 @@
-use Rattle.merging.specs.Scans.{kids_behind}
-use Rattle.merging.specs.Connect.{Start, Reached}
+use Rattle.tables.specs.Lists.{lists_in, IsSameLoan}
 use Rattle.merging.specs.Holds.{Given, Ghost}
-use Rattle.parts.specs.Lists.{lists_in, front_in}
-use Prim.Native.Nat.{◌-◌, ◌≤◌}
-use mathlib.Core.Path.{◌≡◌}
+use Rattle.merging.specs.Connect.{Start, Reached}
+use Rattle.merging.specs.Scans.{kids_behind}
+use Prim.Native.Nat.{◌+◌, ◌≤◌}
 use lib.ListN.{length}
 use Rattle.merging.proofs.connect.Given as goal
 
 abbrev pub invariant-loop-t : goal.invariant-loop-t
-invariant-loop-t l = (l.t ≤ l.n0)
-    × (2320 ≤ length l.ws)
-    × (length l.ws ≡ length l.initial.ws)
-    × ((G : Given) (S : Ghost) → Start G S (lists_in (front_in l.initial.ws)) l.w l.n l.n0 l.count l.weights (kids_behind S l.initial.ws) → Reached G S (kids_behind S l.initial.ws) l.t (lists_in (front_in l.ws)) (kids_behind S l.ws))
-
-abbrev pub decreases-loop-t : goal.decreases-loop-t
-decreases-loop-t l = l.n0 - l.t
+invariant-loop-t l = (l.t ≤ l.scoring.start)
+    × IsSameLoan l.fn.tables l.tables
+    × (length l.tables.live.items ≤ 128 + l.t)
+    × ((G : Given) (S : Ghost) → Start G S (lists_in l.fn.tables) 4 l.n l.scoring.start l.count l.scoring.weights.now (kids_behind S l.fn.kids)
+    → Reached G S (kids_behind S l.fn.kids) l.t (lists_in l.tables) (kids_behind S l.kids))

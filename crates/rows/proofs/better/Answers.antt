@@ -1,30 +1,67 @@
-use Rattle.rows.specs.Rows.{better_refused, better_over, better_none, better_first, better_sooner, better_later}
-use mathlib.Core.Path.{sym, ◌∙◌}
+use Rattle.rows.specs.Rows.{pairless}
+use Rattle.rows.specs.Within.{row_at, takes_wide, takes_none, takes_pair, takes_named}
+use Rattle.std.proofs.Common.{rules, Some, None}
+use Rattle.tables.specs.Lists.{coded, code}
+use Rattle.tables.specs.declared.partner.Choice.{Choice}
+use Rattle.tables.specs.declared.Row.TheVariants.{Stale, Gone, TooWide, Found}
+use native.Mathlib.Omega.{arith}
+use Prim.Native.Nat.{ℕ, ◌<◌, ◌+◌, ◌*◌}
+use mathlib.Core.Path.{◌≡◌, sym, ap, ◌∙◌, subst}
+use lib.ListN.{get_or}
 use Rattle.rows.proofs.better.Goals as goal
 
-pub returns-then-best-eq-TOO_WIDE : goal.returns-then-best-eq-TOO_WIDE
-returns-then-best-eq-TOO_WIDE c = let d = c.args in better_refused d.sizes.now d.n0 d.rows.now d.best d.y c.if-best-eq-TOO_WIDE.true
+pub returns-in-TooWide-clause-least : goal.returns-in-TooWide-clause-least
+returns-in-TooWide-clause-least c =
+    let d = c.args in
+    let t = d.tables.now in
+    let small : d.y < 256 = search rules in
+    let e : get_or t.rows c.from.result c.index-tables-from.result ≡ TooWide = search rules in
+    let z : get_or (coded t.rows) d.y 0 ≡ 257 = sym (row_at t.rows t.slots d.y small c.index-tables-from.result) ∙ ap (λ (i : ℕ). code (get_or t.rows i c.index-tables-from.result)) (sym c.from.ensures) ∙ ap code e in
+    λ named. takes_wide t.sizes d.scoring.now.start (coded t.rows) d.best d.y z
 
-pub returns-then-r-eq-TOO_WIDE : goal.returns-then-r-eq-TOO_WIDE
-returns-then-r-eq-TOO_WIDE c = let d = c.args in better_over d.sizes.now d.n0 d.rows.now d.best d.y c.if-best-eq-TOO_WIDE.false (sym c.at-r.ensures ∙ c.if-r-eq-TOO_WIDE.true)
+pub returns-in-Found-Some-clause-least : goal.returns-in-Found-Some-clause-least
+returns-in-Found-Some-clause-least c =
+    let d = c.args in
+    let t = d.tables.now in
+    let small : d.y < 256 = search rules in
+    let p = c.in-Found-Some.pair in
+    let e : get_or t.rows c.from.result c.index-tables-from.result ≡ Found (Some p) = search rules in
+    let z : get_or (coded t.rows) d.y 0 ≡ p.bits * 512 + p.other = sym (row_at t.rows t.slots d.y small c.index-tables-from.result) ∙ ap (λ (i : ℕ). code (get_or t.rows i c.index-tables-from.result)) (sym c.from.ensures) ∙ ap code e in
+    λ named. ap (λ (b : Choice). b.table) c.sooner.ensures ∙ takes_pair t.sizes d.scoring.now.start (coded t.rows) d.best named _ z
 
-pub returns-then-r-eq-NONE : goal.returns-then-r-eq-NONE
-returns-then-r-eq-NONE c = let d = c.args in
-    let e = c.at-r.ensures in better_none d.sizes.now d.n0 d.rows.now d.best d.y c.if-best-eq-TOO_WIDE.false (λ q. c.if-r-eq-TOO_WIDE.false (e ∙ q)) (sym e ∙ c.if-r-eq-NONE.true)
+pub returns-in-Found-None-clause-least : goal.returns-in-Found-None-clause-least
+returns-in-Found-None-clause-least c =
+    let d = c.args in
+    let t = d.tables.now in
+    let small : d.y < 256 = search rules in
+    let e : get_or t.rows c.from.result c.index-tables-from.result ≡ Found None = search rules in
+    let z : get_or (coded t.rows) d.y 0 ≡ 256 = sym (row_at t.rows t.slots d.y small c.index-tables-from.result) ∙ ap (λ (i : ℕ). code (get_or t.rows i c.index-tables-from.result)) (sym c.from.ensures) ∙ ap code e in
+    λ named. takes_none t.sizes d.scoring.now.start (coded t.rows) d.best d.y (λ q. omega (arith, z)) (ap pairless z)
 
-pub returns-then-best-eq-NONE : goal.returns-then-best-eq-NONE
-returns-then-best-eq-NONE c = let d = c.args in
-    let e = c.at-r.ensures in
-    better_first d.sizes.now d.n0 d.rows.now d.best d.y c.if-best-eq-TOO_WIDE.false (λ q. c.if-r-eq-TOO_WIDE.false (e ∙ q)) (λ q. c.if-r-eq-NONE.false (e ∙ q)) c.if-best-eq-NONE.true
+pub returns-in-Gone-clause-least : goal.returns-in-Gone-clause-least
+returns-in-Gone-clause-least c =
+    let d = c.args in
+    let t = d.tables.now in
+    let small : d.y < 256 = search rules in
+    let e : get_or t.rows c.from.result c.index-tables-from.result ≡ Gone = search rules in
+    let z : get_or (coded t.rows) d.y 0 ≡ 259 = sym (row_at t.rows t.slots d.y small c.index-tables-from.result) ∙ ap (λ (i : ℕ). code (get_or t.rows i c.index-tables-from.result)) (sym c.from.ensures) ∙ ap code e in
+    λ named. takes_none t.sizes d.scoring.now.start (coded t.rows) d.best d.y (λ q. omega (arith, z)) (ap pairless z)
 
-pub returns-then-sooner : goal.returns-then-sooner
-returns-then-sooner c = let d = c.args in
-    let e = c.at-r.ensures in
-    better_sooner d.sizes.now d.n0 d.rows.now d.best d.y c.if-best-eq-TOO_WIDE.false (λ q. c.if-r-eq-TOO_WIDE.false (e ∙ q)) (λ q. c.if-r-eq-NONE.false (e ∙ q)) c.if-best-eq-NONE.false
-    (rw (← e, ← c.at-b.ensures, ← c.sooner.ensures) c.if-sooner.true)
+pub returns-in-Stale-clause-least : goal.returns-in-Stale-clause-least
+returns-in-Stale-clause-least c =
+    let d = c.args in
+    let t = d.tables.now in
+    let small : d.y < 256 = search rules in
+    let e : get_or t.rows c.from.result c.index-tables-from.result ≡ Stale = search rules in
+    let z : get_or (coded t.rows) d.y 0 ≡ 258 = sym (row_at t.rows t.slots d.y small c.index-tables-from.result) ∙ ap (λ (i : ℕ). code (get_or t.rows i c.index-tables-from.result)) (sym c.from.ensures) ∙ ap code e in
+    λ named. takes_none t.sizes d.scoring.now.start (coded t.rows) d.best d.y (λ q. omega (arith, z)) (ap pairless z)
 
-pub returns : goal.returns
-returns c = let d = c.args in
-    let e = c.at-r.ensures in
-    better_later d.sizes.now d.n0 d.rows.now d.best d.y c.if-best-eq-TOO_WIDE.false (λ q. c.if-r-eq-TOO_WIDE.false (e ∙ q)) (λ q. c.if-r-eq-NONE.false (e ∙ q)) c.if-best-eq-NONE.false
-    (rw (← e, ← c.at-b.ensures, ← c.sooner.ensures) c.if-sooner.false)
+pub returns-in-Found-Some-clause-named : goal.returns-in-Found-Some-clause-named
+returns-in-Found-Some-clause-named c =
+    let d = c.args in
+    let t = d.tables.now in
+    let small : d.y < 256 = search rules in
+    let p = c.in-Found-Some.pair in
+    let e : get_or t.rows c.from.result c.index-tables-from.result ≡ Found (Some p) = search rules in
+    let z : get_or (coded t.rows) d.y 0 ≡ p.bits * 512 + p.other = sym (row_at t.rows t.slots d.y small c.index-tables-from.result) ∙ ap (λ (i : ℕ). code (get_or t.rows i c.index-tables-from.result)) (sym c.from.ensures) ∙ ap code e in
+    λ named. subst (λ (b : Choice). get_or (coded t.rows) b.table 0 ≡ b.pair.bits * 512 + b.pair.other) (sym c.sooner.ensures) (takes_named t.sizes d.scoring.now.start (coded t.rows) d.best named _ z)

@@ -1,19 +1,35 @@
-use Rattle.rows.specs.Rows.{bettered_one, bettered, least_of}
-use Rattle.cells.specs.Loop.{turns_none, turns_next}
+use Rattle.std.proofs.Common.{rules, Err, Ok}
+use Rattle.tables.specs.Lists.{coded}
+use Rattle.rows.specs.Rows.{least_none, least_next, least_sticks}
+use Rattle.rows.specs.Within.{chosen_code, NamedIn}
 use native.Mathlib.Omega.{arith}
-use Prim.Native.Nat.{ℕ, ◌<◌}
-use mathlib.Core.Path.{sym, ap, ◌∙◌, subst}
+use Prim.Native.Nat.{ℕ, ◌+◌}
+use mathlib.Core.List.{List}
+use mathlib.Core.Path.{◌≡◌, sym, ap, ◌∙◌, subst}
+use lib.ListN.{get_or, length}
 use Rattle.rows.proofs.least.Goals as goal
 
-pub loop-k-init : goal.loop-k-init
-unfolding least_of
-loop-k-init c = (omega arith, sym (turns_none _ _), omega arith)
+pub loop-y-init : goal.loop-y-init
+loop-y-init c = let d = c.args in
+    let t = d.tables.now in (least_none t.sizes d.scoring.now.start (coded t.rows) t.live.items, tt)
 
-pub loop-k-preserved : goal.loop-k-preserved
-unfolding least_of
-loop-k-preserved c = let d = c.args in
-    let l = c.loop-k in (
-      omega arith,
-      turns_next _ _ l.k l.invariant.1 (c.better-best.ensures ∙ ap (bettered d.sizes.now d.n0 d.rows.now l.best) c.low_at.ensures.0),
-      subst (λ (b : ℕ). b < 65536) (sym c.better-best.ensures) (bettered_one d.sizes.now d.n0 d.rows.now (λ (b : ℕ). b < 65536) l.best c.low_at.result l.invariant.2 c.low_at.ensures.1 (omega arith)),
+pub returns-in_err-best-clause-least : goal.returns-in_err-best-clause-least
+returns-in_err-best-clause-least c = let d = c.args in
+    let t = d.tables.now in
+    let l = c.loop-y in
+    let z : c.better.result ≡ Err c.in_err-best.field-0.0 = search rules in
+    let e : c.from_residual.result ≡ Err c.in_err-best.field-0.0 = search rules in
+    let v = c.as_slice-y-items.ensures.value in
+    ap chosen_code e
+    ∙ least_sticks t.sizes d.scoring.now.start (coded t.rows) t.live.items (l.y-index + 1) (length t.live.items) (omega (arith, ap length v))
+    (sym (least_next t.sizes d.scoring.now.start (coded t.rows) t.live.items l.y-index _ 257 _ l.invariant.0 (ap (λ (k : List ℕ). get_or k l.y-index 0) v) (ap chosen_code (sym z) ∙ c.better.ensures.least l.invariant.1)))
+
+pub loop-y-preserved : goal.loop-y-preserved
+loop-y-preserved c = let d = c.args in
+    let t = d.tables.now in
+    let l = c.loop-y in
+    let z : c.better.result ≡ Ok c.in_ok-best.best = search rules in
+    let v = c.as_slice-y-items.ensures.value in (
+      least_next t.sizes d.scoring.now.start (coded t.rows) t.live.items l.y-index _ _ _ l.invariant.0 (ap (λ (k : List ℕ). get_or k l.y-index 0) v) (ap chosen_code (sym z) ∙ c.better.ensures.least l.invariant.1),
+      subst (NamedIn (coded t.rows)) z (c.better.ensures.named l.invariant.1),
     )

@@ -7,4 +7,4 @@ pub loop-i-init : goal.loop-i-init
 loop-i-init c = (omega arith, sym (turns_none _ _))
 
 pub loop-i-preserved : goal.loop-i-preserved
-loop-i-preserved c = let l = c.loop-i in (omega arith, turns_next _ _ l.i l.invariant.1 c.put16.ensures)
+loop-i-preserved c = let l = c.loop-i in (omega arith, turns_next _ _ l.i l.invariant.1 c.put.ensures)

@@ -1,3 +1,0 @@
--- Greedy's lists as parts of the lent words. Assumes nothing.
-pub mod Parts
-pub mod Lists

@@ -1,0 +1,62 @@
+#![tactic(auto)]
+//! Greedy's tables in one value: the sets by slot in lent words, and beside them typed local lists. What its crates share: what is known of a
+//! table's least pair, and the order of pairs.
+
+ghost use Rattle.std.specs.Prelude.{◌≡◌};
+ghost use Rattle.spec.specs.Greedy.{Key, key_before};
+ghost use Rattle.tables.specs.Scores.{Scores};
+
+use partner::Partner;
+
+pub mod partner;
+pub mod scoring;
+pub mod slotted;
+
+/// How many words a set has: one slot of the lent words.
+pub const WIDTH: usize = 4;
+
+/// The slot of the indices that stay whatever is merged: the outputs, and what is named by leaves that are not planned.
+pub const OUTSIDE: usize = 256;
+
+/// The slot of what two live tables or more hold.
+pub const TWICE: usize = 257;
+
+/// The slot of what three live tables or more hold.
+pub const THRICE: usize = 258;
+
+/// How many words the sets take: 259 slots, and one to spare.
+pub const WORDS: usize = 1040;
+
+/// What is known of a table's least pair with the live tables before it.
+#[derive(Clone, Copy, Debug, PartialEq, Eq)]
+pub enum Row {
+    /// It is yet to be found.
+    Stale,
+    /// The table is gone.
+    Gone,
+    /// A table of such a pair, or its merged table, has over 40 bits.
+    TooWide,
+    /// The other table of the pair; none where the table shares no index with one before it.
+    Found(Option<Partner>),
+}
+
+/// A pair's place in greedy's order, which is the derived one: the least score first, then the lower first slot, then the lower second.
+#[derive(Clone, Copy, Debug, PartialEq, Eq, PartialOrd, Ord)]
+pub struct Score {
+    /// 2^merged - 2^left - 2^right, raised by 2^41 so that it is never below 0
+    pub raised: u64,
+    /// the slot of the table that goes on the left
+    pub first: u8,
+    /// the slot of the table that goes on the right
+    pub second: u8,
+}
+
+impl Score {
+    /// Does the pair come before the other.
+    #[inline]
+    pub fn is_before(self, other: Score) -> bool
+        ensures { (k h : Key) → Scores k self → Scores h other → result ≡ key_before k h }
+    {
+        self < other
+    }
+}

@@ -1,0 +1,21 @@
+// Greedy's lists in one value.
+ghost use Rattle.std.specs.Prelude.{◌≡◌, length};
+
+use crate::Row;
+use arrayvec::ArrayVec;
+
+/// Greedy's lists: all by slot but the list of live slots. A table keeps its slot, and each new table takes the next one.
+#[derive(Drop)]
+pub struct Tables<'a> {
+    /// the sets in lent words, of `WIDTH` words each
+    pub sets: &'a mut [u64],
+    /// the numbers of the tables' nodes
+    pub nodes: [u16; 256],
+    /// the size bits of the tables
+    pub sizes: [u16; 256],
+    /// the slots of the live tables, rising
+    pub live: ArrayVec<u8, 256>,
+    /// the least pairs
+    pub rows: [Row; 256],
+    ghost slots: { length rows ≡ 256 },
+}
