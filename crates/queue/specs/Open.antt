@@ -31,18 +31,6 @@ module _ (ws : List ℕ) (sides k : ℕ) where
       (λ j. (p j || q j) && not (r j))
       ∙ sym (diff_digits (bit_or x y) z i ∙ ap (λ t. t && not (digit z i)) (or_digits x y i))
 
--- a place that is not 0 is in the list
-pub one_below : (l : List ℕ) (v : ℕ) → get_or l v 0 ≡ 1 → v < length l
-one_below l v e =
-    elim (dec_lt v (length l)) [
-      | yes h ↦ h
-      | no h ↦ absurd (omega (arith, e, get_or-eq_default l 0 (let z : length l ≤ v = omega arith in z)))
-    ]
-
--- past the end no vertex waits
-pub none_past : (l : List ℕ) (n v : ℕ) → length l ≤ n → n ≤ v → eqb (get_or l v 0) 1 ≡ false
-none_past l n v h k = ne_eqb (get_or l v 0) 1 (λ e. omega (arith, one_below l v e))
-
 -- ---- folds that pass over what changes nothing ----
 
 module _ {S : Type 0} (f : ℕ → S → S) where
