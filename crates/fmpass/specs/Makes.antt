@@ -16,7 +16,7 @@ use Rattle.slots.specs.Slots.{held, with_set, held_with}
 use Rattle.draws.specs.Cursor.{words_at}
 use Rattle.partition.specs.Layout.{graph_in}
 use Rattle.queue.specs.Queues.{queue_of}
-use Rattle.queue.specs.Enters.{place}
+use Rattle.partition.specs.Layout.{place}
 use Rattle.fm.specs.Again.{Stamped, Under}
 use Rattle.fm.specs.Neighbours.{NeighboursAgain}
 use Rattle.moves.specs.Kept.{Kept, kept_then, kept_with, graph_kept, Site, site_kept}

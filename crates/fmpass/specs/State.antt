@@ -7,7 +7,7 @@ use Rattle.slots.specs.Slots.{held}
 use Rattle.draws.specs.Cursor.{words_at}
 use Rattle.partition.specs.Layout.{graph_in}
 use Rattle.queue.specs.Queues.{queue_of}
-use Rattle.queue.specs.Enters.{Place}
+use Rattle.partition.specs.declared.place.Place.{Place}
 use Rattle.fm.specs.Again.{Stamped, Under}
 use Rattle.moves.specs.Kept.{Kept, Site}
 use Rattle.moves.specs.Split.{Split, sides_as}
@@ -55,16 +55,16 @@ pass_in draws M R =
 -- Between two turns: the slots hold the partition and the vertices that have moved; of these none waits; each was counted once.
 pub record Stands (o : Place) (M : Lists) (R : Run) : Type 0 where
   pub site : Site M.graph o
-  pub split : Split M.graph o.sides o.n M.part
-  pub locks : (u : ℕ) → u < o.n → memb u (moves_in M R) ≡ held M.graph 2 (o.sides + 2) u
+  pub split : Split M.graph o.sides o.vertex_count M.part
+  pub locks : (u : ℕ) → u < o.vertex_count → memb u (moves_in M R) ≡ held M.graph 2 (o.sides + 2) u
   pub fresh : (u : ℕ) → eqb (get_or M.waiting u 0) 1 ≡ true → memb u (moves_in M R) ≡ false
-  pub once : length (keep (λ u. memb u (moves_in M R)) (range o.n)) ≡ R.count
+  pub once : length (keep (λ u. memb u (moves_in M R)) (range o.vertex_count)) ≡ R.count
   pub low : Stamped (R.count * 32768) M.stamps
-  pub under : Under o.n R.count M.moves
-  pub long : (length M.keys ≡ o.n) × (length M.stamps ≡ o.n) × (length M.waiting ≡ o.n) × (o.n ≤ length M.moves)
+  pub under : Under o.vertex_count R.count M.moves
+  pub long : (length M.keys ≡ o.vertex_count) × (length M.stamps ≡ o.vertex_count) × (length M.waiting ≡ o.vertex_count) × (o.vertex_count ≤ length M.moves)
 
 -- Lists and numbers of a pass become those after f, and stand again; the hypergraph stays.
 pub record Brings (weights : List ℕ) (vw : List Float) (draws : List ℕ) (o : Place) (f : Hypergraph → Pass → Pass) (M M' : Lists) (R R' : Run) : Type 0 where
-  pub pass : pass_in draws M' R' ≡ f (graph_in M.graph o.nets weights o.m vw) (pass_in draws M R)
+  pub pass : pass_in draws M' R' ≡ f (graph_in M.graph o.nets weights o.net_count vw) (pass_in draws M R)
   pub stands : Stands o M' R'
   pub kept : Kept (o.sides * 2) M.graph M'.graph

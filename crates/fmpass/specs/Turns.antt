@@ -11,7 +11,8 @@ use Rattle.laws.specs.Booleans.{by_cases, clash}
 use Rattle.partition.specs.Layout.{graph_in}
 use Rattle.queue.specs.Open.{open_in}
 use Rattle.queue.specs.Queues.{queue_of, no_words, entry_at, entry_none}
-use Rattle.queue.specs.Enters.{Place, place}
+use Rattle.partition.specs.declared.place.Place.{Place}
+use Rattle.partition.specs.Layout.{place}
 use Rattle.moves.specs.Kept.{Kept, kept_all, kept_then, graph_kept}
 use Rattle.moves.specs.Split.{sides_as, site_placed}
 use Rattle.moves.specs.Sums.{Fits}

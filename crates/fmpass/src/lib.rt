@@ -3,7 +3,7 @@
 ghost use Rattle.std.specs.Prelude.{false, ◌≡◌, ◌<◌, eqb, length, get_or};
 ghost use Rattle.spec.specs.Lists.{memb};
 ghost use Rattle.spec.specs.Fm.{pass_turn, run_pass};
-ghost use Rattle.queue.specs.Enters.{place};
+ghost use Rattle.partition.specs.Layout.{place};
 ghost use Rattle.fmpass.specs.State.{lists, run, moves_in, Stands, Brings};
 ghost use Rattle.fmpass.specs.Makes.{made_move};
 

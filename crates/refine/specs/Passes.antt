@@ -9,7 +9,8 @@ use Rattle.spec.specs.Hypergraph.{Hypergraph, fold_over, moved}
 use Rattle.spec.specs.Fm.{Pass, Refined, run_pass, start_pass, rolled_back, end_pass, passes, fm}
 use Rattle.draws.specs.Cursor.{words_at}
 use Rattle.partition.specs.Layout.{graph_in}
-use Rattle.queue.specs.Enters.{Place, place}
+use Rattle.partition.specs.declared.place.Place.{Place}
+use Rattle.partition.specs.Layout.{place}
 use Rattle.moves.specs.Kept.{Kept, kept_all, kept_then, graph_kept, Site}
 use Rattle.moves.specs.Split.{Split, sides_as}
 use Rattle.moves.specs.Sums.{weight_in, backwards, back_length}
@@ -26,8 +27,8 @@ one_pass maxw G x = end_pass G maxw (run_pass G maxw (start_pass G maxw x.sides 
 
 -- sides, what a pass brought and the words become those after f; the slots hold the partition again, and the hypergraph stays
 pub record Leads (weights : List ℕ) (vw : List Float) (o : Place) (f : Hypergraph → Refined → Refined) (ws ws' : List ℕ) (x x' : Refined) : Type 0 where
-  pub refined : x' ≡ f (graph_in ws o.nets weights o.m vw) x
-  pub split : Split ws' o.sides o.n x'.sides.part
+  pub refined : x' ≡ f (graph_in ws o.nets weights o.net_count vw) x
+  pub split : Split ws' o.sides o.vertex_count x'.sides.part
   pub kept : Kept (o.sides * 2) ws ws'
 
 module _ (weights : List ℕ) (vw : List Float) (nets vertices sides m : ℕ) (draws : List ℕ) (maxw : Float) where
@@ -106,8 +107,8 @@ module _ (weights : List ℕ) (vw : List Float) (nets vertices sides m : ℕ) (d
 
 -- the partition after so many passes at most, and the words; the slots hold it, and the hypergraph stays
 pub record Halves (weights : List ℕ) (vw : List Float) (o : Place) (maxw : Float) (n : ℕ) (draws ws ws' part part' : List ℕ) (at at' : ℕ) : Type 0 where
-  pub refined : drawn part' (words_at draws at') ≡ fm (graph_in ws o.nets weights o.m vw) maxw n part (words_at draws at)
-  pub split : Split ws' o.sides o.n part'
+  pub refined : drawn part' (words_at draws at') ≡ fm (graph_in ws o.nets weights o.net_count vw) maxw n part (words_at draws at)
+  pub split : Split ws' o.sides o.vertex_count part'
   pub kept : Kept (o.sides * 2) ws ws'
 
 pub split_as : (ws : List ℕ) (sides k n : ℕ) (part : List ℕ) → k ≡ n → Split ws sides k part → Split ws sides n part

@@ -14,7 +14,9 @@ use Rattle.slots.specs.Slots.{held, with_set, held_with}
 use Rattle.draws.specs.Cursor.{words_at}
 use Rattle.partition.specs.Layout.{graph_in, sides_in}
 use Rattle.queue.specs.Queues.{queue_of}
-use Rattle.queue.specs.Enters.{Place, place, Placed, AllEntered}
+use Rattle.partition.specs.declared.place.Place.{Place}
+use Rattle.partition.specs.Layout.{place, Placed}
+use Rattle.queue.specs.Enters.{AllEntered}
 use Rattle.fm.specs.Again.{Stamped}
 use Rattle.moves.specs.Kept.{Kept, kept_with, graph_kept, Site, site_kept}
 use Rattle.moves.specs.Split.{Split, split_sides, split_with, site_placed}
@@ -48,8 +50,8 @@ zero_filled n u = zeros n u
 -- ---- the start ----
 
 pub record Starts (ws ws' : List ℕ) (weights : List ℕ) (vw : List Float) (o : Place) (part draws : List ℕ) (at at' : ℕ) (keys : List Float) (stamps waiting : List ℕ) : Type 0 where
-  pub queue : queue_of keys stamps waiting (words_at draws at') ≡ first_queue (graph_in ws o.nets weights o.m vw) part (words_at draws at)
-  pub stands : (loads : List Float) (moves : List ℕ) → o.n ≤ length moves → Stands o (lists ws' part loads keys stamps waiting moves) (run 0 zero_float zero_float 0 at' false)
+  pub queue : queue_of keys stamps waiting (words_at draws at') ≡ first_queue (graph_in ws o.nets weights o.net_count vw) part (words_at draws at)
+  pub stands : (loads : List Float) (moves : List ℕ) → o.vertex_count ≤ length moves → Stands o (lists ws' part loads keys stamps waiting moves) (run 0 zero_float zero_float 0 at' false)
   pub kept : Kept (o.sides * 2) ws ws'
 
 module _ (ws ws₁ : List ℕ) (weights : List ℕ) (vw : List Float) (nets vertices sides m : ℕ) (part draws : List ℕ) (h : Site ws (place nets vertices sides m (length vw)))

@@ -5,7 +5,7 @@ ghost use Rattle.spec.specs.Floats.{zero_float};
 ghost use Rattle.spec.specs.Memory.{filled};
 ghost use Rattle.spec.specs.Fm.{passes};
 ghost use Rattle.draws.specs.Cursor.{words_at};
-ghost use Rattle.queue.specs.Enters.{place};
+ghost use Rattle.partition.specs.Layout.{place};
 ghost use Rattle.moves.specs.Kept.{Site};
 ghost use Rattle.moves.specs.Split.{Split};
 ghost use Rattle.moves.specs.Laying.{Bits};

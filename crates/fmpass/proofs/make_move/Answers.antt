@@ -1,7 +1,7 @@
 use Rattle.fmpass.specs.Makes.{count_low, stamps_low, made_site, made_split, made_over, made_on}
 use Rattle.fmpass.specs.State.{lists, run}
 use Rattle.moves.specs.Split.{site_placed}
-use Rattle.queue.specs.Enters.{place}
+use Rattle.partition.specs.Layout.{place}
 use native.Mathlib.Omega.{arith}
 use lib.ListN.{length}
 use Rattle.fmpass.proofs.make_move.Goals as goal

@@ -2,7 +2,7 @@ use native.Mathlib.Omega.{arith}
 use lib.ListN.{length}
 use mathlib.Core.Bool.{true}
 use Rattle.draws.specs.Cursor.{words_at}
-use Rattle.queue.specs.Enters.{place}
+use Rattle.partition.specs.Layout.{place}
 use Rattle.moves.specs.Kept.{site_kept}
 use Rattle.refine.specs.Passes.{refined_as, passes_next}
 use Rattle.refine.proofs.all_passes.Goals as goal

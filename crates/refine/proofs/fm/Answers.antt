@@ -1,7 +1,7 @@
 use lib.ListN.{length}
 use mathlib.Core.Bool.{not}
 use mathlib.Core.List.{[], ◌∷◌}
-use Rattle.queue.specs.Enters.{place}
+use Rattle.partition.specs.Layout.{place}
 use Rattle.moves.specs.Kept.{site_kept}
 use Rattle.refine.specs.Passes.{split_as, halves}
 use Rattle.refine.proofs.fm.Goals as goal

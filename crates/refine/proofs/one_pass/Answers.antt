@@ -4,7 +4,7 @@ use lib.ListN.{length}
 use lib.Seq.{length-take-le}
 use lib.Ieee.{of_bits, round}
 use Rattle.spec.specs.Floats.{zero_float}
-use Rattle.queue.specs.Enters.{place}
+use Rattle.partition.specs.Layout.{place}
 use Rattle.fmpass.specs.State.{run}
 use Rattle.cells.specs.Cells.{front_filled}
 use Rattle.refine.specs.Starts.{starts_in}
