@@ -13,6 +13,7 @@ use Rattle.slots.specs.Rising.{rising_of}
 use Rattle.partition.specs.Common.{common_of}
 use Rattle.partition.specs.Few.{Few}
 use Rattle.partition.specs.declared.place.Place.{Place}
+use Rattle.partition.specs.declared.layout.Layout.{Layout}
 
 module _ (ws : List ℕ) (nets : ℕ) (weights : List ℕ) where
   abbrev pub net_in : ℕ → Net
@@ -34,6 +35,9 @@ pub record Laid (ws : List ℕ) (nets vertices sides m n : ℕ) : Type 0 where
 
 abbrev pub place : ℕ → ℕ → ℕ → ℕ → ℕ → Place
 place nets vertices sides m n = record { nets = nets; vertices = vertices; sides = sides; net_count = m; vertex_count = n }
+
+abbrev pub place_of : Layout → Place
+place_of l = place l.nets l.vertices l.sides l.net_count (length l.vertex_weights.now)
 
 -- a hypergraph and a partition lie there
 pub record Placed (ws : List ℕ) (o : Place) : Type 0 where

@@ -14,9 +14,11 @@ ghost use Rattle.partition.specs.Gains.{IsGain};
 ghost use Rattle.partition.specs.Cuts.{cut_step, IsCutWeight};
 
 mod graph;
+mod layout;
 mod place;
 
 pub use graph::Hypergraph;
+pub use layout::Layout;
 pub use place::Place;
 
 // How many members slots `a` and `b` have in common.
@@ -75,34 +77,6 @@ fn gain_net(here: usize, there: usize, w: u8, g: f64) -> f64
         return g - x;
     }
     g
-}
-
-// The gain of the move of vertex `v`, in a hypergraph of `m` nets and `n` vertices.
-pub fn gain(
-    words: &[u64],
-    nets: usize,
-    vertices: usize,
-    sides: usize,
-    m: usize,
-    n: usize,
-    weights: &[u8],
-    v: usize,
-) -> f64
-    requires { (nets < 32768) × (vertices < 32768) × (sides < 32768) × (v < n) × Laid words.now nets vertices sides m n }
-    ensures { IsGain words.now nets sides m n weights.now v result }
-{
-    let graph = Hypergraph {
-        words,
-        weights,
-        place: Place {
-            nets,
-            vertices,
-            sides,
-            net_count: m,
-            vertex_count: n,
-        },
-    };
-    graph.gain(v)
 }
 
 // The weight of the nets that are cut, in a hypergraph of `m` nets and `n` vertices.
