@@ -2,11 +2,11 @@
 use Rattle.std.specs.Prelude.{Bool, true, false, cond, ◌≡◌, refl, List, [], map, ℕ, ◌≤◌, length, Float, get_or, set, ◌==◌, Option, None, Some}
 use Rattle.std.proofs.Common.{sym, ap, ◌∙◌}
 use Rattle.std.proofs.Math.ListN.{get_or-map, get_or-eq_default}
-use Rattle.std.proofs.lemmas.List.{map-set}
+use Rattle.std.proofs.lemmas.List.{map-set, length-map}
 use Rattle.std.proofs.Math.Seq.{map-set_same}
 use Rattle.spec.specs.Floats.{zero_float}
 use Rattle.spec.specs.Draws.{Words, lent_words}
-use Rattle.spec.specs.Fm.{Entry as First, above, Queue, waits, entry_of, or_above, offered, taken_out}
+use Rattle.spec.specs.Fm.{Entry as First, above, Queue, waits, entry_of, or_above, offered}
 use Rattle.queue.specs.declared.entries.Entry.{Entry}
 
 abbrev pub first : Float → ℕ → ℕ → First
@@ -30,8 +30,11 @@ stamps_of l = map (λ (x : Entry). x.stamp) l
 abbrev pub waits_of : List Entry → List ℕ
 waits_of l = map (λ (x : Entry). cond x.waits 1 0) l
 
+abbrev pub queue_of : List Float → List ℕ → List ℕ → Words → Queue
+queue_of keys stamps waiting words = record { keys = keys; stamps = stamps; waiting = waiting; words = words }
+
 abbrev pub queue_in : List Entry → Words → Queue
-queue_in l w = record { keys = keys_of l; stamps = stamps_of l; waiting = waits_of l; words = w }
+queue_in l w = queue_of (keys_of l) (stamps_of l) (waits_of l) w
 
 pub key_at : (l : List Entry) (v : ℕ) → get_or (keys_of l) v zero_float ≡ (get_or l v no_entry).key
 key_at l v = get_or-map (λ (x : Entry). x.key) l v no_entry
@@ -88,10 +91,20 @@ offered_none q v e o = ap (λ t. cond t (Some (or_above o (entry_of q v))) o) e
 
 -- ---- an entry taken off ----
 
-pub taken_is : (l l' : List Entry) (w : Words) (v : ℕ) (x : Entry) → x ≡ get_or l v no_entry → l' ≡ set l v (record { key = x.key; stamp = x.stamp; waits = false })
+pub taken_is : (l l' : List Entry) (v : ℕ) (d : Entry) → l' ≡ set l v (record { key = (get_or l v d).key; stamp = (get_or l v d).stamp; waits = false })
     → (keys_of l' ≡ keys_of l) × (stamps_of l' ≡ stamps_of l) × (waits_of l' ≡ set (waits_of l) v 0)
-taken_is l l' w v x e a = (
-  ap keys_of a ∙ map-set_same (λ (y : Entry). y.key) l v _ no_entry (ap (λ (y : Entry). y.key) e),
-  ap stamps_of a ∙ map-set_same (λ (y : Entry). y.stamp) l v _ no_entry (ap (λ (y : Entry). y.stamp) e),
+taken_is l l' v d a = (
+  ap keys_of a ∙ map-set_same (λ (y : Entry). y.key) l v _ d refl,
+  ap stamps_of a ∙ map-set_same (λ (y : Entry). y.stamp) l v _ d refl,
   ap waits_of a ∙ map-set (λ (y : Entry). cond y.waits 1 0) l v _,
 )
+
+-- ---- lists that are as long ----
+
+pub long_as : (l l' : List Entry) (n : ℕ) → length l' ≡ length l → length (keys_of l) ≡ n → (length (keys_of l') ≡ n) × (length (stamps_of l') ≡ n) × (length (waits_of l') ≡ n)
+long_as l l' n e k =
+    let z : length l' ≡ n = e ∙ sym (length-map l (λ (y : Entry). y.key)) ∙ k in
+    (length-map l' (λ (y : Entry). y.key) ∙ z, length-map l' (λ (y : Entry). y.stamp) ∙ z, length-map l' (λ (y : Entry). cond y.waits 1 0) ∙ z)
+
+pub long_is : (l : List Entry) (n : ℕ) → length (keys_of l) ≡ n → length l ≡ n
+long_is l n k = sym (length-map l (λ (y : Entry). y.key)) ∙ k
