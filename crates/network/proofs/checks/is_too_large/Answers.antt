@@ -1,7 +1,7 @@
 use Rattle.network.specs.Codes.{large_leaves, large_indices, large_outputs, large_legs}
 use native.Mathlib.Omega.{arith}
 use mathlib.Core.Path.{◌∙◌}
-use Rattle.network.proofs.checks.too_large.Goals as goal
+use Rattle.network.proofs.checks.is_too_large.Goals as goal
 
 pub returns-then-n-gt-MAX_LEAVES : goal.returns-then-n-gt-MAX_LEAVES
 returns-then-n-gt-MAX_LEAVES c = large_leaves _ _ _ _ c.if-n-gt-MAX_LEAVES.true
