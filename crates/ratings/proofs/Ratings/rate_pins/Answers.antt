@@ -1,7 +1,7 @@
 use Rattle.ratings.specs.Lists.{IsSameLoan, ratings_of}
-use Rattle.ratings.specs.Rated.{rated_open, rated_pins}
+use Rattle.ratings.specs.Rated.{rated_open}
 use Rattle.partition.specs.Folds.{fold_next}
-use Rattle.std.proofs.Common.{rules, arith, ap, ◌∙◌, ℕ, ◌≡◌, ◌+◌, take}
+use Rattle.std.proofs.Common.{rules, arith, ap, ◌∙◌, ℕ}
 use Rattle.ratings.proofs.Ratings.rate_pins.Goals as goal
 
 pub loop-u-preserved : goal.loop-u-preserved
