@@ -75,16 +75,16 @@ fn link_pins(links: &mut [f64], pins: &[u16], w: u8)
 // Net `e`. The list is for its pins.
 fn link_net(graph: &Graph, pins: &mut [u16], links: &mut [f64], e: usize)
     requires { (e < 65536) × (128 ≤ length pins.old) }
-    ensures { links.new ≡ linked_net graph.now.words.now graph.now.nets graph.now.weights.now e links.old }
+    ensures { links.new ≡ linked_net graph.now.words.now graph.now.layout.nets graph.now.layout.net_weights.now e links.old }
 {
-    let len = slots::members(graph.words, 2, graph.nets + e, pins, 0);
-    let w = cells::get8(graph.weights, e);
+    let len = slots::members(graph.words, 2, graph.layout.nets + e, pins, 0);
+    let w = cells::get8(graph.layout.net_weights, e);
     link_pins(links, &pins[..len], w);
 }
 
 /// The nets of a list: the vertices on them are connected more strongly.
 pub fn link_nets(graph: &Graph, links: &mut [f64], list: &[u16])
-    ensures { links.new ≡ linked_nets graph.now.words.now graph.now.nets graph.now.weights.now list.now links.old }
+    ensures { links.new ≡ linked_nets graph.now.words.now graph.now.layout.nets graph.now.layout.net_weights.now list.now links.old }
 {
     let mut pins = [0u16; 128];
     for &e in list {
@@ -109,17 +109,17 @@ fn grow(
     former: f64,
     v: usize,
 ) -> Growth
-    requires { (v < length graph.now.vertex_weights.now) × (length links.old ≡ length graph.now.vertex_weights.now) × (goal ≡ half (graph_of graph.now)) }
+    requires { (v < length graph.now.layout.vertex_weights.now) × (length links.old ≡ length graph.now.layout.vertex_weights.now) × (goal ≡ half (graph_of graph.now)) }
     ensures turned { growth_of part.new result.weight links.new result.next draws.new ≡ growth_turn (graph_of graph.now) (Some v) (growth_of part.old former links.old (Some v) draws.old) }
-    ensures below { IfSome result.next (λ u. u < length graph.now.vertex_weights.now) }
+    ensures below { IfSome result.next (λ u. u < length graph.now.layout.vertex_weights.now) }
 {
     cells::put(part, v, 1);
-    let weight = former + cells::getf(graph.vertex_weights, v);
+    let weight = former + cells::getf(graph.layout.vertex_weights, v);
     if goal <= weight {
         return Growth { weight, next: None };
     }
     let mut list = [0u16; 256];
-    let len = slots::members(graph.words, 4, graph.vertices + v, &mut list, 0);
+    let len = slots::members(graph.words, 4, graph.layout.vertices + v, &mut list, 0);
     link_nets(graph, links, &list[..len]);
     let best = strongest(part, links, draws);
     Growth {
@@ -137,9 +137,9 @@ fn grow_on(
     links: &mut [f64],
     growth: Growth,
 ) -> Growth
-    requires { IfSome growth.next (λ v. v < length graph.now.vertex_weights.now) × (length links.old ≡ length graph.now.vertex_weights.now) × (goal ≡ half (graph_of graph.now)) }
+    requires { IfSome growth.next (λ v. v < length graph.now.layout.vertex_weights.now) × (length links.old ≡ length graph.now.layout.vertex_weights.now) × (goal ≡ half (graph_of graph.now)) }
     ensures turned { growth_of part.new result.weight links.new result.next draws.new ≡ growth_turn (graph_of graph.now) growth.next (growth_of part.old growth.weight links.old growth.next draws.old) }
-    ensures below { IfSome result.next (λ u. u < length graph.now.vertex_weights.now) }
+    ensures below { IfSome result.next (λ u. u < length graph.now.layout.vertex_weights.now) }
 {
     match growth.next {
         Some(v) => grow(graph, goal, draws, part, links, growth.weight, v),
@@ -156,11 +156,11 @@ pub fn grow_turns(
     links: &mut [f64],
     growth: Growth,
 ) -> Growth
-    requires { IfSome growth.next (λ v. v < length graph.now.vertex_weights.now) × (length links.old ≡ length graph.now.vertex_weights.now) × (goal ≡ half (graph_of graph.now)) }
-    ensures { growth_of part.new result.weight links.new result.next draws.new ≡ grown_from (graph_of graph.now) (length graph.now.vertex_weights.now + 1) (growth_of part.old growth.weight links.old growth.next draws.old) }
+    requires { IfSome growth.next (λ v. v < length graph.now.layout.vertex_weights.now) × (length links.old ≡ length graph.now.layout.vertex_weights.now) × (goal ≡ half (graph_of graph.now)) }
+    ensures { growth_of part.new result.weight links.new result.next draws.new ≡ grown_from (graph_of graph.now) (length graph.now.layout.vertex_weights.now + 1) (growth_of part.old growth.weight links.old growth.next draws.old) }
 {
     let mut g = growth;
-    for k in 0..graph.vertex_weights.len() + 1 {
+    for k in 0..graph.layout.vertex_weights.len() + 1 {
         g = grow_on(graph, goal, draws, part, links, g);
     }
     g
@@ -168,10 +168,10 @@ pub fn grow_turns(
 
 /// A first partition: side 1 grows from a drawn vertex, along its nets, to half of the weight, `goal`.
 pub fn grown(graph: &Graph, goal: f64, draws: &mut Draws, part: &mut [u8])
-    requires { (0 < length graph.now.vertex_weights.now) × (length part.old ≡ length graph.now.vertex_weights.now) × (goal ≡ half (graph_of graph.now)) }
+    requires { (0 < length graph.now.layout.vertex_weights.now) × (length part.old ≡ length graph.now.layout.vertex_weights.now) × (goal ≡ half (graph_of graph.now)) }
     ensures { drawn part.new draws.new ≡ part_grown (graph_of graph.now) draws.old }
 {
-    let n = graph.vertex_weights.len();
+    let n = graph.layout.vertex_weights.len();
     let mut links = [0.0f64; 128];
     cells::fill(part, 0);
     let first = Growth {

@@ -123,15 +123,15 @@ fn match_vertex(
     touched: &mut [u16],
     v: usize,
 )
-    requires { (v < length graph.now.vertex_weights.now) × (16384 ≤ length touched.old) }
+    requires { (v < length graph.now.layout.vertex_weights.now) × (16384 ≤ length touched.old) }
     ensures { drawn mates.new draws.new ≡ matched (graph_of graph.now) limit v (drawn mates.old draws.old) }
 {
-    let n = graph.vertex_weights.len();
+    let n = graph.layout.vertex_weights.len();
     if cells::at16(mates, v) == n {
         let mut floats = [0.0f64; 128];
         let rating = &mut floats[..n];
         let mut list = [0u16; 256];
-        let len = slots::members(graph.words, 4, graph.vertices + v, &mut list, 0);
+        let len = slots::members(graph.words, 4, graph.layout.vertices + v, &mut list, 0);
         let single = Single {
             vertex: v,
             mates,
@@ -144,8 +144,8 @@ fn match_vertex(
         };
         ratings.rate_nets(
             graph.words,
-            graph.nets,
-            graph.weights,
+            graph.layout.nets,
+            graph.layout.net_weights,
             &single,
             &list[..len],
         );
@@ -155,7 +155,7 @@ fn match_vertex(
             count,
         } = ratings;
         let best = choose(
-            graph.vertex_weights,
+            graph.layout.vertex_weights,
             limit,
             draws,
             rating,
@@ -175,7 +175,7 @@ fn match_in_order(
     mates: &mut [u16],
     touched: &mut [u16],
 )
-    requires { (16384 ≤ length touched.old) × Below (length graph.now.vertex_weights.now) order.now }
+    requires { (16384 ≤ length touched.old) × Below (length graph.now.layout.vertex_weights.now) order.now }
     ensures { drawn mates.new draws.new ≡ fold_over (matched (graph_of graph.now) limit) order.now (drawn mates.old draws.old) }
 {
     for &v in order {
@@ -185,10 +185,10 @@ fn match_in_order(
 
 /// The mates of all vertices, taken in a drawn order.
 pub fn match_all(graph: &Graph, limit: f64, draws: &mut Draws, mates: &mut [u16])
-    requires { (0 < length graph.now.vertex_weights.now) × (length mates.old ≡ length graph.now.vertex_weights.now) }
+    requires { (0 < length graph.now.layout.vertex_weights.now) × (length mates.old ≡ length graph.now.layout.vertex_weights.now) }
     ensures { drawn mates.new draws.new ≡ matching (graph_of graph.now) limit draws.old }
 {
-    let n = graph.vertex_weights.len();
+    let n = graph.layout.vertex_weights.len();
     let mut numbers = [0u16; 128];
     let mut touched = [0u16; 16384];
     let order = &mut numbers[..n];

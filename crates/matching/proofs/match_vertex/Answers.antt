@@ -14,13 +14,13 @@ pub returns-then-at16-n : goal.returns-then-at16-n
 unfolding of_bits
 returns-then-at16-n c =
     let a = c.args in let g = a.graph.now in let m = c.members-len in let o = c.rate_nets in let k = c.choose-best in
-    matched_laid g.words.now g.nets g.vertices g.net_count (length g.vertex_weights.now) g.weights.now g.vertex_weights.now a.limit g.meshed a.v a.draws.now _ a.mates.now _ _ a.touched.now _ _ _ m.result _ k.result.mate k.result.rating c.requires.0 refl (sym c.at16.ensures.0 ∙ c.if-at16-n.true) (listed_all g.words.now _ _ 4 (g.vertices + a.v) m.result m.ensures.0 m.ensures.1 (omega arith)) (front_filled (length g.vertex_weights.now) 128 zero_float (omega (arith, g.meshed.few.1))) o.ensures.rated _ k.ensures c.pair.ensures
+    matched_laid g.words.now g.layout.nets g.layout.vertices g.layout.net_count (length g.layout.vertex_weights.now) g.layout.net_weights.now g.layout.vertex_weights.now a.limit g.meshed a.v a.draws.now _ a.mates.now _ _ a.touched.now _ _ _ m.result _ k.result.mate k.result.rating c.requires.0 refl (sym c.at16.ensures.0 ∙ c.if-at16-n.true) (listed_all g.words.now _ _ 4 (g.layout.vertices + a.v) m.result m.ensures.0 m.ensures.1 (omega arith)) (front_filled (length g.layout.vertex_weights.now) 128 zero_float (omega (arith, g.meshed.few.1))) o.ensures.rated _ k.ensures c.pair.ensures
 
 pub returns-else-at16-n : goal.returns-else-at16-n
-returns-else-at16-n c = let a = c.args in let g = a.graph.now in matched_already g.words.now g.nets g.vertices g.net_count (length g.vertex_weights.now) g.weights.now g.vertex_weights.now a.limit g.meshed a.v a.draws.now a.mates.now refl (λ e. c.if-at16-n.false (c.at16.ensures.0 ∙ e))
+returns-else-at16-n c = let a = c.args in let g = a.graph.now in matched_already g.words.now g.layout.nets g.layout.vertices g.layout.net_count (length g.layout.vertex_weights.now) g.layout.net_weights.now g.layout.vertex_weights.now a.limit g.meshed a.v a.draws.now a.mates.now refl (λ e. c.if-at16-n.false (c.at16.ensures.0 ∙ e))
 
 pub slice_bounds-list-end : goal.slice_bounds-list-end
-slice_bounds-list-end c = let a = c.args in let m = c.members-len in listed_fits a.graph.now.words.now _ _ 4 (a.graph.now.vertices + a.v) m.result m.ensures.0 m.ensures.1 (omega arith)
+slice_bounds-list-end c = let a = c.args in let m = c.members-len in listed_fits a.graph.now.words.now _ _ 4 (a.graph.now.layout.vertices + a.v) m.result m.ensures.0 m.ensures.1 (omega arith)
 
 pub slice_bounds-rate_nets-end : goal.slice_bounds-rate_nets-end
-slice_bounds-rate_nets-end c = let a = c.args in let m = c.members-len in sym (length-take-le m.result m.new.out (listed_fits a.graph.now.words.now _ _ 4 (a.graph.now.vertices + a.v) m.result m.ensures.0 m.ensures.1 (omega arith)))
+slice_bounds-rate_nets-end c = let a = c.args in let m = c.members-len in sym (length-take-le m.result m.new.out (listed_fits a.graph.now.words.now _ _ 4 (a.graph.now.layout.vertices + a.v) m.result m.ensures.0 m.ensures.1 (omega arith)))
