@@ -7,6 +7,10 @@ ghost use Rattle.spec.specs.Floats.{round_away, round_to};
 ghost use Rattle.spec.specs.Draws.{unit_of, draw, unit_draw, index_draw};
 ghost use Rattle.draws.specs.Cursor.{words_at};
 
+mod lent;
+
+pub use lent::Draws;
+
 // The word over 2^11, rounded down, times 2^-53.
 pub fn unit_draw(word: u64) -> f64
     ensures { result ≡ unit_of word }

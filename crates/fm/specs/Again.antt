@@ -9,7 +9,8 @@ use Rattle.spec.specs.Fm.{Queue, entered_again}
 use Rattle.slots.specs.Slots.{held}
 use Rattle.partition.specs.Folds.{fold_next}
 use Rattle.partition.specs.Layout.{graph_in, sides_in}
-use Rattle.queue.specs.Enters.{Place, entered_in, Entered}
+use Rattle.partition.specs.declared.place.Place.{Place}
+use Rattle.queue.specs.Enters.{entered_in, Entered}
 
 -- no stamp is above k
 abbrev pub Stamped : ℕ → List ℕ → Type 0
@@ -31,25 +32,25 @@ stamped_set k u s stamps h b w =
 
 module _ (ws : List ℕ) (o : Place) (weights : List ℕ) (locked : ℕ) where
   abbrev pub again_in : List Float → List ℕ → ℕ → Queue → Queue
-  again_in vw moves u q = entered_again (graph_in ws o.nets weights o.m vw) (sides_in ws o.sides o.n) moves u q
+  again_in vw moves u q = entered_again (graph_in ws o.nets weights o.net_count vw) (sides_in ws o.sides o.vertex_count) moves u q
 
   -- the slot of locked vertices holds those that have moved
   abbrev pub Locks : List ℕ → Type 0
-  Locks moves = (u : ℕ) → u < o.n → memb u moves ≡ held ws 2 locked u
+  Locks moves = (u : ℕ) → u < o.vertex_count → memb u moves ≡ held ws 2 locked u
 
   -- the queue after u was entered again, unless it has moved, whatever the moves were
   pub record Again (u : ℕ) (q r : Queue) : Type 0 where
     pub queue : (vw : List Float) (moves : List ℕ) → Locks moves → r ≡ again_in vw moves u q
     pub stamps : (k : ℕ) → Stamped k q.stamps → Stamped (suc k) r.stamps
 
-  pub again_locked : (u : ℕ) (q : Queue) → u < o.n → held ws 2 locked u ≡ true → Again u q q
+  pub again_locked : (u : ℕ) (q : Queue) → u < o.vertex_count → held ws 2 locked u ≡ true → Again u q q
   again_locked u q b e =
       record {
         queue = λ vw moves l. sym (ap (λ t. cond t q (entered_in ws o weights vw (suc (get_or q.stamps u 0)) u q)) (l u b ∙ e));
         stamps = λ k h w. omega (arith, h w);
       }
 
-  pub again_entered : (u s : ℕ) (q r : Queue) → u < o.n → held ws 2 locked u ≡ false → s ≡ get_or q.stamps u 0 + 1 → Entered ws o weights s u q r → Again u q r
+  pub again_entered : (u s : ℕ) (q r : Queue) → u < o.vertex_count → held ws 2 locked u ≡ false → s ≡ get_or q.stamps u 0 + 1 → Entered ws o weights s u q r → Again u q r
   again_entered u s q r b e f p =
       record {
         queue = λ vw moves l. p vw ∙ ap (λ t. entered_in ws o weights vw t u q) (f ∙ add-one (get_or q.stamps u 0))

@@ -6,7 +6,7 @@ use Rattle.spec.specs.Fm.{Queue}
 use Rattle.slots.specs.Rising.{rising_of}
 use Rattle.partition.specs.Folds.{fold_append}
 use Rattle.partition.specs.Layout.{net_in}
-use Rattle.queue.specs.Enters.{Place}
+use Rattle.partition.specs.declared.place.Place.{Place}
 use Rattle.fm.specs.Again.{Stamped, again_in, Locks}
 use Rattle.fm.specs.NetAgain.{NetAgain}
 

@@ -13,10 +13,10 @@ use Rattle.spec.specs.Fm.{Queue, Gains, Pass, entered_again, counted, after_move
 use Rattle.laws.specs.Booleans.{clash}
 use Rattle.laws.specs.ListLaws.{kept_few}
 use Rattle.slots.specs.Slots.{held, with_set, held_with}
-use Rattle.draws.specs.Cursor.{words_at}
+use Rattle.spec.specs.Draws.{Words}
 use Rattle.partition.specs.Layout.{graph_in}
 use Rattle.queue.specs.Queues.{queue_of}
-use Rattle.queue.specs.Enters.{place}
+use Rattle.partition.specs.Layout.{place}
 use Rattle.fm.specs.Again.{Stamped, Under}
 use Rattle.fm.specs.Neighbours.{NeighboursAgain}
 use Rattle.moves.specs.Kept.{Kept, kept_then, kept_with, graph_kept, Site, site_kept}
@@ -85,12 +85,12 @@ module _ (nets vertices sides m : ℕ) (vw : List Float) (M : Lists) (R : Run) (
         ]
 
     -- what stands after the move, with a queue in which none that has moved waits
-    pub made_stands : (keys : List Float) (stamps waiting : List ℕ) (sum best : Float) (count peak at : ℕ) (over : Bool) → count ≡ R.count + 1
+    pub made_stands : (keys : List Float) (stamps waiting : List ℕ) (sum best : Float) (count peak : ℕ) (words : Words) (over : Bool) → count ≡ R.count + 1
         → ((u : ℕ) → eqb (get_or waiting u 0) 1 ≡ true → memb u (backwards moves₁ (R.count + 1)) ≡ false) → Stamped (R.count * 32768 + 32768) stamps
         → (length keys ≡ length vw) × (length stamps ≡ length vw) × (length waiting ≡ length vw)
-        → Stands (place nets vertices sides m (length vw)) (lists ws₂ part₁ loads₁ keys stamps waiting moves₁) (run count sum best peak at over)
-    made_stands keys stamps waiting sum best count peak at over ec fresh low long =
-        subst (λ (c : ℕ). Stands (place nets vertices sides m (length vw)) (lists ws₂ part₁ loads₁ keys stamps waiting moves₁) (run c sum best peak at over)) (sym ec)
+        → Stands (place nets vertices sides m (length vw)) (lists ws₂ part₁ loads₁ keys stamps waiting moves₁) (run count sum best peak words over)
+    made_stands keys stamps waiting sum best count peak words over ec fresh low long =
+        subst (λ (c : ℕ). Stands (place nets vertices sides m (length vw)) (lists ws₂ part₁ loads₁ keys stamps waiting moves₁) (run c sum best peak words over)) (sym ec)
         (record {
           site = made_site;
           split = made_split;
@@ -109,15 +109,15 @@ module _ (nets vertices sides m : ℕ) (vw : List Float) (M : Lists) (R : Run) (
           ∙ ap (λ t. t || memb u (moves_in M R)) (ne_eqb u v (λ e. clash w (ap (λ (z : ℕ). eqb (get_or M.waiting z 0) 1) e ∙ off)))
           ∙ h.fresh u w
 
-      module _ (weights draws : List ℕ) (maxw key sum best : Float) (count peak at : ℕ) (past : Bool)
-          (ek : key ≡ get_or M.keys v zero_float) (ec : count ≡ R.count + 1) (ea : at ≡ R.at)
+      module _ (weights : List ℕ) (maxw key sum best : Float) (count peak : ℕ) (past : Bool)
+          (ek : key ≡ get_or M.keys v zero_float) (ec : count ≡ R.count + 1)
           (eg : Counted R.count R.sum R.best R.peak key sum best peak)
           (ep : past ≡ ltb (50 + length vw / 4) (count - peak)) where
         abbrev G : Hypergraph
         G = graph_in M.graph nets weights m vw
 
         abbrev queue : Queue
-        queue = queue_of M.keys M.stamps M.waiting (words_at draws R.at)
+        queue = queue_of M.keys M.stamps M.waiting R.words
 
         abbrev gains : Gains
         gains = gains_of (backwards moves₁ (R.count + 1)) sum best peak
@@ -135,42 +135,42 @@ module _ (nets vertices sides m : ℕ) (vw : List Float) (M : Lists) (R : Run) (
         unfolding graph_in
         made_past = ap (λ (k : ℕ). ltb (50 + length vw / 4) (k - peak)) (back_length moves₁ (R.count + 1) ∙ sym ec) ∙ sym ep
 
-        made_after : made_move maxw v G (pass_in draws M R) ≡ after_as G v queue (sides_as part₁ loads₁) gains past
+        made_after : made_move maxw v G (pass_in M R) ≡ after_as G v queue (sides_as part₁ loads₁) gains past
         made_after = (λ i. after_move G maxw v queue (made_sides i) (made_gains i)) ∙ ap (after_as G v queue (sides_as part₁ loads₁) gains) made_past
 
         -- PAST THE LIMIT
         pub made_over : past ≡ true
-            → Brings weights vw draws (place nets vertices sides m (length vw)) (made_move maxw v) M
-            (lists ws₂ part₁ loads₁ M.keys M.stamps M.waiting moves₁) R (run count sum best peak at true)
+            → Brings weights vw (place nets vertices sides m (length vw)) (made_move maxw v) M
+            (lists ws₂ part₁ loads₁ M.keys M.stamps M.waiting moves₁) R (run count sum best peak R.words true)
         made_over e =
             record {
-              pass = (λ i. record { sides = sides_as part₁ loads₁; queue = queue_of M.keys M.stamps M.waiting (words_at draws (ea i)); gains = gains_of (backwards moves₁ (ec i)) sum best peak; over = true })
+              pass = (λ i. record { sides = sides_as part₁ loads₁; queue = queue_of M.keys M.stamps M.waiting R.words; gains = gains_of (backwards moves₁ (ec i)) sum best peak; over = true })
                   ∙ sym (made_after ∙ ap (after_as G v queue (sides_as part₁ loads₁) gains) e);
-              stands = made_stands M.keys M.stamps M.waiting sum best count peak at true ec made_fresh (λ u. omega (arith, h.low u)) (h.long.0, h.long.1, h.long.2);
+              stands = made_stands M.keys M.stamps M.waiting sum best count peak R.words true ec made_fresh (λ u. omega (arith, h.low u)) (h.long.0, h.long.1, h.long.2);
               kept = made_kept;
             }
 
         -- THE NEIGHBOURS ARE ENTERED AGAIN
-        module _ (keys : List Float) (stamps waiting : List ℕ) (at' : ℕ)
-            (nb : NeighboursAgain ws₂ (place nets vertices sides m (length vw)) weights (sides + 2) v (queue_of M.keys M.stamps M.waiting (words_at draws at)) (queue_of keys stamps waiting (words_at draws at'))) where
+        module _ (keys : List Float) (stamps waiting : List ℕ) (words : Words)
+            (nb : NeighboursAgain ws₂ (place nets vertices sides m (length vw)) weights (sides + 2) v (queue_of M.keys M.stamps M.waiting R.words) (queue_of keys stamps waiting words)) where
           abbrev again : List ℕ → Queue
           again moves = fold_over (entered_again G part₁ moves) (all_pins (nets_at G v)) queue
 
-          entered : queue_of keys stamps waiting (words_at draws at') ≡ again (backwards moves₁ (R.count + 1))
+          entered : queue_of keys stamps waiting words ≡ again (backwards moves₁ (R.count + 1))
           entered =
               let g : graph_in ws₂ nets weights m vw ≡ G = graph_kept (sides * 2) M.graph ws₂ made_kept nets m weights vw (omega (arith, h.site.behind.0)) in
               nb.queue vw (backwards moves₁ (R.count + 1)) made_locks
               ∙ (λ i. fold_over (entered_again (g i) (split_sides ws₂ sides (length vw) part₁ made_split i) (backwards moves₁ (R.count + 1))) (all_pins (nets_at (g i) v))
-              (queue_of M.keys M.stamps M.waiting (words_at draws (ea i))))
+              (queue_of M.keys M.stamps M.waiting R.words))
 
           pub made_on : past ≡ false → (length keys ≡ length vw) × (length stamps ≡ length vw) × (length waiting ≡ length vw)
-              → Brings weights vw draws (place nets vertices sides m (length vw)) (made_move maxw v) M
-              (lists ws₂ part₁ loads₁ keys stamps waiting moves₁) R (run count sum best peak at' false)
+              → Brings weights vw (place nets vertices sides m (length vw)) (made_move maxw v) M
+              (lists ws₂ part₁ loads₁ keys stamps waiting moves₁) R (run count sum best peak words false)
           made_on e long =
               record {
                 pass = (λ i. record { sides = sides_as part₁ loads₁; queue = entered i; gains = gains_of (backwards moves₁ (ec i)) sum best peak; over = false })
                     ∙ sym (made_after ∙ ap (after_as G v queue (sides_as part₁ loads₁) gains) e);
-                stands = made_stands keys stamps waiting sum best count peak at' false ec
+                stands = made_stands keys stamps waiting sum best count peak words false ec
                     (subst (Fresh (backwards moves₁ (R.count + 1))) (sym entered) (all_fresh G part₁ (backwards moves₁ (R.count + 1)) (all_pins (nets_at G v)) queue made_fresh))
                     (nb.stamps (R.count * 32768) h.low) long;
                 kept = made_kept;

@@ -4,14 +4,17 @@ use Rattle.spec.specs.Lists.{memb, keep, range}
 use Rattle.spec.specs.Hypergraph.{Hypergraph}
 use Rattle.spec.specs.Fm.{Pass}
 use Rattle.slots.specs.Slots.{held}
-use Rattle.draws.specs.Cursor.{words_at}
+use Rattle.spec.specs.Draws.{Words}
 use Rattle.partition.specs.Layout.{graph_in}
-use Rattle.queue.specs.Queues.{queue_of}
-use Rattle.queue.specs.Enters.{Place}
+use Rattle.queue.specs.declared.entries.Entry.{Entry}
+use Rattle.queue.specs.Queues.{queue_of, keys_of, stamps_of, waits_of}
+use Rattle.partition.specs.declared.place.Place.{Place}
 use Rattle.fm.specs.Again.{Stamped, Under}
 use Rattle.moves.specs.Kept.{Kept, Site}
 use Rattle.moves.specs.Split.{Split, sides_as}
 use Rattle.moves.specs.Sums.{gains_of, backwards}
+use Rattle.moves.specs.declared.bipartition.Bipartition.{Bipartition}
+use Rattle.moves.specs.declared.pass.Pass.{Pass as Counts}
 
 -- the lists
 pub record Lists : Type 0 where
@@ -27,27 +30,34 @@ abbrev pub lists : List ℕ → List ℕ → List Float → List Float → List 
 lists graph part loads keys stamps waiting moves =
     record { graph = graph; part = part; loads = loads; keys = keys; stamps = stamps; waiting = waiting; moves = moves }
 
--- the numbers
+-- the numbers, and the words
 pub record Run : Type 0 where
   pub count : ℕ
   pub sum : Float
   pub best : Float
   pub peak : ℕ
-  pub at : ℕ
+  pub words : Words
   pub over : Bool
 
-abbrev pub run : ℕ → Float → Float → ℕ → ℕ → Bool → Run
-run count sum best peak at over = record { count = count; sum = sum; best = best; peak = peak; at = at; over = over }
+abbrev pub run : ℕ → Float → Float → ℕ → Words → Bool → Run
+run count sum best peak words over = record { count = count; sum = sum; best = best; peak = peak; words = words; over = over }
+
+-- as the code has them
+abbrev pub lists_in : Bipartition → List Entry → Counts → Lists
+lists_in b l p = lists b.words.now b.part.now b.loads (keys_of l) (stamps_of l) (waits_of l) p.moves
+
+abbrev pub run_in : Counts → Words → Run
+run_in p words = run p.count p.sum p.best p.peak words p.over
 
 -- the vertices that have moved, the last one first
 abbrev pub moves_in : Lists → Run → List ℕ
 moves_in M R = backwards M.moves R.count
 
-abbrev pub pass_in : List ℕ → Lists → Run → Pass
-pass_in draws M R =
+abbrev pub pass_in : Lists → Run → Pass
+pass_in M R =
     record {
       sides = sides_as M.part M.loads;
-      queue = queue_of M.keys M.stamps M.waiting (words_at draws R.at);
+      queue = queue_of M.keys M.stamps M.waiting R.words;
       gains = gains_of (moves_in M R) R.sum R.best R.peak;
       over = R.over;
     }
@@ -55,16 +65,16 @@ pass_in draws M R =
 -- Between two turns: the slots hold the partition and the vertices that have moved; of these none waits; each was counted once.
 pub record Stands (o : Place) (M : Lists) (R : Run) : Type 0 where
   pub site : Site M.graph o
-  pub split : Split M.graph o.sides o.n M.part
-  pub locks : (u : ℕ) → u < o.n → memb u (moves_in M R) ≡ held M.graph 2 (o.sides + 2) u
+  pub split : Split M.graph o.sides o.vertex_count M.part
+  pub locks : (u : ℕ) → u < o.vertex_count → memb u (moves_in M R) ≡ held M.graph 2 (o.sides + 2) u
   pub fresh : (u : ℕ) → eqb (get_or M.waiting u 0) 1 ≡ true → memb u (moves_in M R) ≡ false
-  pub once : length (keep (λ u. memb u (moves_in M R)) (range o.n)) ≡ R.count
+  pub once : length (keep (λ u. memb u (moves_in M R)) (range o.vertex_count)) ≡ R.count
   pub low : Stamped (R.count * 32768) M.stamps
-  pub under : Under o.n R.count M.moves
-  pub long : (length M.keys ≡ o.n) × (length M.stamps ≡ o.n) × (length M.waiting ≡ o.n) × (o.n ≤ length M.moves)
+  pub under : Under o.vertex_count R.count M.moves
+  pub long : (length M.keys ≡ o.vertex_count) × (length M.stamps ≡ o.vertex_count) × (length M.waiting ≡ o.vertex_count) × (o.vertex_count ≤ length M.moves)
 
 -- Lists and numbers of a pass become those after f, and stand again; the hypergraph stays.
-pub record Brings (weights : List ℕ) (vw : List Float) (draws : List ℕ) (o : Place) (f : Hypergraph → Pass → Pass) (M M' : Lists) (R R' : Run) : Type 0 where
-  pub pass : pass_in draws M' R' ≡ f (graph_in M.graph o.nets weights o.m vw) (pass_in draws M R)
+pub record Brings (weights : List ℕ) (vw : List Float) (o : Place) (f : Hypergraph → Pass → Pass) (M M' : Lists) (R R' : Run) : Type 0 where
+  pub pass : pass_in M' R' ≡ f (graph_in M.graph o.nets weights o.net_count vw) (pass_in M R)
   pub stands : Stands o M' R'
   pub kept : Kept (o.sides * 2) M.graph M'.graph

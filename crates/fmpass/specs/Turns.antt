@@ -1,17 +1,19 @@
 -- A turn of a pass: the first entry comes off, and its vertex moves if the other side can take it. Turn after turn. Assumes nothing.
 use Rattle.std.specs.Prelude.{Bool, true, false, not, ◌&&◌, ◌||◌, ◌≡◌, refl, List, [], ◌∷◌, ℕ, ◌+◌, ◌*◌, ◌≤◌, ◌<◌, eqb, Float, length, get_or, set, Option, None, Some}
 use Rattle.std.proofs.Math.Bool.{cond}
-use Rattle.std.proofs.Common.{sym, ◌∙◌, subst, arith, mul-le-mul_right, add-one, ne_eqb, length-set, get_or-set_same, get_or-set_other}
+use Rattle.std.proofs.Common.{sym, ◌∙◌, subst, arith, mul-le-mul_right, add-one, length-set, get_or-set_same, get_or-set_other}
 use Rattle.std.proofs.Math.Path.{ap}
 use Rattle.std.proofs.Math.Decide.{ℕ_discrete}
 use Rattle.spec.specs.Lists.{memb, range}
+use Rattle.spec.specs.Draws.{Words}
 use Rattle.spec.specs.Hypergraph.{Hypergraph, fold_over, until}
 use Rattle.spec.specs.Fm.{Entry, above, Queue, waits, entry_of, offered, largest, Pass, turn_of, pass_turn, run_pass}
 use Rattle.laws.specs.Booleans.{by_cases, clash}
 use Rattle.partition.specs.Layout.{graph_in}
 use Rattle.queue.specs.Open.{open_in}
-use Rattle.queue.specs.Queues.{queue_of, no_words, entry_at, entry_none}
-use Rattle.queue.specs.Enters.{Place, place}
+use Rattle.queue.specs.Queues.{queue_of, no_words}
+use Rattle.partition.specs.declared.place.Place.{Place}
+use Rattle.partition.specs.Layout.{place}
 use Rattle.moves.specs.Kept.{Kept, kept_all, kept_then, graph_kept}
 use Rattle.moves.specs.Split.{sides_as, site_placed}
 use Rattle.moves.specs.Sums.{Fits}
@@ -36,9 +38,6 @@ fold_waits : (q : Queue) (l : List ℕ) (o : Option Entry) → Waits q o → Wai
 fold_waits q [] o h = h
 fold_waits q (v ∷ l) o h = fold_waits q l (offered q v o) (offered_waits q v o h)
 
-at_vertex : (n v : ℕ) (q : Queue) → (v ≡ n → ⊥) → entry_at n q v ≡ Some (entry_of q v)
-at_vertex n v q f = ap (λ t. cond t None (Some (entry_of q v))) (ne_eqb v n f)
-
 -- ---- a turn ----
 
 open_bits : (x y z : Bool) → x ≡ not y → z ≡ false → ((x || y) && not z) ≡ true
@@ -50,8 +49,8 @@ module _ (nets vertices sides m : ℕ) (vw : List Float) (M : Lists) (R : Run) (
   abbrev o : Place
   o = place nets vertices sides m (length vw)
 
-  pub same_stands : (sum best : Float) (peak at : ℕ) (over : Bool) → Stands o M (run R.count sum best peak at over)
-  same_stands sum best peak at over =
+  pub same_stands : (sum best : Float) (peak : ℕ) (words : Words) (over : Bool) → Stands o M (run R.count sum best peak words over)
+  same_stands sum best peak words over =
       record { site = h.site; split = h.split; locks = h.locks; fresh = h.fresh; once = h.once; low = h.low; under = h.under; long = h.long }
 
   -- a vertex that is on no side, or has moved, does not wait
@@ -61,45 +60,37 @@ module _ (nets vertices sides m : ℕ) (vw : List Float) (M : Lists) (R : Run) (
       (λ w. clash (open_bits _ _ _ ((site_placed M.graph o M.part h.site h.split).laid.apart u b) (sym (h.locks u b) ∙ h.fresh u w)) e)
       (λ w. w)
 
-  module _ (v : ℕ) (e : entry_at (length vw) (queue_of M.keys M.stamps M.waiting no_words) v ≡ largest (length vw) (queue_of M.keys M.stamps M.waiting no_words)) where
-    module _ (weights draws : List ℕ) (maxw : Float) where
-      abbrev G : Hypergraph
-      G = graph_in M.graph nets weights m vw
+  -- WITHOUT AN ENTRY
+  pub turn_none : (weights : List ℕ) (maxw : Float) → None ≡ largest (length vw) (queue_of M.keys M.stamps M.waiting no_words)
+      → Brings weights vw o (λ H p. pass_turn H maxw p) M M R (run R.count R.sum R.best R.peak R.words true)
+  unfolding graph_in
+  turn_none weights maxw e =
+      record {
+        pass = ap (λ (x : Option Entry). turn_of (graph_in M.graph nets weights m vw) maxw x (pass_in M R)) e;
+        stands = same_stands R.sum R.best R.peak R.words true;
+        kept = kept_all (sides * 2) M.graph;
+      }
 
-      turned : pass_turn G maxw (pass_in draws M R) ≡ turn_of G maxw (entry_at (length vw) (pass_in draws M R).queue v) (pass_in draws M R)
-      unfolding graph_in
-      turned = ap (λ (x : Option Entry). turn_of G maxw x (pass_in draws M R)) (sym e)
-
-      -- WITHOUT AN ENTRY
-      pub turn_none : v ≡ length vw → Brings weights vw draws o (λ H p. pass_turn H maxw p) M M R (run R.count R.sum R.best R.peak R.at true)
-      turn_none z =
-          record {
-            pass = sym (turned ∙ ap (λ (x : Option Entry). turn_of G maxw x (pass_in draws M R)) (ap (entry_at (length vw) (pass_in draws M R).queue) z ∙ entry_none (length vw) (pass_in draws M R).queue));
-            stands = same_stands R.sum R.best R.peak R.at true;
-            kept = kept_all (sides * 2) M.graph;
-          }
-
-    module _ (f : v ≡ length vw → ⊥) (low : v ≤ length vw) where
+  module _ (v : ℕ) (e : Some (entry_of (queue_of M.keys M.stamps M.waiting no_words) v) ≡ largest (length vw) (queue_of M.keys M.stamps M.waiting no_words)) where
+    module _ (low : v < length vw) where
       pub taken_waits : eqb (get_or M.waiting v 0) 1 ≡ true
-      taken_waits =
-          subst (Waits (queue_of M.keys M.stamps M.waiting no_words)) (sym e ∙ at_vertex (length vw) v (queue_of M.keys M.stamps M.waiting no_words) f)
-          (fold_waits (queue_of M.keys M.stamps M.waiting no_words) (range (length vw)) None refl)
+      taken_waits = subst (Waits (queue_of M.keys M.stamps M.waiting no_words)) (sym e) (fold_waits (queue_of M.keys M.stamps M.waiting no_words) (range (length vw)) None refl)
 
       pub taken_free : memb v (moves_in M R) ≡ false
       taken_free = h.fresh v taken_waits
 
-      module _ (waiting : List ℕ) (ew : waiting ≡ set M.waiting v 0) where
+      module _ (keys : List Float) (stamps waiting : List ℕ) (ek : keys ≡ M.keys) (es : stamps ≡ M.stamps) (ew : waiting ≡ set M.waiting v 0) where
         abbrev off : Lists
-        off = lists M.graph M.part M.loads M.keys M.stamps waiting M.moves
+        off = lists M.graph M.part M.loads keys stamps waiting M.moves
 
         off_at : get_or waiting v 0 ≡ 0
-        off_at = ap (λ l. get_or l v 0) ew ∙ get_or-set_same M.waiting v 0 0 (omega (arith, h.long.2, f))
+        off_at = ap (λ l. get_or l v 0) ew ∙ get_or-set_same M.waiting v 0 0 (omega (arith, h.long.2, low))
 
         pub off_waits : eqb (get_or waiting v 0) 1 ≡ false
         off_waits = ap (λ (z : ℕ). eqb z 1) off_at
 
-        pub off_stands : (sum best : Float) (peak at : ℕ) (over : Bool) → Stands o off (run R.count sum best peak at over)
-        off_stands sum best peak at over =
+        pub off_stands : (sum best : Float) (peak : ℕ) (words : Words) (over : Bool) → Stands o off (run R.count sum best peak words over)
+        off_stands sum best peak words over =
             record {
               site = h.site;
               split = h.split;
@@ -109,42 +100,41 @@ module _ (nets vertices sides m : ℕ) (vw : List Float) (M : Lists) (R : Run) (
                 | no g ↦ h.fresh u (ap (λ (x : ℕ). eqb x 1) (sym (ap (λ l. get_or l u 0) ew ∙ get_or-set_other M.waiting v u 0 0 g)) ∙ w)
               ];
               once = h.once;
-              low = h.low;
+              low = λ u. omega (arith, ap (λ l. get_or l u 0) es, h.low u);
               under = h.under;
-              long = (h.long.0, h.long.1, ap length ew ∙ length-set M.waiting v 0 ∙ h.long.2, h.long.3);
+              long = (ap length ek ∙ h.long.0, ap length es ∙ h.long.1, ap length ew ∙ length-set M.waiting v 0 ∙ h.long.2, h.long.3);
             }
 
-        module _ (weights draws : List ℕ) (maxw : Float) (fits : Bool) (ef : Fits vw maxw v (sides_as M.part M.loads) fits) where
+        module _ (weights : List ℕ) (maxw : Float) (fits : Bool) (ef : Fits vw maxw v (sides_as M.part M.loads) fits) where
           abbrev G' : Hypergraph
           G' = graph_in M.graph nets weights m vw
 
-          abbrev stay : List ℕ → Pass
-          stay w = pass_in draws (lists M.graph M.part M.loads M.keys M.stamps w M.moves) (run R.count R.sum R.best R.peak R.at false)
+          abbrev stay : List Float → List ℕ → List ℕ → Pass
+          stay k s w = pass_in (lists M.graph M.part M.loads k s w M.moves) (run R.count R.sum R.best R.peak R.words false)
 
-          abbrev make : List ℕ → Pass
-          make w = made_move maxw v G' (pass_in draws (lists M.graph M.part M.loads M.keys M.stamps w M.moves) R)
+          abbrev make : List Float → List ℕ → List ℕ → Pass
+          make k s w = made_move maxw v G' (pass_in (lists M.graph M.part M.loads k s w M.moves) R)
 
-          taken : pass_turn G' maxw (pass_in draws M R) ≡ cond fits (make waiting) (stay waiting)
+          taken : pass_turn G' maxw (pass_in M R) ≡ cond fits (make keys stamps waiting) (stay keys stamps waiting)
           unfolding graph_in
           taken =
-              turned weights draws maxw
-              ∙ ap (λ (x : Option Entry). turn_of G' maxw x (pass_in draws M R)) (at_vertex (length vw) v (pass_in draws M R).queue f)
-              ∙ (λ i. cond (sym (ef G' refl) i) (make (sym ew i)) (stay (sym ew i)))
+              ap (λ (x : Option Entry). turn_of G' maxw x (pass_in M R)) (sym e)
+              ∙ (λ i. cond (sym (ef G' refl) i) (make (sym ek i) (sym es i) (sym ew i)) (stay (sym ek i) (sym es i) (sym ew i)))
 
           -- THE OTHER SIDE CAN'T TAKE IT
-          pub turn_stays : fits ≡ false → Brings weights vw draws o (λ H p. pass_turn H maxw p) M off R (run R.count R.sum R.best R.peak R.at false)
+          pub turn_stays : fits ≡ false → Brings weights vw o (λ H p. pass_turn H maxw p) M off R (run R.count R.sum R.best R.peak R.words false)
           turn_stays z =
               record {
-                pass = sym (taken ∙ ap (λ t. cond t (make waiting) (stay waiting)) z);
-                stands = off_stands R.sum R.best R.peak R.at false;
+                pass = sym (taken ∙ ap (λ t. cond t (make keys stamps waiting) (stay keys stamps waiting)) z);
+                stands = off_stands R.sum R.best R.peak R.words false;
                 kept = kept_all (sides * 2) M.graph;
               }
 
           -- THE MOVE
-          pub turn_moves : (M' : Lists) (R' : Run) → fits ≡ true → Brings weights vw draws o (made_move maxw v) off M' R R' → Brings weights vw draws o (λ H p. pass_turn H maxw p) M M' R R'
+          pub turn_moves : (M' : Lists) (R' : Run) → fits ≡ true → Brings weights vw o (made_move maxw v) off M' R R' → Brings weights vw o (λ H p. pass_turn H maxw p) M M' R R'
           turn_moves M' R' z b =
               record {
-                pass = b.pass ∙ sym (taken ∙ ap (λ t. cond t (make waiting) (stay waiting)) z);
+                pass = b.pass ∙ sym (taken ∙ ap (λ t. cond t (make keys stamps waiting) (stay keys stamps waiting)) z);
                 stands = b.stands;
                 kept = b.kept;
               }
@@ -154,7 +144,7 @@ module _ (nets vertices sides m : ℕ) (vw : List Float) (M : Lists) (R : Run) (
 pub square_small : (n : ℕ) → n ≤ 128 → (n + 1) * (n + 1) ≤ 16641
 square_small n h = omega (arith, mul-le-mul_right {m = n + 1} {n = 129} (n + 1) (omega arith))
 
-module _ (weights : List ℕ) (vw : List Float) (draws : List ℕ) (maxw : Float) (nets vertices sides m : ℕ) (M₀ : Lists) (R₀ : Run) where
+module _ (weights : List ℕ) (vw : List Float) (maxw : Float) (nets vertices sides m : ℕ) (M₀ : Lists) (R₀ : Run) where
   abbrev o₀ : Place
   o₀ = place nets vertices sides m (length vw)
 
@@ -163,30 +153,30 @@ module _ (weights : List ℕ) (vw : List Float) (draws : List ℕ) (maxw : Float
 
   -- k turns were made
   pub record Runs (M : Lists) (R : Run) (k : ℕ) : Type 0 where
-    pub left : Left (λ (t : Pass). t.over) (pass_turn (graph_in M₀.graph nets weights m vw) maxw) most (pass_in draws M₀ R₀) k (pass_in draws M R)
+    pub left : Left (λ (t : Pass). t.over) (pass_turn (graph_in M₀.graph nets weights m vw) maxw) most (pass_in M₀ R₀) k (pass_in M R)
     pub stands : Stands o₀ M R
     pub kept : Kept (sides * 2) M₀.graph M.graph
 
   pub runs_none : Stands o₀ M₀ R₀ → Runs M₀ R₀ 0
-  runs_none h = record { left = left_all _ _ most (pass_in draws M₀ R₀); stands = h; kept = kept_all (sides * 2) M₀.graph }
+  runs_none h = record { left = left_all _ _ most (pass_in M₀ R₀); stands = h; kept = kept_all (sides * 2) M₀.graph }
 
-  pub runs_next : (M M' : Lists) (R R' : Run) (k : ℕ) → k < most → R.over ≡ false → Runs M R k → Brings weights vw draws o₀ (λ H p. pass_turn H maxw p) M M' R R' → Runs M' R' (k + 1)
+  pub runs_next : (M M' : Lists) (R R' : Run) (k : ℕ) → k < most → R.over ≡ false → Runs M R k → Brings weights vw o₀ (λ H p. pass_turn H maxw p) M M' R R' → Runs M' R' (k + 1)
   runs_next M M' R R' k l e h b =
       let g : graph_in M.graph nets weights m vw ≡ graph_in M₀.graph nets weights m vw =
       graph_kept (sides * 2) M₀.graph M.graph h.kept nets m weights vw (omega (arith, h.stands.site.behind.0)) in
       record {
-        left = left_next _ _ most (pass_in draws M₀ R₀) k (pass_in draws M R) (pass_in draws M' R') l e h.left (b.pass ∙ ap (λ H. pass_turn H maxw (pass_in draws M R)) g);
+        left = left_next _ _ most (pass_in M₀ R₀) k (pass_in M R) (pass_in M' R') l e h.left (b.pass ∙ ap (λ H. pass_turn H maxw (pass_in M R)) g);
         stands = b.stands;
         kept = kept_then (sides * 2) M₀.graph M.graph M'.graph h.kept b.kept;
       }
 
-  enough : run_pass (graph_in M₀.graph nets weights m vw) maxw (pass_in draws M₀ R₀)
-      ≡ until most (λ (t : Pass). t.over) (pass_turn (graph_in M₀.graph nets weights m vw) maxw) (pass_in draws M₀ R₀)
+  enough : run_pass (graph_in M₀.graph nets weights m vw) maxw (pass_in M₀ R₀)
+      ≡ until most (λ (t : Pass). t.over) (pass_turn (graph_in M₀.graph nets weights m vw) maxw) (pass_in M₀ R₀)
   unfolding graph_in
-  enough = ap (λ (k : ℕ). until (k * k) (λ (t : Pass). t.over) (pass_turn (graph_in M₀.graph nets weights m vw) maxw) (pass_in draws M₀ R₀)) (sym (add-one (length vw)))
+  enough = ap (λ (k : ℕ). until (k * k) (λ (t : Pass). t.over) (pass_turn (graph_in M₀.graph nets weights m vw) maxw) (pass_in M₀ R₀)) (sym (add-one (length vw)))
 
-  pub runs_over : (M : Lists) (R : Run) (k : ℕ) → R.over ≡ true → Runs M R k → Brings weights vw draws o₀ (λ H p. run_pass H maxw p) M₀ M R₀ R
-  runs_over M R k e h = record { pass = left_stop _ _ most (pass_in draws M₀ R₀) k (pass_in draws M R) e h.left ∙ sym enough; stands = h.stands; kept = h.kept }
+  pub runs_over : (M : Lists) (R : Run) (k : ℕ) → R.over ≡ true → Runs M R k → Brings weights vw o₀ (λ H p. run_pass H maxw p) M₀ M R₀ R
+  runs_over M R k e h = record { pass = left_stop _ _ most (pass_in M₀ R₀) k (pass_in M R) e h.left ∙ sym enough; stands = h.stands; kept = h.kept }
 
-  pub runs_end : (M : Lists) (R : Run) (k : ℕ) → most ≤ k → Runs M R k → Brings weights vw draws o₀ (λ H p. run_pass H maxw p) M₀ M R₀ R
-  runs_end M R k e h = record { pass = left_none _ _ most (pass_in draws M₀ R₀) k (pass_in draws M R) e h.left ∙ sym enough; stands = h.stands; kept = h.kept }
+  pub runs_end : (M : Lists) (R : Run) (k : ℕ) → most ≤ k → Runs M R k → Brings weights vw o₀ (λ H p. run_pass H maxw p) M₀ M R₀ R
+  runs_end M R k e h = record { pass = left_none _ _ most (pass_in M₀ R₀) k (pass_in M R) e h.left ∙ sym enough; stands = h.stands; kept = h.kept }

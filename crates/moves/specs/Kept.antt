@@ -10,7 +10,7 @@ use Rattle.laws.specs.Booleans.{by_cases}
 use Rattle.slots.specs.Slots.{held, with_set, with_set_length, with_set_outside}
 use Rattle.slots.specs.Rising.{rising_of, held_same, rising_same}
 use Rattle.partition.specs.Layout.{net_in, graph_in}
-use Rattle.queue.specs.Enters.{Place}
+use Rattle.partition.specs.declared.place.Place.{Place}
 use Rattle.matching.specs.Meshed.{Meshed}
 
 -- the first k words stay
@@ -42,9 +42,9 @@ module _ (k : ℕ) (ws ws' : List ℕ) (h : Kept k ws ws') where
 -- a hypergraph with the three slots behind it
 pub record Site (ws : List ℕ) (o : Place) : Type 0 where
   pub low : (o.nets < 32768) × (o.vertices < 32768) × (o.sides < 32766)
-  pub mesh : Meshed ws o.nets o.vertices o.m o.n
-  pub within : (e v : ℕ) → e < o.m → v < 128 → held ws 2 (o.nets + e) v ≡ true → v < o.n
-  pub behind : (o.nets + o.m ≤ o.sides) × ((o.vertices + o.n) * 2 ≤ o.sides) × (o.sides * 2 + 6 ≤ length ws)
+  pub mesh : Meshed ws o.nets o.vertices o.net_count o.vertex_count
+  pub within : (e v : ℕ) → e < o.net_count → v < 128 → held ws 2 (o.nets + e) v ≡ true → v < o.vertex_count
+  pub behind : (o.nets + o.net_count ≤ o.sides) × ((o.vertices + o.vertex_count) * 2 ≤ o.sides) × (o.sides * 2 + 6 ≤ length ws)
 
 pub site_kept : (ws ws' : List ℕ) (o : Place) → Site ws o → Kept (o.sides * 2) ws ws' → Site ws' o
 site_kept ws ws' o h k =
@@ -58,8 +58,8 @@ site_kept ws ws' o h k =
       behind = (h.behind.0, h.behind.1, omega (arith, h.behind.2, k.long));
     }
   where
-    crossed : (v e : ℕ) → v < o.n → e < 256 → (ltb e o.m && held ws' 2 (o.nets + e) v) ≡ (ltb e o.m && held ws 2 (o.nets + e) v)
+    crossed : (v e : ℕ) → v < o.vertex_count → e < 256 → (ltb e o.net_count && held ws' 2 (o.nets + e) v) ≡ (ltb e o.net_count && held ws 2 (o.nets + e) v)
     crossed v e b l =
-        by_cases (ltb e o.m)
-        (λ t. rw (t, held_same ws ws' (o.sides * 2) k.same 2 (o.nets + e) (omega (arith, h.behind.0, ltb-true e o.m t)) v (omega (arith, h.mesh.few.1))))
+        by_cases (ltb e o.net_count)
+        (λ t. rw (t, held_same ws ws' (o.sides * 2) k.same 2 (o.nets + e) (omega (arith, h.behind.0, ltb-true e o.net_count t)) v (omega (arith, h.mesh.few.1))))
         (λ t. rw t)

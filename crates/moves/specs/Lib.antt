@@ -3,3 +3,4 @@ pub mod Split
 pub mod Laying
 pub mod Sums
 pub mod Rolled
+pub mod Loans

@@ -17,7 +17,8 @@ use Rattle.laws.specs.ListLaws.{range_length}
 use Rattle.laws.specs.LayoutLaws.{from_at}
 use Rattle.slots.specs.Slots.{held, with_set, with_set_length, held_with, held_with_other}
 use Rattle.partition.specs.Layout.{sides_in}
-use Rattle.queue.specs.Enters.{Place, Placed}
+use Rattle.partition.specs.declared.place.Place.{Place}
+use Rattle.partition.specs.Layout.{Placed}
 use Rattle.moves.specs.Kept.{Kept, kept_then, kept_with, Site}
 
 -- The slots sides and sides + 1 hold the vertices of side 0 and of side 1.
@@ -58,7 +59,7 @@ module _ (ws : List ℕ) (sides n : ℕ) (part : List ℕ) (h : Split ws sides n
       bit (suc zero) b = refl
       bit (suc (suc x)) b = absurd (omega arith)
 
-pub site_placed : (ws : List ℕ) (o : Place) (part : List ℕ) → Site ws o → Split ws o.sides o.n part → Placed ws o
+pub site_placed : (ws : List ℕ) (o : Place) (part : List ℕ) → Site ws o → Split ws o.sides o.vertex_count part → Placed ws o
 site_placed ws o part h s =
     record {
       low = (h.low.0, h.low.1, omega (arith, h.low.2));
@@ -66,7 +67,7 @@ site_placed ws o part h s =
         few = h.mesh.few;
         crossed = h.mesh.crossed;
         within = h.within;
-        apart = split_apart ws o.sides o.n part s;
+        apart = split_apart ws o.sides o.vertex_count part s;
       };
     }
 

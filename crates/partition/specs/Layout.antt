@@ -12,6 +12,8 @@ use Rattle.slots.specs.Slots.{held}
 use Rattle.slots.specs.Rising.{rising_of}
 use Rattle.partition.specs.Common.{common_of}
 use Rattle.partition.specs.Few.{Few}
+use Rattle.partition.specs.declared.place.Place.{Place}
+use Rattle.partition.specs.declared.layout.Layout.{Layout}
 
 module _ (ws : List ℕ) (nets : ℕ) (weights : List ℕ) where
   abbrev pub net_in : ℕ → Net
@@ -30,6 +32,17 @@ pub record Laid (ws : List ℕ) (nets vertices sides m n : ℕ) : Type 0 where
   pub crossed : (v e : ℕ) → v < n → e < 256 → held ws 4 (vertices + v) e ≡ (ltb e m && held ws 2 (nets + e) v)
   pub within : (e v : ℕ) → e < m → v < 128 → held ws 2 (nets + e) v ≡ true → v < n
   pub apart : (v : ℕ) → v < n → held ws 2 sides v ≡ not (held ws 2 (sides + 1) v)
+
+abbrev pub place : ℕ → ℕ → ℕ → ℕ → ℕ → Place
+place nets vertices sides m n = record { nets = nets; vertices = vertices; sides = sides; net_count = m; vertex_count = n }
+
+abbrev pub place_of : Layout → Place
+place_of l = place l.nets l.vertices l.sides l.net_count (length l.vertex_weights.now)
+
+-- a hypergraph and a partition lie there
+pub record Placed (ws : List ℕ) (o : Place) : Type 0 where
+  pub low : (o.nets < 32768) × (o.vertices < 32768) × (o.sides < 32768)
+  pub laid : Laid ws o.nets o.vertices o.sides o.net_count o.vertex_count
 
 -- ---- gains, by members in common ----
 

@@ -1,9 +1,8 @@
 -- The vertices that are on a side and have not moved: the first entry is found among them. Assumes nothing.
-use Rattle.std.specs.Prelude.{Bool, false, not, ◌&&◌, ◌||◌, ◌≡◌, refl, List, [], ◌∷◌, ◌++◌, ℕ, zero, suc, ◌+◌, ◌-◌, ◌*◌, ◌≤◌, ◌<◌, eqb, length, get_or}
-use Rattle.std.proofs.Common.{sym, ap, ◌∙◌, arith, ne_eqb}
+use Rattle.std.specs.Prelude.{Bool, false, not, ◌&&◌, ◌||◌, ◌≡◌, refl, List, [], ◌∷◌, ◌++◌, ℕ, zero, suc, ◌+◌, ◌-◌, ◌*◌, ◌≤◌, ◌<◌, get_or}
+use Rattle.std.proofs.Common.{sym, ap, ◌∙◌, arith}
 use Rattle.std.proofs.Math.Decide.{dec_lt}
 use Rattle.std.specs.Int.Bits.{bit_or}
-use Rattle.std.proofs.Math.ListN.{get_or-eq_default}
 use Rattle.spec.specs.Lists.{keep, from, range}
 use Rattle.spec.specs.Hypergraph.{fold_over}
 use Rattle.laws.specs.Booleans.{by_cases}
@@ -30,18 +29,6 @@ module _ (ws : List ℕ) (sides k : ℕ) where
       held-digit ws 2 (sides + 2) k i h ∙ sym (ap (λ (w : ℕ). digit w i) (g ∙ ap (λ (j : ℕ). get_or ws j 0) b)) in
       (λ j. (p j || q j) && not (r j))
       ∙ sym (diff_digits (bit_or x y) z i ∙ ap (λ t. t && not (digit z i)) (or_digits x y i))
-
--- a place that is not 0 is in the list
-pub one_below : (l : List ℕ) (v : ℕ) → get_or l v 0 ≡ 1 → v < length l
-one_below l v e =
-    elim (dec_lt v (length l)) [
-      | yes h ↦ h
-      | no h ↦ absurd (omega (arith, e, get_or-eq_default l 0 (let z : length l ≤ v = omega arith in z)))
-    ]
-
--- past the end no vertex waits
-pub none_past : (l : List ℕ) (n v : ℕ) → length l ≤ n → n ≤ v → eqb (get_or l v 0) 1 ≡ false
-none_past l n v h k = ne_eqb (get_or l v 0) 1 (λ e. omega (arith, one_below l v e))
 
 -- ---- folds that pass over what changes nothing ----
 

@@ -1,189 +1,117 @@
 #![tactic(auto)]
 // Refinement of a partition by moves of single vertices (Fiduccia and Mattheyses): pass after pass, while they bring something.
-ghost use Rattle.std.specs.Prelude.{true, not, ◌≡◌, length};
-ghost use Rattle.spec.specs.Floats.{zero_float};
+ghost use Rattle.std.specs.Prelude.{true, ◌≡◌, length};
 ghost use Rattle.spec.specs.Memory.{filled};
 ghost use Rattle.spec.specs.Fm.{passes};
-ghost use Rattle.draws.specs.Cursor.{words_at};
-ghost use Rattle.queue.specs.Enters.{place};
+ghost use Rattle.partition.specs.Layout.{place_of, Placed};
+ghost use Rattle.queue.specs.Enters.{AllEntered};
+ghost use Rattle.queue.specs.Queues.{no_entry, queue_in};
 ghost use Rattle.moves.specs.Kept.{Site};
 ghost use Rattle.moves.specs.Split.{Split};
 ghost use Rattle.moves.specs.Laying.{Bits};
+ghost use Rattle.moves.specs.Loans.{IsSameLoan, sides_at};
 ghost use Rattle.refine.specs.Starts.{Starts};
 ghost use Rattle.refine.specs.Passes.{refined_as, one_pass, Leads, Halves};
 
-use moves::Pass;
+use draws::Draws;
+use moves::{Bipartition, Pass};
+use partition::{Hypergraph, Layout};
+use queue::Entry;
 
-// The start of a pass, in lists of zeros: enters every vertex, and empties the slot of those that have moved. Returns the cursor after the draws.
-fn start_pass(
-    graph: &mut [u64],
-    nets: usize,
-    vertices: usize,
-    sides: usize,
-    m: usize,
-    weights: &[u8],
-    vw: &[f64],
-    draws: &[u64],
-    at: usize,
-    part: &[u8],
-    keys: &mut [f64],
-    stamps: &mut [u64],
-    waiting: &mut [u8],
-) -> usize
-    requires { (keys.old ≡ filled (length vw.now) zero_float) × (stamps.old ≡ filled (length vw.now) 0) × (waiting.old ≡ filled (length vw.now) 0) × Site graph.old (place nets vertices sides m (length vw.now)) × Split graph.old sides (length vw.now) part.now }
-    ensures { Starts graph.old graph.new weights.now vw.now (place nets vertices sides m (length vw.now)) part.now draws.now at result keys.new stamps.new waiting.new }
+/// Enters every vertex.
+fn enter_all(layout: &Layout, split: &Bipartition, entries: &mut [Entry], draws: &mut Draws)
+    requires { Placed split.now.words.now (place_of layout.now) }
+    ensures { AllEntered split.now.words.now (place_of layout.now) layout.now.net_weights.now (length layout.now.vertex_weights.now) (queue_in entries.old draws.old) (queue_in entries.new draws.new) }
 {
-    slots::empty(graph, 2, sides + 2);
-    queue::enter_all(
-        graph,
-        nets,
-        vertices,
-        sides,
-        m,
-        vw.len(),
-        weights,
-        draws,
-        at,
-        keys,
-        stamps,
-        waiting,
-    )
+    let graph = Hypergraph {
+        words: split.words,
+        weights: layout.net_weights,
+        place: layout.place(),
+    };
+    queue::enter_all(&graph, entries, draws);
 }
 
-// Did a pass bring no more than 1e-9; the cursor.
-#[derive(Clone, Copy)]
-pub struct Refined {
-    pub done: bool,
-    pub at: usize,
+/// The start of a pass, in a list of no entries: empties the slot of the vertices that have moved, and enters every vertex.
+fn start_pass(layout: &Layout, split: &mut Bipartition, entries: &mut [Entry], draws: &mut Draws)
+    requires { (entries.old ≡ filled (length layout.now.vertex_weights.now) no_entry) × Site split.old.words.now (place_of layout.now) × Split split.old.words.now layout.now.sides (length layout.now.vertex_weights.now) split.old.part.now }
+    ensures lent { IsSameLoan split.old split.new }
+    ensures sides { sides_at split.new ≡ sides_at split.old }
+    ensures starts { Starts split.old.words.now split.new.words.now layout.now.net_weights.now layout.now.vertex_weights.now (place_of layout.now) split.new.part.now draws.old draws.new entries.new }
+{
+    let words = &mut *split.words;
+    slots::empty(words, 2, layout.sides + 2);
+    enter_all(layout, split, entries, draws);
 }
 
-// One pass, and the moves after its largest sum taken back.
-fn one_pass(
-    graph: &mut [u64],
-    nets: usize,
-    vertices: usize,
-    sides: usize,
-    m: usize,
-    weights: &[u8],
-    vw: &[f64],
-    maxw: f64,
-    draws: &[u64],
-    at: usize,
-    part: &mut [u8],
-    loads: &mut [f64],
-) -> Refined
-    requires { Site graph.old (place nets vertices sides m (length vw.now)) × Split graph.old sides (length vw.now) part.old }
-    ensures { Leads weights.now vw.now (place nets vertices sides m (length vw.now)) (one_pass maxw) graph.old graph.new (refined_as part.old loads.old true (words_at draws.now at)) (refined_as part.new loads.new (not result.done) (words_at draws.now result.at)) }
+/// One pass, and the moves after its largest sum taken back. Did it bring more than 1e-9.
+fn one_pass(layout: &Layout, split: &mut Bipartition, most_weight: f64, draws: &mut Draws) -> bool
+    requires { Site split.old.words.now (place_of layout.now) × Split split.old.words.now layout.now.sides (length layout.now.vertex_weights.now) split.old.part.now }
+    ensures lent { IsSameLoan split.old split.new }
+    ensures leads { Leads layout.now.net_weights.now layout.now.vertex_weights.now (place_of layout.now) (one_pass most_weight) split.old.words.now split.new.words.now (refined_as split.old.part.now split.old.loads true draws.old) (refined_as split.new.part.now split.new.loads result draws.new) }
 {
-    let n = vw.len();
-    let mut keys = [0.0f64; 128];
-    let mut stamps = [0u64; 128];
-    let mut waiting = [0u8; 128];
-    let mut moves = [0u16; 128];
-    let start = start_pass(
-        graph,
-        nets,
-        vertices,
-        sides,
-        m,
-        weights,
-        vw,
-        draws,
-        at,
-        part,
-        &mut keys[..n],
-        &mut stamps[..n],
-        &mut waiting[..n],
-    );
-    let first = Pass {
+    let n = layout.vertex_weights.len();
+    let mut entries = [Entry::NONE; 128];
+    start_pass(layout, split, &mut entries[..n], draws);
+    let mut pass = Pass {
+        moves: [0; 128],
         count: 0,
         sum: 0.0,
         best: 0.0,
         peak: 0,
-        at: start,
         over: false,
     };
-    let p = fmpass::run_pass(
-        graph,
-        nets,
-        vertices,
-        sides,
-        m,
-        weights,
-        vw,
-        maxw,
+    fmpass::run_pass(
+        layout,
+        split,
+        most_weight,
+        &mut entries[..n],
         draws,
-        part,
-        loads,
-        &mut keys[..n],
-        &mut stamps[..n],
-        &mut waiting[..n],
-        &mut moves,
-        first,
+        &mut pass,
     );
-    moves::roll_back(graph, sides, vw, part, loads, &moves, p.count, p.peak);
-    Refined {
-        done: p.best <= 1e-9,
-        at: p.at,
-    }
+    split.roll_back(layout, &pass);
+    !(pass.best <= 1e-9)
 }
 
-// As many passes as `most`, while they bring something.
+/// As many passes as `most`, while they bring something. Did each of them.
 fn all_passes(
-    graph: &mut [u64],
-    nets: usize,
-    vertices: usize,
-    sides: usize,
-    m: usize,
-    weights: &[u8],
-    vw: &[f64],
-    maxw: f64,
+    layout: &Layout,
+    split: &mut Bipartition,
+    most_weight: f64,
     most: usize,
-    draws: &[u64],
-    at: usize,
-    part: &mut [u8],
-    loads: &mut [f64],
-) -> Refined
-    requires { Site graph.old (place nets vertices sides m (length vw.now)) × Split graph.old sides (length vw.now) part.old }
-    ensures { Leads weights.now vw.now (place nets vertices sides m (length vw.now)) (λ H z. passes H maxw most z) graph.old graph.new (refined_as part.old loads.old true (words_at draws.now at)) (refined_as part.new loads.new (not result.done) (words_at draws.now result.at)) }
+    draws: &mut Draws,
+) -> bool
+    requires { Site split.old.words.now (place_of layout.now) × Split split.old.words.now layout.now.sides (length layout.now.vertex_weights.now) split.old.part.now }
+    ensures lent { IsSameLoan split.old split.new }
+    ensures leads { Leads layout.now.net_weights.now layout.now.vertex_weights.now (place_of layout.now) (λ H z. passes H most_weight most z) split.old.words.now split.new.words.now (refined_as split.old.part.now split.old.loads true draws.old) (refined_as split.new.part.now split.new.loads result draws.new) }
 {
-    let mut r = Refined { done: false, at };
     for k in 0..most {
-        if r.done {
-            return r;
+        if !one_pass(layout, split, most_weight, draws) {
+            return false;
         }
-        r = one_pass(
-            graph, nets, vertices, sides, m, weights, vw, maxw, draws, r.at, part, loads,
-        );
     }
-    r
+    true
 }
 
-// Refines a partition in as many passes as `most`, while they bring something; no side gets heavier than `maxw` by a move. The hypergraph's
-// slots stand before the slot `sides`; that one and the next two are for the sides and for the vertices that have moved. Returns the cursor.
+/// Refines a partition in as many passes as `most`, while they bring something; no side gets heavier than `most_weight` by a move. The hypergraph's slots stand
+/// before the slot `sides` of the layout; that one and the next two are for the sides and for the vertices that have moved.
 pub fn fm(
-    graph: &mut [u64],
-    nets: usize,
-    vertices: usize,
-    sides: usize,
-    m: usize,
-    weights: &[u8],
-    vw: &[f64],
-    maxw: f64,
-    most: usize,
-    draws: &[u64],
-    at: usize,
+    layout: &Layout,
+    words: &mut [u64],
     part: &mut [u8],
-) -> usize
-    requires { Site graph.old (place nets vertices sides m (length vw.now)) × (length part.old ≡ length vw.now) × Bits part.old }
-    ensures { Halves weights.now vw.now (place nets vertices sides m (length vw.now)) maxw most draws.now graph.old graph.new part.old part.new at result }
+    most_weight: f64,
+    most: usize,
+    draws: &mut Draws,
+)
+    requires { Site words.old (place_of layout.now) × (length part.old ≡ length layout.now.vertex_weights.now) × Bits part.old }
+    ensures { Halves layout.now.net_weights.now layout.now.vertex_weights.now (place_of layout.now) most_weight most words.old words.new part.old part.new draws.old draws.new }
 {
-    moves::lay_sides(graph, sides, part);
-    let left = moves::weight_on(part, vw, 0);
-    let right = moves::weight_on(part, vw, 1);
-    let mut loads = [left, right];
-    let r = all_passes(
-        graph, nets, vertices, sides, m, weights, vw, maxw, most, draws, at, part, &mut loads,
-    );
-    r.at
+    moves::lay_sides(words, layout.sides, part);
+    let left = moves::weight_on(part, layout.vertex_weights, 0);
+    let right = moves::weight_on(part, layout.vertex_weights, 1);
+    let mut split = Bipartition {
+        words,
+        part,
+        loads: [left, right],
+    };
+    all_passes(layout, &mut split, most_weight, most, draws);
 }

@@ -1,31 +1,27 @@
-use borrow.Author.Rules.{rules}
+use Rattle.std.proofs.Common.{arith, length}
 use Rattle.fm.specs.Again.{same_again, all_again}
-use Rattle.queue.specs.Enters.{place}
-use native.Mathlib.Omega.{arith}
 use Rattle.fm.proofs.enter_pins.Goals as goal
 
-pub enter_again-t-requires : goal.enter_again-t-requires
-enter_again-t-requires c = let l = c.loop-i in (
-  omega (arith, c.at16-u.ensures.0, c.requires.5 l.i (omega arith)),
-  c.requires.0,
-  c.requires.3,
-  λ u. omega (arith, l.invariant.4.stamps 2147483648 c.requires.4 u, c.requires.1),
-)
+pub enter_again-requires : goal.enter_again-requires
+enter_again-requires c =
+    let l = c.loop-pin in (
+      omega (arith, c.from.ensures, c.requires.3 l.pin-index c.loop-pin-test.true),
+      c.requires.0,
+      λ u. omega (arith, l.invariant.1.stamps 2147483648 c.requires.2 u, c.requires.1, c.loop-pin-test.true),
+    )
 
-pub loop-i-preserved : goal.loop-i-preserved
-loop-i-preserved c = let a = c.args in
-    let l = c.loop-i in
-    let e = c.enter_again-t in
-    let t = c.loop-i-test.true in (
-      omega (arith, t),
-      search rules,
-      search rules,
-      search rules,
-      same_again a.words.now (place a.nets a.vertices a.sides a.m a.n) a.weights.now a.locked a.pins.now l.i _ _ _ c.at16-u.result (omega (arith, t, c.requires.2))
-          c.at16-u.ensures.0 l.invariant.4 e.ensures,
+pub loop-pin-preserved : goal.loop-pin-preserved
+loop-pin-preserved c =
+    let a = c.args in
+    let g = a.graph.now in
+    let l = c.loop-pin in (
+      omega (arith, c.loop-pin-test.true),
+      same_again g.words.now g.place g.weights.now a.locked a.pins.now l.pin-index _ _ _ c.from.result c.loop-pin-test.true c.from.ensures l.invariant.1 c.enter_again.ensures,
     )
 
 pub returns : goal.returns
-returns c = let a = c.args in
-    let l = c.loop-i in
-    all_again a.words.now (place a.nets a.vertices a.sides a.m a.n) a.weights.now a.locked a.pins.now l.i a.count _ _ (omega arith) l.invariant.4
+returns c =
+    let a = c.args in
+    let g = a.graph.now in
+    let l = c.loop-pin in
+    all_again g.words.now g.place g.weights.now a.locked a.pins.now l.pin-index (length a.pins.now) _ _ (omega (arith, l.invariant.0, c.loop-pin-test.false)) l.invariant.1

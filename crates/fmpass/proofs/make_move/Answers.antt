@@ -1,19 +1,67 @@
-use Rattle.fmpass.specs.Makes.{count_low, stamps_low, made_site, made_split, made_over, made_on}
-use Rattle.fmpass.specs.State.{lists, run}
+use Rattle.std.proofs.Common.{arith, ap, sym, ◌∙◌, ℕ, ◌+◌, ◌-◌, ◌/◌, ltb, length}
+use lib.Ieee.{of_bits}
+use Rattle.queue.specs.Queues.{keys_of, stamps_of, waits_of, key_at, long_as}
 use Rattle.moves.specs.Split.{site_placed}
-use Rattle.queue.specs.Enters.{place}
-use native.Mathlib.Omega.{arith}
-use lib.ListN.{length}
+use Rattle.partition.specs.Layout.{place_of}
+use Rattle.fmpass.specs.State.{lists_in, run_in}
+use Rattle.fmpass.specs.Makes.{count_low, stamps_low, made_site, made_split, made_over, made_on}
 use Rattle.fmpass.proofs.make_move.Goals as goal
 
-pub counted-g-requires : goal.counted-g-requires
-counted-g-requires c = let a = c.args in count_low a.nets a.vertices a.sides a.m a.vw.now (lists a.graph.now a.part.now a.loads.now a.keys.now a.stamps.now a.waiting.now a.moves.now) (run a.pass.count a.pass.sum a.pass.best a.pass.peak a.pass.at a.pass.over) c.requires.3 a.v c.requires.0 c.requires.1
+pub count_move-requires : goal.count_move-requires
+count_move-requires c =
+    let a = c.args in
+    let g = a.layout.now in
+    let h = c.requires.3 in
+    let vw = g.vertex_weights.now in (
+      count_low g.nets g.vertices g.sides g.net_count vw (lists_in a.split.now a.entries.now a.pass.now) (run_in a.pass.now a.draws.now) h a.v c.requires.0 c.requires.1,
+      omega (arith, c.requires.0, h.site.mesh.few.1),
+    )
 
-pub returns-then-past_limit : goal.returns-then-past_limit
-returns-then-past_limit c = let a = c.args in made_over a.nets a.vertices a.sides a.m a.vw.now (lists a.graph.now a.part.now a.loads.now a.keys.now a.stamps.now a.waiting.now a.moves.now) (run a.pass.count a.pass.sum a.pass.best a.pass.peak a.pass.at a.pass.over) c.requires.3 a.v c.requires.0 c.requires.1 _ _ _ _ _ c.move_vertex.ensures c.insert.ensures c.put16.ensures c.requires.2 a.weights.now a.draws.now a.maxw c.getf-key.result c.counted-g.result.sum c.counted-g.result.best c.counted-g.result.count c.counted-g.result.peak c.counted-g.result.at c.past_limit.result c.getf-key.ensures c.counted-g.ensures.0 c.counted-g.ensures.1 c.counted-g.ensures.2 c.past_limit.ensures c.if-past_limit.true
+pub enter_neighbours-requires : goal.enter_neighbours-requires
+enter_neighbours-requires c =
+    let a = c.args in
+    let g = a.layout.now in
+    let h = c.requires.3 in
+    let vw = g.vertex_weights.now in
+    let M = lists_in a.split.now a.entries.now a.pass.now in
+    let R = run_in a.pass.now a.draws.now in (
+      h.site.low.2,
+      c.requires.0,
+      site_placed _ (place_of g) _
+          (made_site g.nets g.vertices g.sides g.net_count vw M R h a.v c.requires.0 c.requires.1 _ _ _ _ _ c.move_vertex.ensures.moved c.insert.ensures c.count_move.ensures.moves)
+          (made_split g.nets g.vertices g.sides g.net_count vw M R h a.v c.requires.0 c.requires.1 _ _ _ _ _ c.move_vertex.ensures.moved c.insert.ensures c.count_move.ensures.moves),
+      stamps_low g.nets g.vertices g.sides g.net_count vw M R h a.v c.requires.0 c.requires.1,
+    )
 
-pub enter_neighbours-at-requires : goal.enter_neighbours-at-requires
-enter_neighbours-at-requires c = let a = c.args in (omega (arith, c.requires.3.site.low.2), c.requires.0, site_placed _ (place a.nets a.vertices a.sides a.m (length a.vw.now)) _ (made_site a.nets a.vertices a.sides a.m a.vw.now (lists a.graph.now a.part.now a.loads.now a.keys.now a.stamps.now a.waiting.now a.moves.now) (run a.pass.count a.pass.sum a.pass.best a.pass.peak a.pass.at a.pass.over) c.requires.3 a.v c.requires.0 c.requires.1 _ _ _ _ _ c.move_vertex.ensures c.insert.ensures c.put16.ensures) (made_split a.nets a.vertices a.sides a.m a.vw.now (lists a.graph.now a.part.now a.loads.now a.keys.now a.stamps.now a.waiting.now a.moves.now) (run a.pass.count a.pass.sum a.pass.best a.pass.peak a.pass.at a.pass.over) c.requires.3 a.v c.requires.0 c.requires.1 _ _ _ _ _ c.move_vertex.ensures c.insert.ensures c.put16.ensures), stamps_low a.nets a.vertices a.sides a.m a.vw.now (lists a.graph.now a.part.now a.loads.now a.keys.now a.stamps.now a.waiting.now a.moves.now) (run a.pass.count a.pass.sum a.pass.best a.pass.peak a.pass.at a.pass.over) c.requires.3 a.v c.requires.0 c.requires.1)
+pub returns-then-is_past_limit-clause-made : goal.returns-then-is_past_limit-clause-made
+unfolding of_bits
+returns-then-is_past_limit-clause-made c most =
+    let a = c.args in
+    let g = a.layout.now in
+    let h = c.requires.3 in
+    let vw = g.vertex_weights.now in
+    let M = lists_in a.split.now a.entries.now a.pass.now in
+    let R = run_in a.pass.now a.draws.now in
+    let n = c.count_move.new.self in
+    made_over g.nets g.vertices g.sides g.net_count vw M R h a.v c.requires.0 c.requires.1 _ _ _ _ _ c.move_vertex.ensures.moved c.insert.ensures c.count_move.ensures.moves
+    c.requires.2 g.net_weights.now most c.get_or-key.result.key n.sum n.best n.count n.peak c.is_past_limit.result
+    (ap (λ e. e.key) c.get_or-key.ensures ∙ sym (key_at a.entries.now a.v)) c.count_move.ensures.count c.count_move.ensures.sums
+    (c.is_past_limit.ensures ∙ ap (λ (z : ℕ). ltb (50 + z / 4) (n.count - n.peak)) c.vertex_count.ensures) c.if-is_past_limit.true
 
-pub returns : goal.returns
-returns c = let a = c.args in made_on a.nets a.vertices a.sides a.m a.vw.now (lists a.graph.now a.part.now a.loads.now a.keys.now a.stamps.now a.waiting.now a.moves.now) (run a.pass.count a.pass.sum a.pass.best a.pass.peak a.pass.at a.pass.over) c.requires.3 a.v c.requires.0 c.requires.1 _ _ _ _ _ c.move_vertex.ensures c.insert.ensures c.put16.ensures c.requires.2 a.weights.now a.draws.now a.maxw c.getf-key.result c.counted-g.result.sum c.counted-g.result.best c.counted-g.result.count c.counted-g.result.peak c.counted-g.result.at c.past_limit.result c.getf-key.ensures c.counted-g.ensures.0 c.counted-g.ensures.1 c.counted-g.ensures.2 c.past_limit.ensures _ _ _ c.enter_neighbours-at.result c.enter_neighbours-at.ensures c.if-past_limit.false (omega (arith, c.requires.3.long.0), omega (arith, c.requires.3.long.1), omega (arith, c.requires.3.long.2))
+pub returns-clause-made : goal.returns-clause-made
+unfolding of_bits
+returns-clause-made c most =
+    let a = c.args in
+    let g = a.layout.now in
+    let h = c.requires.3 in
+    let vw = g.vertex_weights.now in
+    let M = lists_in a.split.now a.entries.now a.pass.now in
+    let R = run_in a.pass.now a.draws.now in
+    let n = c.count_move.new.self in
+    let l = c.enter_neighbours.new.entries in
+    made_on g.nets g.vertices g.sides g.net_count vw M R h a.v c.requires.0 c.requires.1 _ _ _ _ _ c.move_vertex.ensures.moved c.insert.ensures c.count_move.ensures.moves
+    c.requires.2 g.net_weights.now most c.get_or-key.result.key n.sum n.best n.count n.peak c.is_past_limit.result
+    (ap (λ e. e.key) c.get_or-key.ensures ∙ sym (key_at a.entries.now a.v)) c.count_move.ensures.count c.count_move.ensures.sums
+    (c.is_past_limit.ensures ∙ ap (λ (z : ℕ). ltb (50 + z / 4) (n.count - n.peak)) c.vertex_count.ensures)
+    (keys_of l) (stamps_of l) (waits_of l) c.enter_neighbours.new.draws c.enter_neighbours.ensures c.if-is_past_limit.false
+    (long_as a.entries.now l (length vw) c.enter_neighbours.auto.entries h.long.0)

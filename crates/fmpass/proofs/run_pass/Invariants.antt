@@ -1,9 +1,12 @@
+use Rattle.std.proofs.Common.{◌≡◌, ◌≤◌, ◌+◌, ◌*◌, length}
+use Rattle.moves.specs.Loans.{IsSameLoan}
+use Rattle.fmpass.specs.State.{lists_in, run_in}
 use Rattle.fmpass.specs.Turns.{Runs}
-use Rattle.fmpass.specs.State.{lists, run}
-use Prim.Native.Nat.{◌+◌, ◌*◌, ◌≤◌}
-use mathlib.Core.Path.{◌≡◌}
-use lib.ListN.{length}
 use Rattle.fmpass.proofs.run_pass.Given as goal
 
 abbrev pub invariant-loop-k : goal.invariant-loop-k
-invariant-loop-k l = (l.k ≤ l.most) × (l.most ≡ (length l.vw + 1) * (length l.vw + 1)) × Runs l.weights l.vw l.draws l.maxw l.nets l.vertices l.sides l.m (lists l.initial.graph l.initial.part l.initial.loads l.initial.keys l.initial.stamps l.initial.waiting l.initial.moves) (run l.initial.p.count l.initial.p.sum l.initial.p.best l.initial.p.peak l.initial.p.at l.initial.p.over) (lists l.graph l.part l.loads l.keys l.stamps l.waiting l.moves) (run l.p.count l.p.sum l.p.best l.p.peak l.p.at l.p.over) l.k × (length l.loads ≡ length l.initial.loads) × (length l.moves ≡ length l.initial.moves)
+invariant-loop-k l =
+    let g = l.layout in
+    (l.k ≤ l.k-end) × (l.k-end ≡ (length g.vertex_weights.now + 1) * (length g.vertex_weights.now + 1)) × IsSameLoan l.initial.split l.split
+    × Runs g.net_weights.now g.vertex_weights.now l.most_weight g.nets g.vertices g.sides g.net_count (lists_in l.initial.split l.initial.entries l.initial.pass) (run_in l.initial.pass l.initial.draws)
+    (lists_in l.split l.entries l.pass) (run_in l.pass l.draws) l.k

@@ -1,14 +1,19 @@
-use borrow.Author.Rules.{rules}
-use Rattle.queue.specs.Enters.{place, one_more}
-use native.Mathlib.Omega.{arith}
+use Rattle.std.proofs.Common.{rules, arith}
+use Rattle.queue.specs.Enters.{one_more, all_of}
 use Rattle.queue.proofs.enter_all.Goals as goal
 
 pub loop-v-preserved : goal.loop-v-preserved
-loop-v-preserved c = let a = c.args in
+loop-v-preserved c =
+    let a = c.args in
     let l = c.loop-v in (
-      omega arith,
+      omega (arith, c.loop-v-test.true),
+      l.invariant.1,
       search rules,
-      search rules,
-      search rules,
-      one_more a.words.now (place a.nets a.vertices a.sides a.m a.n) a.weights.now l.v _ _ _ l.invariant.4 c.enter-t.ensures,
+      one_more a.graph.now.words.now a.graph.now.place a.graph.now.weights.now l.v _ _ _ l.invariant.3 c.enter.ensures,
     )
+
+pub returns : goal.returns
+returns c =
+    let a = c.args in
+    let l = c.loop-v in
+    all_of a.graph.now.words.now a.graph.now.place a.graph.now.weights.now l.v a.graph.now.place.vertex_count _ _ (omega (arith, l.invariant.1)) l.invariant.3

@@ -1,21 +1,49 @@
-use native.Mathlib.Omega.{arith}
-use lib.ListN.{length}
-use mathlib.Core.Bool.{true}
-use Rattle.draws.specs.Cursor.{words_at}
-use Rattle.queue.specs.Enters.{place}
+use Rattle.std.proofs.Common.{arith, ◌∙◌, ◌+◌, true, false}
+use Rattle.partition.specs.Layout.{place_of}
 use Rattle.moves.specs.Kept.{site_kept}
-use Rattle.refine.specs.Passes.{refined_as, passes_next}
+use Rattle.refine.specs.Passes.{refined_as, passes_next, passes_as, passes_stop, passes_end}
 use Rattle.refine.proofs.all_passes.Goals as goal
 
-pub one_pass-r-requires : goal.one_pass-r-requires
-one_pass-r-requires c = let a = c.args in let p = c.requires in let l = c.loop-k in (
-  site_kept a.graph.now l.graph (place a.nets a.vertices a.sides a.m (length a.vw.now)) p.0 l.invariant.1.kept,
-  l.invariant.1.split,
-)
+pub one_pass-requires : goal.one_pass-requires
+one_pass-requires c =
+    let a = c.args in
+    let p = c.loop-k.invariant.2 in
+    (site_kept a.split.now.words.now c.loop-k.split.words.now (place_of a.layout.now) c.requires.0 p.kept, p.split)
+
+pub returns-then-not-one_pass-clause-leads : goal.returns-then-not-one_pass-clause-leads
+returns-then-not-one_pass-clause-leads c =
+    let a = c.args in
+    let g = a.layout.now in
+    let l = c.loop-k in
+    let s = c.one_pass.new.split in
+    let x = refined_as a.split.now.part.now a.split.now.loads true a.draws.now in
+    passes_stop g.net_weights.now g.vertex_weights.now g.nets g.vertices g.sides g.net_count a.most_weight a.most a.split.now.words.now x s.words.now s.part.now s.loads
+    c.one_pass.new.draws (l.k + 1)
+    (passes_as g.net_weights.now g.vertex_weights.now g.nets g.vertices g.sides g.net_count a.most_weight a.most a.split.now.words.now x s.words.now s.part.now s.loads
+    c.one_pass.new.draws c.one_pass.result false (l.k + 1) c.if-not-one_pass.true
+    (passes_next g.net_weights.now g.vertex_weights.now g.nets g.vertices g.sides g.net_count a.most_weight a.most a.split.now.words.now x l.split.words.now s.words.now
+    l.split.part.now l.split.loads l.draws _ l.k c.requires.0 c.loop-k-test.true l.invariant.2 c.one_pass.ensures.leads))
 
 pub loop-k-preserved : goal.loop-k-preserved
-loop-k-preserved c = let a = c.args in let l = c.loop-k in (
-  omega (arith, c.loop-k-test.true),
-  passes_next a.weights.now a.vw.now a.nets a.vertices a.sides a.m a.draws.now a.maxw a.most a.graph.now (refined_as a.part.now a.loads.now true (words_at a.draws.now a.at)) l.graph _ l.part l.loads l.r.done (words_at a.draws.now l.r.at) _ l.k c.requires.0 c.loop-k-test.true c.if-r.false l.invariant.1 c.one_pass-r.ensures,
-  omega (arith, l.invariant.2),
-)
+loop-k-preserved c =
+    let a = c.args in
+    let g = a.layout.now in
+    let l = c.loop-k in
+    let s = c.one_pass.new.split in
+    let e = c.one_pass.ensures in
+    let x = refined_as a.split.now.part.now a.split.now.loads true a.draws.now in (
+      omega (arith, c.loop-k-test.true),
+      (e.lent.0 ∙ l.invariant.1.0, e.lent.1 ∙ l.invariant.1.1),
+      passes_as g.net_weights.now g.vertex_weights.now g.nets g.vertices g.sides g.net_count a.most_weight a.most a.split.now.words.now x s.words.now s.part.now s.loads
+          c.one_pass.new.draws c.one_pass.result true (l.k + 1) c.if-not-one_pass.false
+          (passes_next g.net_weights.now g.vertex_weights.now g.nets g.vertices g.sides g.net_count a.most_weight a.most a.split.now.words.now x l.split.words.now s.words.now
+          l.split.part.now l.split.loads l.draws _ l.k c.requires.0 c.loop-k-test.true l.invariant.2 e.leads),
+    )
+
+pub returns-clause-leads : goal.returns-clause-leads
+returns-clause-leads c =
+    let a = c.args in
+    let g = a.layout.now in
+    let l = c.loop-k in
+    passes_end g.net_weights.now g.vertex_weights.now g.nets g.vertices g.sides g.net_count a.most_weight a.most a.split.now.words.now
+    (refined_as a.split.now.part.now a.split.now.loads true a.draws.now) l.split.words.now (refined_as l.split.part.now l.split.loads true l.draws) l.k (omega arith) l.invariant.2

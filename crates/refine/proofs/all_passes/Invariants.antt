@@ -1,11 +1,11 @@
-use Prim.Native.Nat.{◌≤◌}
-use mathlib.Core.Path.{◌≡◌}
-use lib.ListN.{length}
-use mathlib.Core.Bool.{true, not}
-use Rattle.draws.specs.Cursor.{words_at}
+use Rattle.std.proofs.Common.{◌≤◌, true}
+use Rattle.moves.specs.Loans.{IsSameLoan}
 use Rattle.refine.specs.Passes.{refined_as, Passes}
 use Rattle.refine.proofs.all_passes.Given as goal
 
 abbrev pub invariant-loop-k : goal.invariant-loop-k
-invariant-loop-k l = (l.k ≤ l.most) × Passes l.weights l.vw l.nets l.vertices l.sides l.m l.draws l.maxw l.most l.initial.graph (refined_as l.initial.part l.initial.loads true (words_at l.draws l.at)) l.graph (refined_as l.part l.loads (not l.r.done) (words_at l.draws l.r.at)) l.k
-    × (length l.loads ≡ length l.initial.loads)
+invariant-loop-k l =
+    let g = l.layout in
+    (l.k ≤ l.most) × IsSameLoan l.initial.split l.split
+    × Passes g.net_weights.now g.vertex_weights.now g.nets g.vertices g.sides g.net_count l.most_weight l.most l.initial.split.words.now
+    (refined_as l.initial.split.part.now l.initial.split.loads true l.initial.draws) l.split.words.now (refined_as l.split.part.now l.split.loads true l.draws) l.k

@@ -1,23 +1,23 @@
-use lib.ListN.{length}
-use mathlib.Core.Bool.{not}
-use mathlib.Core.List.{[], ◌∷◌}
-use Rattle.queue.specs.Enters.{place}
+use Rattle.std.proofs.Common.{length, ◌∷◌, [], rules}
+use Rattle.partition.specs.Layout.{place_of}
 use Rattle.moves.specs.Kept.{site_kept}
-use Rattle.refine.specs.Passes.{split_as, halves}
+use Rattle.refine.specs.Passes.{split_as, halves, halves_as}
 use Rattle.refine.proofs.fm.Goals as goal
 
-pub all_passes-r-requires : goal.all_passes-r-requires
-all_passes-r-requires c =
+pub all_passes-requires : goal.all_passes-requires
+all_passes-requires c =
     let a = c.args in
+    let g = a.layout.now in
     let p = c.requires in
-    let l = c.lay_sides in (
-      site_kept a.graph.now _ (place a.nets a.vertices a.sides a.m (length a.vw.now)) p.0 l.ensures.1,
-      split_as _ a.sides (length a.part.now) (length a.vw.now) a.part.now p.1 l.ensures.0,
-    )
+    let l = c.lay_sides in
+    (site_kept a.words.now _ (place_of g) p.0 l.ensures.1, split_as _ g.sides (length a.part.now) (length g.vertex_weights.now) a.part.now p.1 l.ensures.0)
 
 pub returns : goal.returns
 returns c =
     let a = c.args in
-    let r = c.all_passes-r in
-    halves a.weights.now a.vw.now a.nets a.vertices a.sides a.m a.maxw a.most a.draws.now a.graph.now _ _ a.part.now _ _ _ a.at r.result.at (not r.result.done) c.requires.0 c.lay_sides.ensures.1
-    (λ i. c.weight_on-left.ensures i ∷ c.weight_on-right.ensures i ∷ []) r.ensures
+    let g = a.layout.now in
+    let s = c.all_passes.new.split in
+    halves_as g.net_weights.now g.vertex_weights.now (place_of g) a.most_weight a.most a.words.now s.words.now _ a.part.now s.part.now _ a.draws.now c.all_passes.new.draws
+    (search rules) (search rules)
+    (halves g.net_weights.now g.vertex_weights.now g.nets g.vertices g.sides g.net_count a.most_weight a.most a.words.now _ _ a.part.now _ _ _ _ _ c.all_passes.result
+    c.requires.0 c.lay_sides.ensures.1 (λ i. c.weight_on-left.ensures i ∷ c.weight_on-right.ensures i ∷ []) c.all_passes.ensures.leads)

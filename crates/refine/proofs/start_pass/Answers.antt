@@ -4,11 +4,12 @@ use Rattle.refine.proofs.start_pass.Goals as goal
 pub enter_all-requires : goal.enter_all-requires
 enter_all-requires c =
     let a = c.args in
-    first_placed a.graph.now _ a.weights.now a.vw.now a.nets a.vertices a.sides a.m a.part.now a.draws.now c.requires.3 c.requires.4 c.empty.ensures
+    let g = a.layout.now in
+    first_placed a.split.now.words.now _ g.net_weights.now g.vertex_weights.now g.nets g.vertices g.sides g.net_count a.split.now.part.now c.requires.1 c.requires.2 c.empty.ensures
 
-pub returns : goal.returns
-returns c =
+pub returns-clause-starts : goal.returns-clause-starts
+returns-clause-starts c =
     let a = c.args in
-    starts a.graph.now _ a.weights.now a.vw.now a.nets a.vertices a.sides a.m a.part.now a.draws.now c.requires.3 c.requires.4 c.empty.ensures
-    a.keys.now _ a.stamps.now _ a.waiting.now _ a.at c.enter_all.result c.requires.0 c.requires.1 c.requires.2
-    (c.enter_all.auto.keys, c.enter_all.auto.stamps, c.enter_all.auto.waiting) c.enter_all.ensures
+    let g = a.layout.now in
+    starts a.split.now.words.now _ g.net_weights.now g.vertex_weights.now g.nets g.vertices g.sides g.net_count a.split.now.part.now c.requires.1 c.requires.2 c.empty.ensures
+    a.entries.now _ a.draws.now _ c.requires.0 c.enter_all.auto.entries c.enter_all.ensures

@@ -1,0 +1,40 @@
+ghost use Rattle.std.specs.Prelude.{◌≡◌, ◌+◌, ◌-◌, ◌/◌, ◌<◌, ◌≤◌, false, ltb, set};
+ghost use Rattle.moves.specs.Sums.{Counted};
+
+/// A pass: the vertices that were moved and how many they are, the sum of their gains, the largest sum, after how many moves it was reached, and whether the pass is
+/// over.
+#[derive(Drop)]
+pub struct Pass {
+    pub moves: [u16; 128],
+    pub count: usize,
+    pub sum: f64,
+    pub best: f64,
+    pub peak: usize,
+    pub over: bool,
+}
+
+impl Pass {
+    /// Counts the move of vertex `v`, which was taken with this key.
+    pub fn count_move(&mut self, v: usize, key: f64)
+        requires { (self.old.count < 65536) × (v < 65536) }
+        ensures moves { self.new.moves ≡ set self.old.moves self.old.count v }
+        ensures count { self.new.count ≡ self.old.count + 1 }
+        ensures sums { Counted self.old.count self.old.sum self.old.best self.old.peak key self.new.sum self.new.best self.new.peak }
+    {
+        cells::put(&mut self.moves, self.count, v as u16);
+        self.count += 1;
+        self.sum += draws::round_to(key, 1e-6);
+        if self.best + 1e-9 < self.sum {
+            self.best = self.sum;
+            self.peak = self.count;
+        }
+    }
+
+    /// Were more moves made since the largest sum than the limit for `n` vertices.
+    pub fn is_past_limit(&self, n: usize) -> bool
+        requires { n ≤ 128 }
+        ensures { result ≡ ltb (50 + n / 4) (self.now.count - self.now.peak) }
+    {
+        50 + n / 4 < cells::less(self.count, self.peak)
+    }
+}

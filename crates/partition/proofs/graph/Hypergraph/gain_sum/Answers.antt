@@ -1,0 +1,18 @@
+use Rattle.partition.specs.Folds.{fold_word, fold_slot}
+use Rattle.partition.specs.Layout.{gain_step}
+use Rattle.spec.specs.Floats.{zero_float}
+use native.Mathlib.Omega.{arith}
+use Rattle.partition.proofs.graph.Hypergraph.gain_sum.Goals as goal
+
+pub loop-k-preserved : goal.loop-k-preserved
+loop-k-preserved c = let a = c.args in
+    let l = c.loop-k in (
+      omega arith,
+      fold_word (gain_step a.self.now.words.now a.self.now.place.nets a.here a.there a.self.now.weights.now) a.self.now.words.now 4 a.s l.k c.get64-x.result zero_float l.g c.gain_word-g.result
+          l.invariant.1 c.get64-x.ensures c.gain_word-g.ensures,
+    )
+
+pub returns : goal.returns
+returns c = let a = c.args in
+    let l = c.loop-k in
+    fold_slot (gain_step a.self.now.words.now a.self.now.place.nets a.here a.there a.self.now.weights.now) a.self.now.words.now 4 a.s l.k zero_float l.g (omega arith) l.invariant.1

@@ -1,0 +1,77 @@
+ghost use Rattle.partition.specs.Layout.{Placed};
+
+use crate::place::Place;
+
+/// A hypergraph and a partition of its vertices, in slots of lent words, with the weight of each net.
+#[derive(Clone, Copy)]
+pub struct Hypergraph<'a> {
+    pub words: &'a [u64],
+    pub weights: &'a [u8],
+    pub place: Place,
+    ghost placed: { Placed words.now place },
+}
+
+impl<'a> Hypergraph<'a> {
+    ghost use Rattle.std.specs.Prelude.{◌≡◌, ◌<◌, ◌≤◌};
+    ghost use Rattle.spec.specs.Hypergraph.{fold_over};
+    ghost use Rattle.bits.specs.Lowest.{places};
+    ghost use Rattle.slots.specs.Rising.{rising_of};
+    ghost use Rattle.partition.specs.Layout.{gain_step, gain_sum};
+    ghost use Rattle.partition.specs.Gains.{IsGain};
+
+    /// The gain with net `e`: slots `here` and `there` are the vertex's side and the other.
+    fn gain_step(&self, here: usize, there: usize, e: usize, g: f64) -> f64
+        requires { (here < 65536) × (there < 65536) × (e < 65536) }
+        ensures { result ≡ gain_step self.now.words.now self.now.place.nets here there self.now.weights.now e g }
+    {
+        let nets = self.place.nets;
+        let x = crate::few(self.words, nets + e, here);
+        let y = crate::few(self.words, nets + e, there);
+        crate::gain_net(x, y, cells::get8(self.weights, e), g)
+    }
+
+    /// The gain `g` with the nets `base` + i for each set digit i of `x`.
+    fn gain_word(&self, here: usize, there: usize, base: usize, x: u64, g: f64) -> f64
+        requires { (here < 65536) × (there < 65536) × (base ≤ 192) }
+        ensures { result ≡ fold_over (gain_step self.now.words.now self.now.place.nets here there self.now.weights.now) (places base 64 x) g }
+    {
+        let mut rest = x;
+        let mut sum = g;
+        while rest != 0 {
+            let e = base + bits::low(rest);
+            sum = self.gain_step(here, there, e, sum);
+            rest = rest & (rest - 1);
+        }
+        sum
+    }
+
+    /// The gain with the nets of slot `s`, of four words.
+    fn gain_sum(&self, here: usize, there: usize, s: usize) -> f64
+        requires { (here < 65536) × (there < 65536) × (s < 65536) }
+        ensures { result ≡ gain_sum self.now.words.now self.now.place.nets here there self.now.weights.now (rising_of self.now.words.now 4 s) }
+    {
+        let p = s * 4;
+        let mut g = 0.0;
+        for k in 0..4 {
+            let x = cells::get64(self.words, p + k);
+            g = self.gain_word(here, there, k * 64, x, g);
+        }
+        g
+    }
+
+    /// The gain of the move of vertex `v`.
+    pub fn gain(&self, v: usize) -> f64
+        requires { v < self.now.place.vertex_count }
+        ensures { IsGain self.now.words.now self.now.place.nets self.now.place.sides self.now.place.net_count self.now.place.vertex_count self.now.weights.now v result }
+    {
+        let Place {
+            sides,
+            vertices,
+            ..
+        } = self.place;
+        if slots::has(self.words, 2, sides + 1, v) {
+            return self.gain_sum(sides + 1, sides, vertices + v);
+        }
+        self.gain_sum(sides, sides + 1, vertices + v)
+    }
+}
