@@ -1,25 +1,29 @@
 #![tactic(auto)]
-// Digits of words, and the sub-masks of a mask.
+//! Digits of words, and the sub-masks of a mask.
 ghost use Rattle.std.specs.Prelude.{◌≡◌, ◌^◌, ◌<◌, ◌≤◌, min};
 ghost use Rattle.std.specs.Int.Count.{ones, count_trailing_zeros};
 ghost use Rattle.spec.specs.ImproveClaims.{most_splits};
 
-// The place of the lowest set digit.
+mod digits; // digits.rt: the set digits of a word, one after another
+
+pub use digits::Digits;
+
+/// The place of the lowest set digit.
 pub fn low(x: u64) -> usize
     requires { 0 < x }
     ensures { (result ≡ count_trailing_zeros 64 x) × (result < 64) }
 {
-    u64::trailing_zeros(x) as usize
+    x.trailing_zeros() as usize
 }
 
-// How many digits are set.
+/// How many digits are set.
 pub fn count_ones(x: u64) -> usize
     ensures { (result ≡ ones x) × (result ≤ 64) }
 {
-    u64::count_ones(x) as usize
+    x.count_ones() as usize
 }
 
-// How many sub-masks the mask `rest` has. The walk goes from `rest` down to 0.
+/// How many sub-masks the mask `rest` has. The walk goes from `rest` down to 0.
 pub fn count_parts(rest: u64) -> u64
     requires { rest < 18446744073709551615 }
     ensures { result ≡ 2 ^ ones rest }
@@ -36,17 +40,11 @@ pub fn count_parts(rest: u64) -> u64
     total
 }
 
-fn at_most_12(m: usize) -> usize
-    ensures { result ≡ min m 12 }
-{
-    if m < 12 { m } else { 12 }
-}
-
-// The most splits that a search over `m` members tries; above 12 members, those of 12.
+/// The most splits that a search over `m` members tries; above 12 members, those of 12.
 pub fn most_splits(m: usize) -> u64
     ensures { result ≡ most_splits (min m 12) }
 {
-    let n = at_most_12(m);
+    let n = m.min(12);
     let mut splits: u64 = 0;
     let mut masks: u64 = 1;
     for k in 0..n {

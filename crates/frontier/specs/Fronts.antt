@@ -1,5 +1,5 @@
 -- The lists of numbers stand for the frontier of a tree: its members, and its opened nodes, the latest first. Assumes nothing.
-use Rattle.std.specs.Prelude.{Bool, cond, ◌≡◌, eqb, ltb, set, Option, None, Some}
+use Rattle.std.specs.Prelude.{Bool, true, false, cond, ◌≡◌, eqb, ltb, set, Option, None, Some}
 use mathlib.Core.List.{List, [], ◌∷◌, map}
 use Rattle.std.proofs.Math.Path.{refl, sym, ap, ap₂, subst}
 use Rattle.std.proofs.Common.{◌∙◌, get_or-set_same, get_or-set_other, get_or-take, eq-eqb, ne_eqb, ltb-true, ltb-false}
@@ -15,9 +15,9 @@ use Rattle.spec.specs.Improve as spec
 use Rattle.laws.specs.Booleans.{by_cases}
 use Rattle.laws.specs.MemberLaws.{all_append}
 use Rattle.laws.specs.FlatLaws.{left_of, right_of}
-use Rattle.frontier.specs.Opens.{more_rank, ranks, nothing, State, state, open_at, open_most, openings, freed}
+use Rattle.frontier.specs.Opens.{more_than, more_rank, ranks, State, state, open_at, open_found, open_most, openings, freed}
 use Rattle.frontier.specs.Costs.{cost_below}
-use Rattle.frontier.specs.Ranks.{more_leaf, more_than, more_not}
+use Rattle.frontier.specs.Ranks.{more_leaf, more_node}
 use Rattle.frontier.specs.Swaps.{all_swap, swapped_numbers, swap_length, number_at}
 use Rattle.frontier.specs.Turns.{open_at_members, open_at_opened, open_most_count}
 use Rattle.frontier.specs.declared.Most.{Most}
@@ -31,26 +31,28 @@ module _ (N : Network) (flag : ℕ → Bool) (kids works : List ℕ) (n : ℕ) w
 
   -- ---- the member of most work ----
 
-  -- a place and a rank stand for a member's place and work bits
-  abbrev Means : Most → Option MostWork → Type 0
-  Means s None = s.rank ≡ 0
-  Means s (Some q) = (s.place ≡ q.place) × (s.rank ≡ q.work_bits + 1)
+  -- a member found stands for the definition's
+  abbrev Means : Option Most → Option MostWork → Type 0
+  Means None None = Unit {0}
+  Means None (Some q) = ⊥
+  Means (Some s) None = ⊥
+  Means (Some s) (Some q) = (s.place ≡ q.place) × (s.work ≡ q.work_bits)
 
-  more_means : (t : Tree) (s : Most) (o : Option MostWork) (p : ℕ) → Read t → Means s o → Means (more_rank n works s p (number t)) (more_work N flag o p t)
+  more_means : (t : Tree) (s : Option Most) (o : Option MostWork) (p : ℕ) → Read t → Means s o → Means (more_rank n works s p (number t)) (more_work N flag o p t)
   more_means (leaf i) s o p d h = subst (λ x. Means x o) (more_leaf n works s p i d) h
-  more_means (node v l r) s None p d h =
-      subst (λ x. Means x (Some (record { place = p; work_bits = work_of N flag (node v l r) })))
-      (more_than n works s p v (work_of N flag (node v l r)) d.0 (sym d.3) (omega arith)) (refl, refl)
-  more_means (node v l r) s (Some q) p d h =
-      by_cases (ltb q.work_bits (work_of N flag (node v l r)))
-      (λ e. rw e
-      (subst (λ x. Means x (Some (record { place = p; work_bits = work_of N flag (node v l r) })))
-      (more_than n works s p v (work_of N flag (node v l r)) d.0 (sym d.3) (omega (arith, h.1, ltb-true q.work_bits (work_of N flag (node v l r)) e))) (refl, refl)))
-      (λ e. rw e
-      (subst (λ x. Means x (Some q))
-      (more_not n works s p v (work_of N flag (node v l r)) d.0 (sym d.3) (omega (arith, h.1, ltb-false q.work_bits (work_of N flag (node v l r)) e))) h))
+  more_means (node v l r) s o p d h =
+      subst (λ x. Means x (more_work N flag o p (node v l r))) (ap (more_than s p) (sym d.3) ∙ more_node n works s p v d.0) (go s o h)
+    where
+      go : (s : Option Most) (o : Option MostWork) → Means s o → Means (more_than s p (work_of N flag (node v l r))) (more_work N flag o p (node v l r))
+      go None None h = (refl, refl)
+      go None (Some q) h = absurd h
+      go (Some s) None h = absurd h
+      go (Some s) (Some q) h =
+          by_cases (ltb q.work_bits (work_of N flag (node v l r)))
+          (λ e. let z : ltb s.work (work_of N flag (node v l r)) ≡ true = ap (λ x. ltb x (work_of N flag (node v l r))) h.1 ∙ e in rw (e, z) (refl, refl))
+          (λ e. let z : ltb s.work (work_of N flag (node v l r)) ≡ false = ap (λ x. ltb x (work_of N flag (node v l r))) h.1 ∙ e in rw (e, z) h)
 
-  ranks_mean : (ts : List Tree) (s : Most) (o : Option MostWork) (p : ℕ) → All Read ts → Means s o
+  ranks_mean : (ts : List Tree) (s : Option Most) (o : Option MostWork) (p : ℕ) → All Read ts → Means s o
       → Means (ranks n works s p (map number ts)) (most_work N flag o p ts)
   ranks_mean [] s o p d h = h
   ranks_mean (t ∷ ts) s o p d h = ranks_mean ts (more_rank n works s p (number t)) (more_work N flag o p t) (suc p) d.1 (more_means t s o p d.0 h)
@@ -135,32 +137,34 @@ module _ (N : Network) (flag : ℕ → Bool) (kids works : List ℕ) (n : ℕ) w
       → Fronts (open_most kids works n s) (spec.open_at fr (most_work N flag None 0 fr.members))
   unfolding open_most
   most_fronts s fr f a b =
-      go (most_work N flag None 0 fr.members) (ranks_mean fr.members nothing None 0 f.read refl)
+      go (ranks n works None 0 (take s.count s.members)) (most_work N flag None 0 fr.members)
+      (subst (λ x. Means (ranks n works None 0 x) (most_work N flag None 0 fr.members)) (sym f.members) (ranks_mean fr.members None None 0 f.read tt))
       (most_inside fr.members fr.members None 0 (omega arith) (λ i. ap (member fr.members) (let z : 0 + i ≡ i = omega arith in z)) tt)
     where
-      same : ranks n works nothing 0 (map number fr.members) ≡ ranks n works nothing 0 (take s.count s.members)
-      same = ap (ranks n works nothing 0) (sym f.members)
-
-      go : (o : Option MostWork) → Means (ranks n works nothing 0 (map number fr.members)) o → Inside fr.members o
-          → Fronts (cond (eqb (ranks n works nothing 0 (take s.count s.members)).rank 0) s (open_at kids n (ranks n works nothing 0 (take s.count s.members)).place s)) (spec.open_at fr o)
-      go None h k = rw (eq-eqb (ranks n works nothing 0 (take s.count s.members)).rank 0 (sym (ap (λ (x : Most). x.rank) same) ∙ h)) f
-      go (Some m) h k =
-          let e : (ranks n works nothing 0 (take s.count s.members)).place ≡ m.place = sym (ap (λ (x : Most). x.place) same) ∙ h.0 in
-          rw (ne_eqb (ranks n works nothing 0 (take s.count s.members)).rank 0 (λ z. omega (arith, ap (λ (x : Most). x.rank) same, h.1)))
-          (rw e
-          (opened_fronts s fr m.place (member fr.members m.place) f a b k.0 refl k.1 (read_at fr.members m.place f.read k.0)))
+      go : (q : Option Most) (o : Option MostWork) → Means q o → Inside fr.members o → Fronts (open_found kids n s q) (spec.open_at fr o)
+      go None None h k = f
+      go None (Some m) h k = absurd h
+      go (Some q) None h k = absurd h
+      go (Some q) (Some m) h k =
+          rw h.0 (opened_fronts s fr m.place (member fr.members m.place) f a b k.0 refl k.1 (read_at fr.members m.place f.read k.0))
 
   -- ---- the loop ----
 
   most_members : (s : State) → length (open_most kids works n s).members ≡ length s.members
   unfolding open_most
-  most_members s =
-      by_cases (eqb (ranks n works nothing 0 (take s.count s.members)).rank 0) (λ z. rw z) (λ z. rw z (open_at_members kids n _ s))
+  most_members s = go (ranks n works None 0 (take s.count s.members))
+    where
+      go : (o : Option Most) → length (open_found kids n s o).members ≡ length s.members
+      go None = refl
+      go (Some q) = open_at_members kids n q.place s
 
   most_opened : (s : State) → length (open_most kids works n s).opened ≡ length s.opened
   unfolding open_most
-  most_opened s =
-      by_cases (eqb (ranks n works nothing 0 (take s.count s.members)).rank 0) (λ z. rw z) (λ z. rw z (open_at_opened kids n _ s))
+  most_opened s = go (ranks n works None 0 (take s.count s.members))
+    where
+      go : (o : Option Most) → length (open_found kids n s o).opened ≡ length s.opened
+      go None = refl
+      go (Some q) = open_at_opened kids n q.place s
 
   expand_last : (times : ℕ) (fr : Front)
       → expand N flag (suc times) fr ≡ spec.open_at (expand N flag times fr) (most_work N flag None 0 (expand N flag times fr).members)

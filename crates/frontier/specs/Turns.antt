@@ -1,10 +1,8 @@
 -- One member opened, case by case, and the loop that opens. Assumes nothing.
-use Rattle.std.specs.Prelude.{List, ◌≡◌, refl, ℕ, ◌+◌, ◌-◌, ◌≤◌, eqb, length, get_or, set, take}
+use Rattle.std.specs.Prelude.{List, ◌≡◌, refl, ℕ, ◌+◌, ◌-◌, ◌≤◌, length, get_or, set, take, Option, None, Some}
 use Rattle.std.proofs.Common.{sym, ap, ◌∙◌, add-one, arith, length-set}
-use borrow.Author.Tests.{eq-eqb, ne_eqb}
-use Rattle.laws.specs.Booleans.{by_cases}
 use Rattle.laws.specs.FlatLaws.{left_of, right_of}
-use Rattle.frontier.specs.Opens.{ranks, nothing, State, state, open_at, open_most, openings}
+use Rattle.frontier.specs.Opens.{ranks, State, state, open_at, open_found, open_most, openings}
 use Rattle.frontier.specs.declared.Most.{Most}
 
 -- the writes of one opening
@@ -20,14 +18,11 @@ open_is kids members opened a b d e n m p v last l r hv hl el er ea eb ed ee =
     let y : e ≡ set opened (m - 1) (get_or members p 0) = ee ∙ ap (set opened (m - 1)) hv in
     λ i. state (x i) (y i) (m + 1)
 
-module _ (kids works : List ℕ) (n : ℕ) (s : State) (q : Most) (e : q ≡ ranks n works nothing 0 (take s.count s.members)) where
-  pub most_none : q.rank ≡ 0 → s ≡ open_most kids works n s
-  unfolding open_most
-  most_none z = rw (← e, eq-eqb q.rank 0 z)
-
-  pub most_some : (q.rank ≡ 0 → ⊥) → (t : State) → t ≡ open_at kids n q.place s → t ≡ open_most kids works n s
-  unfolding open_most
-  most_some f t h = rw (← e, ne_eqb q.rank 0 f) h
+-- the member found opened
+pub most_opened : (kids works : List ℕ) (n : ℕ) (s : State) (o : Option Most) (t : State) → o ≡ ranks n works None 0 (take s.count s.members)
+    → t ≡ open_found kids n s o → t ≡ open_most kids works n s
+unfolding open_most
+most_opened kids works n s o t e h = h ∙ ap (open_found kids n s) e
 
 -- ---- the lists keep their lengths ----
 
@@ -40,15 +35,18 @@ unfolding open_at
 open_at_opened kids n p s = simp length-set
 
 -- at most one member more
+found_count : (kids : List ℕ) (n : ℕ) (s : State) (o : Option Most) → (s.count ≤ (open_found kids n s o).count) × ((open_found kids n s o).count ≤ s.count + 1)
+unfolding open_at
+found_count kids n s None = (omega arith, omega arith)
+found_count kids n s (Some q) = (omega arith, omega arith)
+
 pub open_most_count : (kids works : List ℕ) (n : ℕ) (s : State) → (open_most kids works n s).count ≤ s.count + 1
-unfolding open_most open_at
-open_most_count kids works n s =
-    by_cases (eqb (ranks n works nothing 0 (take s.count s.members)).rank 0) (λ z. rw z (omega arith)) (λ z. rw z (omega arith))
+unfolding open_most
+open_most_count kids works n s = (found_count kids n s (ranks n works None 0 (take s.count s.members))).1
 
 pub open_most_some : (kids works : List ℕ) (n : ℕ) (s : State) → s.count ≤ (open_most kids works n s).count
-unfolding open_most open_at
-open_most_some kids works n s =
-    by_cases (eqb (ranks n works nothing 0 (take s.count s.members)).rank 0) (λ z. rw z (omega arith)) (λ z. rw z (omega arith))
+unfolding open_most
+open_most_some kids works n s = (found_count kids n s (ranks n works None 0 (take s.count s.members))).0
 
 -- ---- the loop ----
 

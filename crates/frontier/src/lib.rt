@@ -1,39 +1,41 @@
 #![tactic(auto)]
-// The frontier of a node: members are opened, the first of most work first, until there are `k`. The members' and the opened nodes' numbers stand
-// at the front of lent lists.
-ghost use Rattle.std.specs.Prelude.{◌≡◌, ◌+◌, ◌-◌, ◌<◌, ◌≤◌, length, set, take};
+//! The frontier of a node: members are opened, the first of most work first, until there are as many as asked for.
+ghost use Rattle.std.specs.Prelude.{◌≡◌, ◌+◌, ◌-◌, ◌<◌, ◌≤◌, None, length, set, take};
+ghost use Rattle.spec.specs.Memory.{filled};
 ghost use Rattle.frontier.specs.Costs.{cost_below};
-ghost use Rattle.frontier.specs.Opens.{more_rank, ranks, nothing, state, open_at, open_most, openings};
+ghost use Rattle.frontier.specs.Opens.{more_rank, ranks, state, open_at, open_most, openings};
 
-// A member's place, and its work bits and one; none if that is 0.
+/// A member's place, and its work bits.
 #[derive(Clone, Copy)]
 pub struct Most {
     pub place: usize,
-    pub rank: usize,
+    pub work: u16,
 }
 
 // The node `v` at `place`, if it has more work than the one so far. A leaf has none.
-fn more_work(most: Most, place: usize, v: usize, n: usize, works: &[u16]) -> Most
+fn more_work(most: Option<Most>, place: usize, v: u16, n: usize, works: &[u16]) -> Option<Most>
     ensures { result ≡ more_rank n works.now most place v }
 {
-    if v < n {
+    let node = usize::from(v);
+    if node < n {
         return most;
     }
-    let rank = cells::at16(works, v) + 1;
-    if most.rank < rank {
-        return Most { place, rank };
+    let work = cells::get_or(works, node, 0);
+    if let Some(other) = most {
+        if work <= other.work {
+            return most;
+        }
     }
-    most
+    Some(Most { place, work })
 }
 
-// The first of the `m` members that has the most work.
-fn most_work(members: &[u16], m: usize, n: usize, works: &[u16]) -> Most
-    requires { m ≤ length members.now }
-    ensures { result ≡ ranks n works.now nothing 0 (take m members.now) }
+// The first of the members that has the most work, if one is no leaf.
+fn most_work(members: &[u16], n: usize, works: &[u16]) -> Option<Most>
+    ensures { result ≡ ranks n works.now None 0 members.now }
 {
-    let mut most = Most { place: 0, rank: 0 };
-    for p in 0..m {
-        most = more_work(most, p, cells::at16(members, p), n, works);
+    let mut most = None;
+    for (p, &v) in members.iter().enumerate() {
+        most = more_work(most, p, v, n, works);
     }
     most
 }
@@ -43,13 +45,13 @@ fn open(kids: &[u16], n: usize, members: &mut [u16], opened: &mut [u16], m: usiz
     requires { (1 ≤ m) × (m ≤ 65536) }
     ensures { state members.new opened.new (m + 1) ≡ open_at kids.now n p (state members.old opened.old m) }
 {
-    let v = cells::get16(members, p);
-    let at = cells::less(v as usize, n) * 2;
-    let last = cells::get16(members, m - 1);
-    cells::put16(members, p, last);
-    cells::put16(members, m - 1, cells::get16(kids, at));
-    cells::put16(members, m, cells::get16(kids, at + 1));
-    cells::put16(opened, m - 1, v);
+    let v = cells::get_or(members, p, 0);
+    let at = usize::from(v).saturating_sub(n) * 2;
+    let last = cells::get_or(members, m - 1, 0);
+    cells::put(members, p, last);
+    cells::put(members, m - 1, cells::get_or(kids, at, 0));
+    cells::put(members, m, cells::get_or(kids, at + 1, 0));
+    cells::put(opened, m - 1, v);
 }
 
 // Opens the first of the `m` members that has the most work, if one is no leaf, and returns how many there then are.
@@ -64,16 +66,17 @@ fn open_most(
     requires { (1 ≤ m) × (m ≤ 65536) × (m ≤ length members.old) }
     ensures { state members.new opened.new result ≡ open_most kids.now works.now n (state members.old opened.old m) }
 {
-    let most = most_work(members, m, n, works);
-    if most.rank == 0 {
-        return m;
+    match most_work(&members[..m], n, works) {
+        Some(most) => {
+            open(kids, n, members, opened, m, most.place);
+            m + 1
+        }
+        None => m,
     }
-    open(kids, n, members, opened, m, most.place);
-    m + 1
 }
 
 // Opens members of the node `v`, until there are `k` or only leaves are left, and returns how many there are.
-pub fn frontier(
+fn open_all(
     kids: &[u16],
     n: usize,
     works: &[u16],
@@ -83,9 +86,10 @@ pub fn frontier(
     opened: &mut [u16],
 ) -> usize
     requires { (1 ≤ k) × (k ≤ length members.old) × (k ≤ 65536) }
-    ensures { state members.new opened.new result ≡ openings kids.now works.now n (k - 1) (state (set members.old 0 v) opened.old 1) }
+    ensures counts { (1 ≤ result) × (result ≤ k) }
+    ensures opens { state members.new opened.new result ≡ openings kids.now works.now n (k - 1) (state (set members.old 0 v) opened.old 1) }
 {
-    cells::put16(members, 0, v);
+    cells::put(members, 0, v);
     let mut m: usize = 1;
     for i in 0..k - 1 {
         m = open_most(kids, n, works, members, opened, m);
@@ -93,14 +97,54 @@ pub fn frontier(
     m
 }
 
-// What the first `c` opened nodes cost: 2 to the work bits of each.
-pub fn old_cost(works: &[u16], opened: &[u16], c: usize) -> u64
-    requires { cost_below works.now opened.now c < 9007199254740992 }
-    ensures { result ≡ cost_below works.now opened.now c }
+/// The frontier of a node: `count` members at the front of `members`, and the nodes opened for them at the front of `opened`, one less.
+#[derive(Clone, Copy)]
+pub struct Frontier {
+    members: [u16; 12],
+    opened: [u16; 12],
+    count: usize,
+    ghost few: { (1 ≤ count) × (count ≤ 12) },
+}
+
+impl Frontier {
+    /// The frontier of node `v` of the tree `kids` of `n` leaves, of at most `k` members. Each node's work bits are at hand.
+    pub fn of(kids: &[u16], n: usize, works: &[u16], k: usize, v: u16) -> Frontier
+        requires { (1 ≤ k) × (k ≤ 12) }
+        ensures { state result.members result.opened result.count ≡ openings kids.now works.now n (k - 1) (state (set (filled 12 0) 0 v) (filled 12 0) 1) }
+    {
+        let mut members = [0; 12];
+        let mut opened = [0; 12];
+        let count = open_all(kids, n, works, k, v, &mut members, &mut opened);
+        Frontier {
+            members,
+            opened,
+            count,
+        }
+    }
+
+    /// The members' numbers.
+    pub fn members(&self) -> &[u16]
+        ensures { result.now ≡ take self.now.count self.now.members }
+    {
+        &self.members[..self.count]
+    }
+
+    /// The numbers of the opened nodes, the first opened first.
+    pub fn opened(&self) -> &[u16]
+        ensures { result.now ≡ take (self.now.count - 1) self.now.opened }
+    {
+        &self.opened[..self.count - 1]
+    }
+}
+
+/// What opened nodes cost: 2 to the work bits of each.
+pub fn old_cost(works: &[u16], opened: &[u16]) -> u64
+    requires { cost_below works.now opened.now (length opened.now) < 9007199254740992 }
+    ensures { result ≡ cost_below works.now opened.now (length opened.now) }
 {
     let mut sum: u64 = 0;
-    for i in 0..c {
-        sum += 1 << cells::at16(works, cells::at16(opened, i));
+    for &v in opened {
+        sum += 1 << cells::get_or(works, usize::from(v), 0);
     }
     sum
 }

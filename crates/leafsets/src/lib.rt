@@ -23,11 +23,11 @@ fn join_up(ws: &mut [u64], w: usize, base: usize, n: usize, kids: &[u16], order:
     requires { (w ≤ 16) × (base ≤ 65536) }
     ensures { ws.new ≡ ups w base kids.now n ws.old order.now }
 {
-    for k in 0..order.len() {
-        let v = cells::at16(order, k);
-        let j = cells::less(v, n) * 2;
-        let l = cells::at16(kids, j);
-        let r = cells::at16(kids, j + 1);
+    for &node in order {
+        let v = usize::from(node);
+        let j = v.saturating_sub(n) * 2;
+        let l = usize::from(cells::get_or(kids, j, 0));
+        let r = usize::from(cells::get_or(kids, j + 1, 0));
         slots::unite(ws, w, base + l, base + r, base + v);
     }
 }
@@ -40,7 +40,7 @@ fn same_set(ws: &[u64], w: usize, s: usize, u: usize) -> bool
     let p = s * w;
     let q = u * w;
     for k in 0..w {
-        if cells::get64(ws, p + k) != cells::get64(ws, q + k) {
+        if cells::get_or(ws, p + k, 0) != cells::get_or(ws, q + k, 0) {
             return false;
         }
     }
@@ -110,14 +110,14 @@ fn same_trees(
     leaf_sets(ws, 2, base, n);
     join_up(ws, 2, 0, n, kids, order);
     join_up(ws, 2, base, n, others, sequence);
-    let count = cells::less(n, 1);
+    let count = n.saturating_sub(1);
     if !all_found(ws, 2, n, base + n, count) {
         return false;
     }
     all_found(ws, 2, base + n, n, count)
 }
 
-// Are two valid trees of `n` leaves the same plan. The first 2,048 words of `ws` are used, whatever they hold.
+/// Are two valid trees of `n` leaves the same plan. The first 2,048 words of `ws` are used, whatever they hold.
 pub fn same_valid(kids: &[u16], others: &[u16], n: usize, ws: &mut [u64]) -> bool
     requires { (n ≤ 128) × (2048 ≤ length ws.old) × (wrong_tree n kids.now ≡ false) × (wrong_tree n others.now ≡ false) }
     ensures { result ≡ same_plan n (pairs_of kids.now) (pairs_of others.now) }

@@ -2,6 +2,7 @@
 use Rattle.std.specs.Prelude.{Bool, false, not, ◌&&◌, ◌||◌, cond, List, ◌≡◌, ℕ, zero, suc, ◌+◌, ◌*◌, ◌^◌, ◌<◌, ltb, get_or}
 use Rattle.spec.specs.Lists.{keep, range}
 use Rattle.slots.specs.Slots.{held}
+use Rattle.masks.specs.Rows.{has_at}
 
 -- does one of the first m members list j
 unfoldable pub member_have : List ℕ → ℕ → List ℕ → ℕ → ℕ → Bool
@@ -23,7 +24,7 @@ local_test ws W s local c i = ltb i c && held ws W s (get_or local i 0)
 abbrev pub local_weight : List ℕ → List ℕ → ℕ → ℕ → ℕ
 local_weight weights local c i = cond (ltb i c) (get_or weights (get_or local i 0) 0) 0
 
--- the local indices of the node v and of the members, each in its slot: those of a mask's first member, and of the mask of none
-pub record LocalSets (sets : List ℕ) (W v : ℕ) (members : List ℕ) (m : ℕ) (local : List ℕ) (c n : ℕ) (ws : List ℕ) : Type 0 where
-  pub root : (i : ℕ) → i < 128 → held ws 2 n i ≡ local_test sets W v local c i
-  pub each : (p i : ℕ) → p < m → i < 128 → held ws 2 (n + 2 ^ p) i ≡ local_test sets W (get_or members p 0) local c i
+-- the local indices of the node v and of the members, each in its row: those of the masks of one member, and of the mask of none
+pub record LocalSets (sets : List ℕ) (W v : ℕ) (members : List ℕ) (m : ℕ) (local : List ℕ) (c : ℕ) (united : List (List ℕ)) : Type 0 where
+  pub root : (i : ℕ) → i < 128 → has_at united 0 i ≡ local_test sets W v local c i
+  pub each : (p i : ℕ) → p < m → i < 128 → has_at united (2 ^ p) i ≡ local_test sets W (get_or members p 0) local c i

@@ -13,9 +13,9 @@ use Rattle.spec.specs.Improve.{Split, weigh, other_members, keeps, split_work, F
 use Rattle.laws.specs.Booleans.{and_left, and_right, or_cases}
 use Rattle.laws.specs.ListLaws.{any_intro, any_member, memb-range, from_memb, memb-keep}
 use Rattle.laws.specs.MemberLaws.{all_in, memb_in, in_memb, all_intro}
-use Rattle.slots.specs.Slots.{held}
+use Rattle.masks.specs.Rows.{has_at}
 use Rattle.masks.specs.Tables.{member_has, root_has}
-use Rattle.subset.specs.Search.{limit_of, local_bits, searched_in, tried_in}
+use Rattle.subset.specs.Search.{local_bits, searched_in, tried_in}
 use Rattle.locals.specs.Alike.{alike_found, alike_tried}
 use Rattle.locals.specs.Numbering.{local_weighs}
 
@@ -97,15 +97,15 @@ module _ (N : Network) (flag : ℕ → Bool) (t : Tree) (fr : Front) where
   abbrev pub locals_of : List ℕ
   locals_of = keep is_unsliced (range (index_count N))
 
-  -- the words have the sets in local numbers, and there are few of these
-  pub record InLocal (ws wt : List ℕ) : Type 0 where
+  -- the rows have the sets in local numbers, and there are few of these
+  pub record InLocal (united : List (List ℕ)) (wt : List ℕ) : Type 0 where
     pub few : length locals_of ≤ 128
-    pub root : (i : ℕ) → i < 128 → held ws 2 (2 ^ length fr.members) i ≡ (ltb i (length locals_of) && memb (get_or locals_of i 0) (lists N t))
+    pub root : (i : ℕ) → i < 128 → has_at united 0 i ≡ (ltb i (length locals_of) && memb (get_or locals_of i 0) (lists N t))
     pub each : (p i : ℕ) → p < length fr.members → i < 128
-        → held ws 2 (2 ^ length fr.members + 2 ^ p) i ≡ (ltb i (length locals_of) && memb (get_or locals_of i 0) (lists N (member fr.members p)))
+        → has_at united (2 ^ p) i ≡ (ltb i (length locals_of) && memb (get_or locals_of i 0) (lists N (member fr.members p)))
     pub weights : (i : ℕ) → i < 128 → get_or wt i 0 ≡ cond (ltb i (length locals_of)) (weight N (get_or locals_of i 0)) 0
 
-  module _ (ws wt : List ℕ) (limit : ℕ) (k : InLocal ws wt) where
+  module _ (united : List (List ℕ)) (wt : List ℕ) (limit : Option ℕ) (k : InLocal united wt) where
     abbrev m : ℕ
     m = length fr.members
 
@@ -129,23 +129,23 @@ module _ (N : Network) (flag : ℕ → Bool) (t : Tree) (fr : Front) where
     at i = get_or locals_of i 0
 
     one_bits : (s : List ℕ) → All (λ p. p < m) s
-        → local_bits wt (keeps m (member_has ws (2 ^ m)) (root_has ws (2 ^ m)) (local_bits wt) (limit_of limit) s) ≡ weigh N flag (keeps m has' ext' (weigh N flag) (limit_of limit) s)
+        → local_bits wt (keeps m (member_has united) (root_has united) (local_bits wt) limit s) ≡ weigh N flag (keeps m has' ext' (weigh N flag) limit s)
     one_bits s a =
         weighs _ _
-        (keeps_stands m (length locals_of) at (member_has ws (2 ^ m)) has' (root_has ws (2 ^ m)) ext' k.each k.root (local_bits wt) (weigh N flag) (limit_of limit) s a)
-        (keeps_listed m (length locals_of) at (member_has ws (2 ^ m)) has' (root_has ws (2 ^ m)) ext' k.each k.root (local_bits wt) (weigh N flag) (limit_of limit) s a)
+        (keeps_stands m (length locals_of) at (member_has united) has' (root_has united) ext' k.each k.root (local_bits wt) (weigh N flag) limit s a)
+        (keeps_listed m (length locals_of) at (member_has united) has' (root_has united) ext' k.each k.root (local_bits wt) (weigh N flag) limit s a)
 
     two_bits : (c : Split) → All (λ p. p < m) c.part → All (λ p. p < m) c.rest
-        → split_work m (member_has ws (2 ^ m)) (root_has ws (2 ^ m)) (local_bits wt) (limit_of limit) c ≡ split_work m has' ext' (weigh N flag) (limit_of limit) c
+        → split_work m (member_has united) (root_has united) (local_bits wt) limit c ≡ split_work m has' ext' (weigh N flag) limit c
     unfolding split_work
     two_bits c a b =
         weighs _ _
-        (either_stands m (length locals_of) at (member_has ws (2 ^ m)) has' (root_has ws (2 ^ m)) ext' k.each k.root (local_bits wt) (weigh N flag) (limit_of limit) c a b)
-        (either_listed m (length locals_of) at (member_has ws (2 ^ m)) has' (root_has ws (2 ^ m)) ext' k.each k.root (local_bits wt) (weigh N flag) (limit_of limit) c a b)
+        (either_stands m (length locals_of) at (member_has united) has' (root_has united) ext' k.each k.root (local_bits wt) (weigh N flag) limit c a b)
+        (either_listed m (length locals_of) at (member_has united) has' (root_has united) ext' k.each k.root (local_bits wt) (weigh N flag) limit c a b)
 
     -- THE SAME TREE, AND AS MANY SPLITS
-    pub local_found : searched_in ws wt limit (length fr.members) ≡ searched N flag (limit_of limit) t fr
-    local_found = alike_found m (member_has ws (2 ^ m)) has' (root_has ws (2 ^ m)) ext' (local_bits wt) (weigh N flag) (limit_of limit) one_bits two_bits
+    pub local_found : searched_in united wt limit (length fr.members) ≡ searched N flag limit t fr
+    local_found = alike_found m (member_has united) has' (root_has united) ext' (local_bits wt) (weigh N flag) limit one_bits two_bits
 
-    pub local_tried : tried_in ws wt limit (length fr.members) ≡ tried_at N flag (limit_of limit) t fr
-    local_tried = alike_tried m (member_has ws (2 ^ m)) has' (root_has ws (2 ^ m)) ext' (local_bits wt) (weigh N flag) (limit_of limit) one_bits two_bits
+    pub local_tried : tried_in united wt limit (length fr.members) ≡ tried_at N flag limit t fr
+    local_tried = alike_tried m (member_has united) has' (root_has united) ext' (local_bits wt) (weigh N flag) limit one_bits two_bits

@@ -1,10 +1,12 @@
 -- The local indices listed, the sets and the weights in local numbers: one turn of each loop, and its end. Assumes nothing.
-use Rattle.std.specs.Prelude.{not, ◌&&◌, cond, List, ◌≡◌, ℕ, ◌+◌, ◌*◌, ◌^◌, ◌≤◌, ◌<◌, eqb, length, get_or, set}
+use Rattle.std.specs.Prelude.{Bool, not, ◌&&◌, cond, List, [], ◌≡◌, ℕ, ◌+◌, ◌*◌, ◌/◌, ◌%◌, ◌^◌, ◌≤◌, ◌<◌, eqb, length, get_or, set}
 use Rattle.std.proofs.Common.{sym, ap, ◌∙◌, subst, arith, length-set, pow_pos, get_or-set_same, get_or-set_other, eqb-true, lt-ltb, le-ltb}
 use Rattle.std.proofs.Math.Pow.{pow-lt}
 use Rattle.std.proofs.lemmas.Bool.{eqb-false}
 use Rattle.spec.specs.Memory.{filled}
 use Rattle.laws.specs.Booleans.{by_cases, ltb_next}
+use Rattle.bits.specs.Digits.{digit}
+use Rattle.masks.specs.Rows.{row_has, has_at}
 use Rattle.cells.specs.Cells.{filled_all}
 use Rattle.slots.specs.Slots.{held, with_set, held_with, held_with_other, with_set_then}
 use Rattle.slots.specs.Rising.{rising_of, rising_with}
@@ -23,49 +25,52 @@ locals_are ws src sliced W members m a b e g room =
     ∙ with_set_then ws W 0 (member_have src W members m) (λ j x. x && not (held sliced W 0 j)) in
     ap (λ l. rising_of l W 0) z ∙ rising_with ws W 0 (is_local src W members m sliced) (omega arith)
 
--- ---- the sets, slot by slot ----
+-- ---- the sets, row by row ----
+
+-- a row whose slot holds a test
+pub row_with : (row : List ℕ) (p : ℕ → Bool) (new : List ℕ) → 2 ≤ length row → new ≡ with_set row 2 0 p → (i : ℕ) → i < 128 → row_has new i ≡ p i
+unfolding row_has held
+row_with row p new long e i h =
+    let z : i / 64 ≡ 0 * 2 + i / 64 = omega arith in
+    ap (λ x. digit (get_or new x 0) (i % 64)) z ∙ ap (λ l. held l 2 0 i) e ∙ held_with row 2 0 p i (omega arith) (omega arith)
 
 -- the root's, and those of the first p members
-pub record Placed (src : List ℕ) (W v : ℕ) (members local : List ℕ) (c n p : ℕ) (ws : List ℕ) : Type 0 where
-  pub root : (i : ℕ) → i < 128 → held ws 2 n i ≡ local_test src W v local c i
-  pub each : (q i : ℕ) → q < p → i < 128 → held ws 2 (n + 2 ^ q) i ≡ local_test src W (get_or members q 0) local c i
+pub record Placed (src : List ℕ) (W v : ℕ) (members local : List ℕ) (c p : ℕ) (united : List (List ℕ)) : Type 0 where
+  pub root : (i : ℕ) → i < 128 → has_at united 0 i ≡ local_test src W v local c i
+  pub each : (q i : ℕ) → q < p → i < 128 → has_at united (2 ^ q) i ≡ local_test src W (get_or members q 0) local c i
 
-module _ (src : List ℕ) (W v : ℕ) (members : List ℕ) (m : ℕ) (local : List ℕ) (c n : ℕ) (masks : n ≡ 2 ^ m) where
-  abbrev To : ℕ → List ℕ → Type 0
-  To p ws = Placed src W v members local c n p ws
+module _ (src : List ℕ) (W v : ℕ) (members : List ℕ) (local : List ℕ) (c : ℕ) where
+  abbrev To : ℕ → List (List ℕ) → Type 0
+  To p united = Placed src W v members local c p united
 
-  pub placed_root : (ws a : List ℕ) → 7 * 2 ^ m ≤ length ws → a ≡ with_set ws 2 n (local_test src W v local c) → To 0 a
-  placed_root ws a room e =
-      subst (To 0) (sym e)
-      (record {
-        root = λ i h. held_with ws 2 n (local_test src W v local c) i (omega (arith, pow_pos m)) (omega arith);
+  pub placed_root : (united : List (List ℕ)) (row : List ℕ) → 1 ≤ length united → ((i : ℕ) → i < 128 → row_has row i ≡ local_test src W v local c i)
+      → To 0 (set united 0 row)
+  placed_root united row room e =
+      record {
+        root = λ i h. ap (λ r. row_has r i) (get_or-set_same united 0 row [] (omega arith)) ∙ e i h;
         each = λ q i h. absurd (omega arith);
-      })
+      }
 
-  pub placed_next : (p s x : ℕ) (ws a : List ℕ) → p < m → 7 * 2 ^ m ≤ length ws → s ≡ n + 2 ^ p → x ≡ get_or members p 0
-      → a ≡ with_set ws 2 s (local_test src W x local c) → To p ws → To (p + 1) a
-  placed_next p s x ws a less room es ex e k =
-      subst (To (p + 1)) (sym e)
-      (record {
-        root = λ i h. held_with_other ws 2 s (local_test src W x local c) n i (omega arith) (λ z. omega (arith, pow_pos p)) ∙ k.root i h;
+  pub placed_next : (p s x m : ℕ) (united : List (List ℕ)) (row : List ℕ) → p < m → 2 ^ m ≤ length united → s ≡ 2 ^ p → x ≡ get_or members p 0
+      → ((i : ℕ) → i < 128 → row_has row i ≡ local_test src W x local c i) → To p united → To (p + 1) (set united s row)
+  placed_next p s x m united row less room es ex e k =
+      record {
+        root = λ i h. ap (λ r. row_has r i) (get_or-set_other united s 0 row [] (λ z. omega (arith, pow_pos p))) ∙ k.root i h;
         each = λ q i b h.
             by_cases (eqb q p)
             (λ z. let y : q ≡ p = eqb-true q p z in
             rw y
-            (ap (λ w. held (with_set ws 2 s (local_test src W x local c)) 2 w i) (sym es)
-            ∙ held_with ws 2 s (local_test src W x local c) i (omega (arith, pow-lt {i = p} {j = m} less, pow_pos m)) (omega arith)
+            (ap (λ w. has_at (set united s row) w i) (sym es)
+            ∙ ap (λ r. row_has r i) (get_or-set_same united s row [] (omega (arith, pow-lt {i = p} {j = m} less)))
+            ∙ e i h
             ∙ ap (λ w. local_test src W w local c i) ex))
             (λ z. let y : q ≡ p → ⊥ = eqb-false q p z in
-            held_with_other ws 2 s (local_test src W x local c) (n + 2 ^ q) i (omega arith) (λ w. omega (arith, pow-lt {i = q} {j = p} (omega (arith, y))))
+            ap (λ r. row_has r i) (get_or-set_other united s (2 ^ q) row [] (λ w. omega (arith, pow-lt {i = q} {j = p} (omega (arith, y)))))
             ∙ k.each q i (omega (arith, y)) h);
-      })
-
-  pub placed_end : (p : ℕ) (ws : List ℕ) → p ≡ m → To p ws → LocalSets src W v members m local c (2 ^ m) ws
-  placed_end p ws e k =
-      record {
-        root = λ i h. ap (λ w. held ws 2 w i) (sym masks) ∙ k.root i h;
-        each = λ q i b h. ap (λ w. held ws 2 (w + 2 ^ q) i) (sym masks) ∙ k.each q i (omega arith) h;
       }
+
+  pub placed_end : (m p : ℕ) (united : List (List ℕ)) → p ≡ m → To p united → LocalSets src W v members m local c united
+  placed_end m p united e k = record { root = k.root; each = λ q i b h. k.each q i (omega arith) h }
 
 -- ---- the weights ----
 

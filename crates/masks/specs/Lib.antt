@@ -1,4 +1,5 @@
 -- The index sets of masks of members: how they are weighed, united and kept. Assumes nothing.
+pub mod Rows
 pub mod Weights
 pub mod Tables
 pub mod Singles

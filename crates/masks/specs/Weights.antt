@@ -1,14 +1,15 @@
--- The weights of a set of local indices: a word weighed place by place, and the two words of a slot. Assumes nothing.
-use Rattle.std.specs.Prelude.{Bool, List, [], ◌≡◌, refl, ℕ, zero, suc, ◌+◌, ◌-◌, ◌*◌, ◌≤◌, ◌<◌, eqb, get_or}
-use Rattle.std.proofs.Common.{ap, arith}
+-- The weights of a set of local indices: a word weighed place by place, and the two words of a row. Assumes nothing.
+use Rattle.std.specs.Prelude.{Bool, ◌||◌, List, [], ◌≡◌, refl, ℕ, zero, suc, ◌+◌, ◌-◌, ◌*◌, ◌≤◌, ◌<◌, eqb, get_or}
+use Rattle.std.proofs.Common.{sym, ap, ap₂, ◌∙◌, arith}
 use Rattle.std.specs.Int.Bits.{bit_or}
-use Rattle.spec.specs.Lists.{keep, from, sum_of}
+use Rattle.spec.specs.Lists.{keep, from, range, sum_of}
 use Rattle.laws.specs.ListLaws.{sum_append}
 use Rattle.bits.specs.Bit.{bit, bit-lt}
-use Rattle.bits.specs.Digits.{digit}
-use Rattle.bits.specs.Lowest.{places}
-use Rattle.slots.specs.Rising.{keep-add}
-use Rattle.slots.specs.Weigh.{open_weight, weighed, either, weigh_next, weighed_none}
+use Rattle.bits.specs.Digits.{digit, or_digits}
+use Rattle.bits.specs.Lowest.{Tests, places}
+use Rattle.slots.specs.Rising.{keep-add, word_more}
+use Rattle.slots.specs.Weigh.{open_weight, weighed, weighed_none}
+use Rattle.masks.specs.Rows.{row_digit, in_either}
 
 -- the weights of the places base + i of the set digits i of x, of its n lowest
 abbrev pub weight_below : List ℕ → ℕ → ℕ → ℕ → ℕ
@@ -46,14 +47,27 @@ digit_weight x i w = small (bit x i) (bit-lt x i)
     small (suc zero) h = omega arith
     small (suc (suc b)) h = absurd (omega arith)
 
--- both words of two slots
-pub two_words : (ws wt : List ℕ) (a b p q : ℕ)
-    → p ≡ weight_below wt 0 64 (bit_or (get_or ws (a * 2) 0) (get_or ws (b * 2) 0))
-    → q ≡ weight_below wt 64 64 (bit_or (get_or ws (a * 2 + 1) 0) (get_or ws (b * 2 + 1) 0)) → p + q ≡ weighed wt [] (either ws 2 a b) 128
-two_words ws wt a b p q hp hq =
-    let x : a * 2 ≡ a * 2 + 0 = omega arith in
-    let y : b * 2 ≡ b * 2 + 0 = omega arith in
-    let first : 0 + p ≡ weighed wt [] (either ws 2 a b) 64 =
-    weigh_next ws 2 a b wt [] 0 0 (get_or ws (a * 2) 0) (get_or ws (b * 2) 0) p (weighed_none wt [] (either ws 2 a b)) (ap (λ k. get_or ws k 0) x) (ap (λ k. get_or ws k 0) y) hp in
-    let z : p ≡ weighed wt [] (either ws 2 a b) 64 = omega (arith, first) in
-    weigh_next ws 2 a b wt [] 1 p (get_or ws (a * 2 + 1) 0) (get_or ws (b * 2 + 1) 0) q z refl refl hq
+-- both words of two rows
+module _ (a b wt : List ℕ) where
+  tests : (k : ℕ) → Tests (in_either a b) (k * 64) 64 (bit_or (get_or a k 0) (get_or b k 0))
+  tests k i h =
+      ap₂ (λ (x y : Bool). x || y) (row_digit a k i h) (row_digit b k i h) ∙ sym (or_digits (get_or a k 0) (get_or b k 0) i)
+
+  next : (k sum r : ℕ) → sum ≡ weighed wt [] (in_either a b) (k * 64) → r ≡ weight_below wt (k * 64) 64 (bit_or (get_or a k 0) (get_or b k 0))
+      → sum + r ≡ weighed wt [] (in_either a b) ((k + 1) * 64)
+  unfolding weighed
+  next k sum r h er =
+      let o = bit_or (get_or a k 0) (get_or b k 0) in
+      omega (
+        arith,
+        h,
+        er,
+        ap (sum_of (open_weight wt [])) (word_more 64 (in_either a b) k o (tests k)),
+        sum_append (open_weight wt []) (keep (in_either a b) (range (k * 64))) (places (k * 64) 64 o),
+      )
+
+  pub two_words : (p q : ℕ) → p ≡ weight_below wt 0 64 (bit_or (get_or a 0 0) (get_or b 0 0)) → q ≡ weight_below wt 64 64 (bit_or (get_or a 1 0) (get_or b 1 0))
+      → p + q ≡ weighed wt [] (in_either a b) 128
+  two_words p q hp hq =
+      let first : 0 + p ≡ weighed wt [] (in_either a b) 64 = next 0 0 p (weighed_none wt [] (in_either a b)) hp in
+      next 1 p q (omega (arith, first)) hq

@@ -1,12 +1,43 @@
 #![tactic(auto)]
-// The index sets of masks of members, in a lent list of words. With n masks, and slots of two words: slot n + s has the united sets of the
-// members of the mask s (slot n, of the mask of none, has the region's root's), slot 2 n + s has the indices that the mask's table keeps,
-// and word 6 n + s has how many bits these are.
-ghost use Rattle.std.specs.Prelude.{[], ◌≡◌, ◌+◌, ◌*◌, ◌<◌, ◌≤◌, length};
-ghost use Rattle.slots.specs.Weigh.{Light, weighed, either};
-ghost use Rattle.masks.specs.Keeps.{with_kept};
+//! The index sets of masks of members, as rows of lent words: mask `s` has the members whose digits are set in `s`.
+ghost use Rattle.std.specs.Prelude.{[], ◌&&◌, ◌||◌, ◌≡◌, ℕ, ◌+◌, ◌*◌, ◌^◌, ◌<◌, ◌≤◌, length};
+ghost use Rattle.slots.specs.Weigh.{Light, weighed};
+ghost use Rattle.masks.specs.Rows.{row_has, in_either};
 ghost use Rattle.masks.specs.Tables.{United, KeptBelow};
 ghost use Rattle.masks.specs.Weights.{weight_below};
+
+mod tables; // tables.rt: the tables of the masks, once they are weighed
+
+pub use tables::Tables;
+
+/// What a search over members knows of each mask of them: a place a mask in each list.
+#[derive(Drop)]
+pub struct Masks<'a> {
+    /// what the mask's members list together; for the mask of none, what the region's root lists
+    pub united: &'a mut [[u64; 2]],
+    /// the indices of the mask's table
+    pub kept: &'a mut [[u64; 2]],
+    /// how many bits that table has
+    pub bits: &'a mut [u64],
+    /// the least cost of a tree over the mask's members, 2^53 where none is below that
+    pub cost: &'a mut [u64],
+    /// the part of the first split of that cost, 0 where the mask is not split
+    pub part: &'a mut [u64],
+}
+
+// The indices of either row.
+fn unite(a: [u64; 2], b: [u64; 2]) -> [u64; 2]
+    ensures { (j : ℕ) → j < 128 → row_has result j ≡ (row_has a j || row_has b j) }
+{
+    [a[0] | b[0], a[1] | b[1]]
+}
+
+// The indices of both rows.
+fn meet(a: [u64; 2], b: [u64; 2]) -> [u64; 2]
+    ensures { (j : ℕ) → j < 128 → row_has result j ≡ (row_has a j && row_has b j) }
+{
+    [a[0] & b[0], a[1] & b[1]]
+}
 
 // The summed weights of the indices `base` + i for each set digit i of `x`, place by place.
 fn weigh_word(x: u64, base: usize, weights: &[u8]) -> usize
@@ -20,49 +51,40 @@ fn weigh_word(x: u64, base: usize, weights: &[u8]) -> usize
     sum
 }
 
-// The summed weights of the indices in slot `a` or slot `b`, of two words each.
-pub fn weigh(words: &[u64], a: usize, b: usize, weights: &[u8]) -> usize
-    requires { (a * 2 + 2 ≤ length words.now) × (b * 2 + 2 ≤ length words.now) × (128 ≤ length weights.now) × Light weights.now }
-    ensures { (result ≡ weighed weights.now [] (either words.now 2 a b) 128) × (result ≤ 1024) }
+// The summed weights of the indices of either row.
+fn weigh(a: [u64; 2], b: [u64; 2], weights: &[u8]) -> u64
+    requires { (128 ≤ length weights.now) × Light weights.now }
+    ensures { (result ≡ weighed weights.now [] (in_either a b) 128) × (result ≤ 1024) }
 {
-    let p = a * 2;
-    let q = b * 2;
-    let low = weigh_word(words[p] | words[q], 0, weights);
-    let high = weigh_word(words[p + 1] | words[q + 1], 64, weights);
-    low + high
+    let low = weigh_word(a[0] | b[0], 0, weights);
+    let high = weigh_word(a[1] | b[1], 64, weights);
+    (low + high) as u64
 }
 
-// Unites the members' sets of each mask, from the lowest mask up. Those of the masks of one member stand there already.
-pub fn unions(words: &mut [u64], n: usize)
-    requires { (1 ≤ n) × (n ≤ 4096) × (7 * n ≤ length words.old) }
-    ensures { United words.old words.new n n }
+/// Unites the members' sets of each mask, from the lowest mask up. Those of the masks of one member stand there already.
+pub fn unions(united: &mut [[u64; 2]])
+    requires { (1 ≤ length united.old) × (length united.old ≤ 4096) }
+    ensures { United united.old united.new (length united.old) (length united.old) }
 {
-    for s in 1..n {
+    for s in 1..united.len() {
         let rest = s & (s - 1);
         if rest != 0 {
-            slots::unite(words, 2, n + rest, n + (s - rest), n + s);
+            united[s] = unite(united[rest], united[s - rest]);
         }
     }
 }
 
-// What the mask `s` keeps: of its members' indices those that the region's root or a member outside lists.
-fn keep_set(words: &mut [u64], weights: &[u8], n: usize, s: usize)
-    requires { (n ≤ 4096) × (7 * n ≤ length words.old) × (s < n) × (128 ≤ length weights.now) × Light weights.now }
-    ensures { words.new ≡ with_kept words.old weights.now n s }
+/// What each mask keeps, and its bits: of its members' indices those that the region's root or a member outside lists.
+pub fn keep_sets(united: &[[u64; 2]], weights: &[u8], kept: &mut [[u64; 2]], bits: &mut [u64])
+    requires room { (length united.now ≤ 4096) × (length kept.old ≡ length united.now) × (length bits.old ≡ length united.now) }
+    requires weights { (128 ≤ length weights.now) × Light weights.now }
+    ensures { KeptBelow united.now weights.now kept.new bits.new (length united.now) (length united.now) }
 {
-    let slot = 2 * n + s;
-    slots::unite(words, 2, n, n + (n - 1 - s), slot);
-    slots::meet(words, 2, n + s, slot, slot);
-    let bits = weigh(words, slot, slot, weights);
-    words[6 * n + s] = bits as u64;
-}
-
-// What each mask keeps, and its bits.
-pub fn keep_sets(words: &mut [u64], weights: &[u8], n: usize)
-    requires { (1 ≤ n) × (n ≤ 4096) × (7 * n ≤ length words.old) × (128 ≤ length weights.now) × Light weights.now }
-    ensures { KeptBelow words.old words.new weights.now n n }
-{
+    let n = united.len();
     for s in 1..n {
-        keep_set(words, weights, n, s);
+        let outside = unite(united[0], united[n - 1 - s]);
+        let row = meet(united[s], outside);
+        kept[s] = row;
+        bits[s] = weigh(row, row, weights);
     }
 }

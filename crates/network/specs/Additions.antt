@@ -1,49 +1,39 @@
 -- What an addition answers, and laws of networks that grow. Assumes nothing.
 use Rattle.std.specs.Prelude.{◌≡◌, refl, Bool, true, false, ◌||◌, List, [], ◌∷◌, ◌++◌, ℕ, ◌≤◌, ◌<◌, ltb, Option, None, Some, Result, Err, Ok}
 use Rattle.std.proofs.Math.Path.{sym}
-use Rattle.std.proofs.Common.{ap, ◌∙◌, subst, arith, length-append, lt-ltb, ltb-true}
+use Rattle.std.proofs.Common.{◌∙◌, subst, arith, length-append, lt-ltb, ltb-true}
 use Rattle.spec.specs.declared.Refusal.{Refusal}
 use Rattle.std.proofs.Math.ListN.{length}
 use Rattle.spec.specs.Lists.{anyb}
-use Rattle.spec.specs.Refusal.{decide, code_of, number_of}
+use Rattle.spec.specs.Refusal.{decide}
+use Rattle.spec.specs.declared.Refusal.TheVariants.{TooLarge}
 use Rattle.spec.specs.Network.{Network, leaf_count, index_count, max_leaves, max_indices, max_legs, max_outputs, refusal_of}
 use Rattle.spec.specs.Building.{with_weight, with_leaf, with_output, if_accepted, add_weight, add_leaf, add_output}
 use Rattle.laws.specs.Booleans.{clash, or_introl, or_intror, or_cases}
 use Rattle.network.specs.Record.{net_of}
-use Rattle.network.specs.Codes.{code_zero, large, large_of, large_layout, refused_large}
+use Rattle.network.specs.Codes.{large, large_of, large_layout, refused_large}
 use Rattle.network.specs.Layouts.{layout_leaf_count, layout_index_count, layout_output_count}
 use Rattle.network.specs.declared.Network.{Network as Record}
-use Rattle.network.specs.declared.Added.{Added}
-use Rattle.network.specs.declared.Verdict.TheVariants.{Refused, Accepted}
 
--- the answer to an addition to the record `before`: refused by number, and the very same record; or accepted, and a record of the new network
-abbrev pub Adds : Record → Result Network Refusal → Added → Type 0
-Adds before (Err k) r = (r.verdict ≡ Refused (number_of k)) × (r.network ≡ before)
-Adds before (Ok N) r = (r.verdict ≡ Accepted) × (net_of r.network ≡ N)
+-- an addition's answer, and the record before and after it: refused, and the record stays; or done, and the record is of the new network
+abbrev pub Adds : Result Network Refusal → Result (Unit {0}) Refusal → (before after : Record) → Type 0
+Adds (Err k) r before after = (r ≡ Err k) × (after ≡ before)
+Adds (Ok N) r before after = (r ≡ Ok tt) × (net_of after ≡ N)
 
 -- the record stays where the network with the addition is too large
-pub adds_large : (before : Record) (N : Network) {r : Added} → large N ≡ true → (r.verdict ≡ Refused 3) × (r.network ≡ before) → Adds before (if_accepted N) r
-adds_large before N {r} e h = subst (λ (k : Option Refusal). Adds before (decide k (Ok N)) r) (sym (refused_large N e)) h
+pub adds_large : (before : Record) (N : Network) → large N ≡ true → Adds (if_accepted N) (Err TooLarge) before before
+adds_large before N e = subst (λ (k : Option Refusal). Adds (decide k (Ok N)) (Err TooLarge) before before) (sym (refused_large N e)) (refl, refl)
 
--- the number decides
-pub adds_none : (before after : Record) {k : ℕ} → k ≡ code_of (refusal_of (net_of after)) → k ≡ 0
-    → Adds before (if_accepted (net_of after)) (record { verdict = Accepted; network = after })
-adds_none before after e z =
-    subst (λ (k : Option Refusal). Adds before (decide k (Ok (net_of after))) (record { verdict = Accepted; network = after }))
-    (sym (code_zero (refusal_of (net_of after)) (sym z ∙ e)))
-    (refl, refl)
+-- the check decides
+pub adds_none : (before next : Record) → refusal_of (net_of next) ≡ None → Adds (if_accepted (net_of next)) (Ok tt) before next
+adds_none before next e = subst (λ (k : Option Refusal). Adds (decide k (Ok (net_of next))) (Ok tt) before next) (sym e) (refl, refl)
 
-refused_by : (before : Record) (N : Network) (o : Option Refusal) {k : ℕ} → k ≡ code_of o → (k ≡ 0 → ⊥) → Adds before (decide o (Ok N)) (record { verdict = Refused k; network = before })
-refused_by before N None e z = absurd (z e)
-refused_by before N (Some r) e z = (ap Refused e, refl)
-
-pub adds_some : (before after : Record) {k : ℕ} → k ≡ code_of (refusal_of (net_of after)) → (k ≡ 0 → ⊥)
-    → Adds before (if_accepted (net_of after)) (record { verdict = Refused k; network = before })
-adds_some before after e z = refused_by before (net_of after) (refusal_of (net_of after)) e z
+pub adds_some : (before next : Record) (r : Refusal) → refusal_of (net_of next) ≡ Some r → Adds (if_accepted (net_of next)) (Err r) before before
+adds_some before next r e = subst (λ (k : Option Refusal). Adds (decide k (Ok (net_of next))) (Err r) before before) (sym e) (refl, refl)
 
 -- the record that was made stands for the network with the addition
-pub adds_same : (before after : Record) (N : Network) (r : Added) → net_of after ≡ N → Adds before (if_accepted (net_of after)) r → Adds before (if_accepted N) r
-adds_same before after N r e h = subst (λ (M : Network). Adds before (if_accepted M) r) e h
+pub adds_same : (before after next : Record) (r : Result (Unit {0}) Refusal) (N : Network) → net_of next ≡ N → Adds (if_accepted (net_of next)) r before after → Adds (if_accepted N) r before after
+adds_same before after next r N e h = subst (λ (M : Network). Adds (if_accepted M) r before after) e h
 
 -- ---- networks with one more that are too large ----
 
@@ -99,29 +89,29 @@ large_stays N l e =
 
 -- ---- records with no room for one more ----
 
-module _ (before : Record) {r : Added} (same : (r.verdict ≡ Refused 3) × (r.network ≡ before)) where
-  pub weights_full : (w : ℕ) → max_indices ≤ before.index_count → Adds before (add_weight (net_of before) w) r
+module _ (before : Record) where
+  pub weights_full : (w : ℕ) → max_indices ≤ before.index_count → Adds (add_weight (net_of before) w) (Err TooLarge) before before
   unfolding net_of
   weights_full w h =
       let e : index_count (net_of before) ≡ before.index_count = layout_index_count _ _ _ _ _ _ _ in
-      adds_large before (with_weight (net_of before) w) (large_weight (net_of before) w (omega arith)) same
+      adds_large before (with_weight (net_of before) w) (large_weight (net_of before) w (omega arith))
 
-  pub outputs_full : (j : ℕ) → max_outputs ≤ before.output_count → Adds before (add_output (net_of before) j) r
+  pub outputs_full : (j : ℕ) → max_outputs ≤ before.output_count → Adds (add_output (net_of before) j) (Err TooLarge) before before
   unfolding net_of
   outputs_full j h =
       let e : length (net_of before).outputs ≡ before.output_count = layout_output_count _ _ _ _ _ _ _ in
-      adds_large before (with_output (net_of before) j) (large_output (net_of before) j (omega arith)) same
+      adds_large before (with_output (net_of before) j) (large_output (net_of before) j (omega arith))
 
-  pub leaves_full : (l : List ℕ) → max_leaves ≤ before.leaf_count → Adds before (add_leaf (net_of before) l) r
+  pub leaves_full : (l : List ℕ) → max_leaves ≤ before.leaf_count → Adds (add_leaf (net_of before) l) (Err TooLarge) before before
   unfolding net_of
   leaves_full l h =
       let e : leaf_count (net_of before) ≡ before.leaf_count = layout_leaf_count _ _ _ _ _ _ _ in
-      adds_large before (with_leaf (net_of before) l) (large_leaf (net_of before) l (omega arith)) same
+      adds_large before (with_leaf (net_of before) l) (large_leaf (net_of before) l (omega arith))
 
-  pub leaf_full : (l : List ℕ) → max_legs < length l → Adds before (add_leaf (net_of before) l) r
-  leaf_full l h = adds_large before (with_leaf (net_of before) l) (large_new_leaf (net_of before) l h) same
+  pub leaf_full : (l : List ℕ) → max_legs < length l → Adds (add_leaf (net_of before) l) (Err TooLarge) before before
+  leaf_full l h = adds_large before (with_leaf (net_of before) l) (large_new_leaf (net_of before) l h)
 
   pub full_before : (l : List ℕ) {b : Bool} → b ≡ large_of before.index_count before.leaf_count before.output_count before.leg_counts → b ≡ true
-      → Adds before (add_leaf (net_of before) l) r
+      → Adds (add_leaf (net_of before) l) (Err TooLarge) before before
   unfolding net_of
-  full_before l e t = adds_large before (with_leaf (net_of before) l) (large_stays (net_of before) l (large_layout _ _ _ _ _ _ _ ∙ sym e ∙ t)) same
+  full_before l e t = adds_large before (with_leaf (net_of before) l) (large_stays (net_of before) l (large_layout _ _ _ _ _ _ _ ∙ sym e ∙ t))

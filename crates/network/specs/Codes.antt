@@ -1,5 +1,5 @@
 -- The number of a network's refusal, from lists with counts, and what follows where it is 0. Assumes nothing.
-use Rattle.std.specs.Prelude.{◌≡◌, Bool, false, ◌||◌, cond, List, map, ℕ, ◌+◌, ◌*◌, ◌≤◌, ◌<◌, take, drop, Option, None, Some}
+use Rattle.std.specs.Prelude.{◌≡◌, Bool, false, ◌||◌, cond, List, map, ℕ, ◌+◌, ◌*◌, ◌≤◌, ◌<◌, take, drop, Option, None, Some, Result, Ok, Err}
 use Rattle.std.proofs.Math.Path.{refl, sym, ap}
 use Rattle.std.proofs.Common.{◌∙◌, arith}
 use Rattle.std.proofs.Math.Bool.{true, or-false}
@@ -9,16 +9,17 @@ use Rattle.std.proofs.Math.Dec.{ltb}
 use Rattle.std.proofs.Math.ListN.{length, get_or}
 use borrow.Author.Tests.{lt-ltb, le-ltb, ltb-false}
 use Rattle.spec.specs.Lists.{anyb, range}
-use Rattle.spec.specs.Refusal.{code_of, number_of, passes}
-use Rattle.spec.specs.Network.{Network, leaf_count, index_count, legs, max_leaves, max_indices, max_legs, max_outputs, max_weight, repeats, any_out_of_range, refusal_of}
+use Rattle.spec.specs.Refusal.{code_of, number_of, passes, decide}
+use Rattle.spec.specs.Network.{Network, leaf_count, index_count, legs, max_leaves, max_indices, max_legs, max_outputs, max_weight, repeats, any_out_of_range, refusal_of, accepting}
 use Rattle.spec.specs.NetworkClaims.{Accepted}
 use Rattle.spec.specs.Layout.{firsts, row_at, network_of}
 use Rattle.laws.specs.Booleans.{or_introl, or_intror, or_none}
 use Rattle.laws.specs.ListLaws.{any_ext, memb_at, any_map}
 use Rattle.laws.specs.Accepted.{none_at, accepted_means}
 use Rattle.laws.specs.LayoutLaws.{map_range_length, firsts_length, firsts_at}
-use Rattle.network.specs.Layouts.{firsts-take, layout_leaf_count, layout_index_count, layout_output_count, layout_weight, layout_leg_count, layout_leg, layout_output}
+use Rattle.network.specs.Layouts.{firsts-take, firsts_all, layout_leaf_count, layout_index_count, layout_output_count, layout_weight, layout_leg_count, layout_leg, layout_output}
 use Rattle.network.specs.Checks.{leaves_of, Rows, Fitting}
+use Rattle.network.specs.Lists.{HasRows, lists_net}
 
 -- ---- a count above its limit ----
 
@@ -66,34 +67,35 @@ out_of_range_of m n o counts cells outputs = anyb (any_out_of_range m) (leaves_o
 unfoldable pub repeat_of : (n o : ℕ) (counts cells outputs : List ℕ) → Bool
 repeat_of n o counts cells outputs = anyb repeats (leaves_of n counts cells) || repeats (firsts o outputs)
 
-module _ (m n o : ℕ) (counts cells outputs : List ℕ) (fit : o ≤ length outputs) where
-  pub beyond_leaf : {b : Bool} → b ≡ anyb (any_out_of_range m) (leaves_of n counts cells) → b ≡ true → true ≡ out_of_range_of m n o counts cells outputs
+module _ (m n : ℕ) (counts cells outputs : List ℕ) where
+  pub beyond_leaf : {b : Bool} → b ≡ anyb (any_out_of_range m) (leaves_of n counts cells) → b ≡ true → true ≡ out_of_range_of m n (length outputs) counts cells outputs
   unfolding out_of_range_of
-  beyond_leaf e t = sym (or_introl (anyb (any_out_of_range m) (leaves_of n counts cells)) (any_out_of_range m (firsts o outputs)) (sym e ∙ t))
+  beyond_leaf e t = sym (or_introl (anyb (any_out_of_range m) (leaves_of n counts cells)) (any_out_of_range m (firsts (length outputs) outputs)) (sym e ∙ t))
 
-  pub beyond_output : {b d : Bool} → b ≡ anyb (any_out_of_range m) (leaves_of n counts cells) → b ≡ false → d ≡ any_out_of_range m (take o outputs) → d ≡ out_of_range_of m n o counts cells outputs
+  pub beyond_output : {b d : Bool} → b ≡ anyb (any_out_of_range m) (leaves_of n counts cells) → b ≡ false → d ≡ any_out_of_range m outputs → d ≡ out_of_range_of m n (length outputs) counts cells outputs
   unfolding out_of_range_of
-  beyond_output e f h = h ∙ rw (sym e ∙ f, firsts-take o outputs fit)
+  beyond_output e f h = h ∙ rw (sym e ∙ f, firsts_all outputs)
 
-  pub repeat_leaf : {b : Bool} → b ≡ anyb repeats (leaves_of n counts cells) → b ≡ true → true ≡ repeat_of n o counts cells outputs
+  pub repeat_leaf : {b : Bool} → b ≡ anyb repeats (leaves_of n counts cells) → b ≡ true → true ≡ repeat_of n (length outputs) counts cells outputs
   unfolding repeat_of
-  repeat_leaf e t = sym (or_introl (anyb repeats (leaves_of n counts cells)) (repeats (firsts o outputs)) (sym e ∙ t))
+  repeat_leaf e t = sym (or_introl (anyb repeats (leaves_of n counts cells)) (repeats (firsts (length outputs) outputs)) (sym e ∙ t))
 
-  pub repeat_output : {b d : Bool} → b ≡ anyb repeats (leaves_of n counts cells) → b ≡ false → d ≡ repeats (take o outputs) → d ≡ repeat_of n o counts cells outputs
+  pub repeat_output : {b d : Bool} → b ≡ anyb repeats (leaves_of n counts cells) → b ≡ false → d ≡ repeats outputs → d ≡ repeat_of n (length outputs) counts cells outputs
   unfolding repeat_of
-  repeat_output e f h = h ∙ rw (sym e ∙ f, firsts-take o outputs fit)
+  repeat_output e f h = h ∙ rw (sym e ∙ f, firsts_all outputs)
 
--- the number, from the four conditions in their order
-unfoldable pub code_from : (large heavy beyond again : Bool) → ℕ
-code_from large heavy beyond again = cond large 3 (cond heavy 4 (cond beyond 5 (cond again 6 0)))
+-- the answer, from the four conditions in their order
+unfoldable pub answer_from : (large heavy beyond again : Bool) → Result (Unit {0}) Refusal
+answer_from large heavy beyond again = cond large (Err TooLarge) (cond heavy (Err Overweight) (cond beyond (Err OutOfRange) (cond again (Err Repeated) (Ok tt))))
 
-code_first : (a b c d : Bool) → code_of (cond a (Some TooLarge) (cond b (Some Overweight) (cond c (Some OutOfRange) (cond d (Some Repeated) None)))) ≡ code_from a b c d
-unfolding code_from
-code_first true b c d = refl
-code_first false true c d = refl
-code_first false false true d = refl
-code_first false false false true = refl
-code_first false false false false = refl
+answer_first : (a b c d : Bool)
+    → decide (cond a (Some TooLarge) (cond b (Some Overweight) (cond c (Some OutOfRange) (cond d (Some Repeated) None)))) (Ok tt) ≡ answer_from a b c d
+unfolding answer_from
+answer_first true b c d = refl
+answer_first false true c d = refl
+answer_first false false true d = refl
+answer_first false false false true = refl
+answer_first false false false false = refl
 
 module _ (m n o : ℕ) (weights counts cells outputs : List ℕ) where
   many_legs : anyb (λ l. ltb max_legs (length l)) (map (row_at counts cells) (range n)) ≡ anyb (λ k. ltb max_legs k) (firsts n counts)
@@ -112,20 +114,20 @@ module _ (m n o : ℕ) (weights counts cells outputs : List ℕ) where
       let oc : length (firsts o outputs) ≡ o = firsts_length o outputs in
       λ j. ltb max_leaves (lc j) || (ltb max_indices (ic j) || (many_legs j || ltb max_outputs (oc j)))
 
-  -- the refusal's number
-  pub code_means :
-      code_of (refusal_of (network_of m n o weights counts cells outputs))
-      ≡ code_from (large_of m n o counts) (anyb (λ w. ltb max_weight w) (firsts m weights)) (out_of_range_of m n o counts cells outputs) (repeat_of n o counts cells outputs)
+  -- what the check answers
+  pub answer_means :
+      accepting (network_of m n o weights counts cells outputs)
+      ≡ answer_from (large_of m n o counts) (anyb (λ w. ltb max_weight w) (firsts m weights)) (out_of_range_of m n o counts cells outputs) (repeat_of n o counts cells outputs)
   unfolding network_of out_of_range_of repeat_of leaves_of
-  code_means =
+  answer_means =
       let N = network_of m n o weights counts cells outputs in
       let ic : length (firsts m weights) ≡ m = firsts_length m weights in
-      code_first
+      answer_first
       (large N)
       (anyb (λ w. ltb max_weight w) (firsts m weights))
       (anyb (any_out_of_range (length (firsts m weights))) N.leaves || any_out_of_range (length (firsts m weights)) N.outputs)
       (anyb repeats N.leaves || repeats N.outputs)
-      ∙ (λ j. code_from
+      ∙ (λ j. answer_from
       (large_layout j)
       (anyb (λ w. ltb max_weight w) (firsts m weights))
       (anyb (any_out_of_range (ic j)) N.leaves || any_out_of_range (ic j) N.outputs)
@@ -146,6 +148,13 @@ small m n o counts e =
       ltb-false max_outputs o d,
       λ i h. rw (firsts_at n counts i h) at (ltb-false max_legs (get_or (firsts n counts) i 0) (none_at (λ k. ltb max_legs k) 0 (firsts n counts) c i (omega (arith, firsts_length n counts)))),
     )
+
+-- lists of which the first places are in use have these places
+pub in_use : (m n o : ℕ) (weights counts cells outputs : List ℕ) → Fitting m n o weights counts cells outputs → large_of m n o counts ≡ false
+    → (m ≤ length weights) × (n ≤ length counts) × (o ≤ length outputs) × (n * max_legs ≤ length cells)
+in_use m n o weights counts cells outputs l e =
+    let (p, q, r, s) = small m n o counts e in
+    (l.weight_places q, l.count_places p, l.output_places r, l.leg_places p)
 
 pub positive : (r : Refusal) → 1 ≤ number_of r
 positive Truncated = omega arith
@@ -180,54 +189,71 @@ pub record Facts (m n o : ℕ) (weights counts cells outputs : List ℕ) : Type 
   pub outputs_in_range : (k : ℕ) → k < o → get_or outputs k 0 < m
 
 -- what the check finds on the way, and what it answers then
-module _ (m n o : ℕ) (weights counts cells outputs : List ℕ) (l : Fitting m n o weights counts cells outputs) where
-  pub rows : {b : Bool} → b ≡ large_of m n o counts → b ≡ false → Rows n counts cells × (o ≤ length outputs)
+module _ (weights counts cells outputs : List ℕ) (has : HasRows counts cells) where
+  pub rows : {b : Bool} → b ≡ large_of (length weights) (length counts) (length outputs) counts → b ≡ false → Rows (length counts) counts cells
   rows e f =
-      let (p, q, r, s) = small m n o counts (sym e ∙ f) in
-      (record { counted = l.count_places p; room = l.leg_places p; few = s }, l.output_places r)
-
-  pub weighed : {b : Bool} → b ≡ large_of m n o counts → b ≡ false → m ≤ length weights
-  weighed e f = let (p, q, r, s) = small m n o counts (sym e ∙ f) in l.weight_places q
+      let (p, q, r, s) = small _ _ _ counts (sym e ∙ f) in
+      record { counted = omega arith; room = has p; few = s }
 
   -- the answers: the conditions that were tested, each with what its test said
-  answer : {a b c d : Bool} → a ≡ large_of m n o counts → b ≡ anyb (λ w. ltb max_weight w) (firsts m weights) → c ≡ out_of_range_of m n o counts cells outputs → d ≡ repeat_of n o counts cells outputs
-      → code_from a b c d ≡ code_of (refusal_of (network_of m n o weights counts cells outputs))
-  answer p q r s = (λ j. code_from (p j) (q j) (r j) (s j)) ∙ sym (code_means m n o weights counts cells outputs)
+  answer : {a b c d : Bool} → a ≡ large_of (length weights) (length counts) (length outputs) counts → b ≡ anyb (λ w. ltb max_weight w) (firsts (length weights) weights) → c ≡ out_of_range_of (length weights) (length counts) (length outputs) counts cells outputs → d ≡ repeat_of (length counts) (length outputs) counts cells outputs
+      → answer_from a b c d ≡ accepting (lists_net weights counts cells outputs)
+  answer p q r s = (λ j. answer_from (p j) (q j) (r j) (s j)) ∙ sym (answer_means _ _ _ weights counts cells outputs)
 
-  module _ {a : Bool} (large : a ≡ large_of m n o counts) where
-    pub answer_large : a ≡ true → 3 ≡ code_of (refusal_of (network_of m n o weights counts cells outputs))
-    unfolding code_from
+  module _ {a : Bool} (large : a ≡ large_of (length weights) (length counts) (length outputs) counts) where
+    pub answer_large : a ≡ true → Err TooLarge ≡ accepting (lists_net weights counts cells outputs)
+    unfolding answer_from
     answer_large x = answer (sym x ∙ large) refl refl refl
 
-    module _ {b : Bool} (few : a ≡ false) (heavy : b ≡ anyb (λ w. ltb max_weight w) (take m weights)) where
-      weights_are : b ≡ anyb (λ w. ltb max_weight w) (firsts m weights)
-      weights_are = heavy ∙ ap (anyb (λ w. ltb max_weight w)) (sym (firsts-take m weights (weighed large few)))
+    module _ {b : Bool} (few : a ≡ false) (heavy : b ≡ anyb (λ w. ltb max_weight w) weights) where
+      weights_are : b ≡ anyb (λ w. ltb max_weight w) (firsts (length weights) weights)
+      weights_are = heavy ∙ ap (anyb (λ w. ltb max_weight w)) (sym (firsts_all weights))
 
-      pub answer_heavy : b ≡ true → 4 ≡ code_of (refusal_of (network_of m n o weights counts cells outputs))
-      unfolding code_from
+      pub answer_heavy : b ≡ true → Err Overweight ≡ accepting (lists_net weights counts cells outputs)
+      unfolding answer_from
       answer_heavy x = answer (sym few ∙ large) (sym x ∙ weights_are) refl refl
 
-      module _ {c : Bool} (light : b ≡ false) (beyond : c ≡ out_of_range_of m n o counts cells outputs) where
-        pub answer_beyond : c ≡ true → 5 ≡ code_of (refusal_of (network_of m n o weights counts cells outputs))
-        unfolding code_from
+      module _ {c : Bool} (light : b ≡ false) (beyond : c ≡ out_of_range_of (length weights) (length counts) (length outputs) counts cells outputs) where
+        pub answer_beyond : c ≡ true → Err OutOfRange ≡ accepting (lists_net weights counts cells outputs)
+        unfolding answer_from
         answer_beyond x = answer (sym few ∙ large) (sym light ∙ weights_are) (sym x ∙ beyond) refl
 
-        module _ {d : Bool} (inside : c ≡ false) (again : d ≡ repeat_of n o counts cells outputs) where
-          pub answer_repeat : d ≡ true → 6 ≡ code_of (refusal_of (network_of m n o weights counts cells outputs))
-          unfolding code_from
+        module _ {d : Bool} (inside : c ≡ false) (again : d ≡ repeat_of (length counts) (length outputs) counts cells outputs) where
+          pub answer_repeat : d ≡ true → Err Repeated ≡ accepting (lists_net weights counts cells outputs)
+          unfolding answer_from
           answer_repeat x = answer (sym few ∙ large) (sym light ∙ weights_are) (sym inside ∙ beyond) (sym x ∙ again)
 
-          pub answer_none : d ≡ false → 0 ≡ code_of (refusal_of (network_of m n o weights counts cells outputs))
-          unfolding code_from
+          pub answer_none : d ≡ false → Ok tt ≡ accepting (lists_net weights counts cells outputs)
+          unfolding answer_from
           answer_none x = answer (sym few ∙ large) (sym light ∙ weights_are) (sym inside ∙ beyond) (sym x ∙ again)
 
--- the check answered 0
-pub accepted_facts : (m n o : ℕ) (weights counts cells outputs : List ℕ)
-    → 0 ≡ code_of (refusal_of (network_of m n o weights counts cells outputs))
+-- what the answer says of the refusal
+abbrev done : Result (Unit {0}) Refusal
+done = Ok tt
+
+refusal_in : Result (Unit {0}) Refusal → Option Refusal
+refusal_in (Ok x) = None
+refusal_in (Err r) = Some r
+
+decided : (k : Option Refusal) → refusal_in (decide k (Ok tt)) ≡ k
+unfolding refusal_in
+decided None = refl
+decided (Some r) = refl
+
+pub done_none : (k : Option Refusal) → done ≡ decide k done → k ≡ None
+unfolding refusal_in
+done_none k e = sym (decided k) ∙ ap refusal_in (sym e)
+
+pub refused_some : (k : Option Refusal) (r : Refusal) → Err r ≡ decide k done → k ≡ Some r
+unfolding refusal_in
+refused_some k r e = sym (decided k) ∙ ap refusal_in (sym e)
+
+-- the check found nothing
+pub passed_facts : (m n o : ℕ) (weights counts cells outputs : List ℕ)
+    → refusal_of (network_of m n o weights counts cells outputs) ≡ None
     → Facts m n o weights counts cells outputs
-accepted_facts m n o weights counts cells outputs e =
+passed_facts m n o weights counts cells outputs p =
     let N = network_of m n o weights counts cells outputs in
-    let p : refusal_of N ≡ None = code_zero (refusal_of N) e in
     let a : Accepted N = (accepted_means N).0 (ap passes p) in
     let lc : leaf_count N ≡ n = layout_leaf_count m n o weights counts cells outputs in
     let ic : index_count N ≡ m = layout_index_count m n o weights counts cells outputs in
@@ -246,3 +272,9 @@ accepted_facts m n o weights counts cells outputs e =
       outputs_in_range = λ k h.
           omega (arith, layout_output m n o weights counts cells outputs k h, a.outputs_in_range (get_or N.outputs k 0) (memb_at N.outputs k (omega arith)));
     }
+
+-- the check answered 0
+pub accepted_facts : (m n o : ℕ) (weights counts cells outputs : List ℕ)
+    → 0 ≡ code_of (refusal_of (network_of m n o weights counts cells outputs))
+    → Facts m n o weights counts cells outputs
+accepted_facts m n o weights counts cells outputs e = passed_facts m n o weights counts cells outputs (code_zero (refusal_of (network_of m n o weights counts cells outputs)) e)

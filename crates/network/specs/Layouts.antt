@@ -168,3 +168,28 @@ layout_empty weights counts cells outputs = refl
 pub leaf_count_lem : (R : Record) → leaf_count (net_of R) ≡ R.leaf_count
 unfolding net_of
 leaf_count_lem R = layout_leaf_count R.index_count R.leaf_count R.output_count R.weights R.leg_counts R.legs R.outputs
+
+-- ---- lists of which the first places are in use ----
+
+module _ (m n o : ℕ) (weights counts cells outputs : List ℕ) (weighed : m ≤ length weights) (counted : n ≤ length counts) (named : o ≤ length outputs) where
+  front_row : (i : ℕ) → i < n → row_at (take n counts) cells i ≡ row_at counts cells i
+  front_row i h = ap (λ (k : ℕ). firsts k (drop (i * max_legs) cells)) (get_or-take n counts i 0 h)
+
+  pub layout_front :
+      network_of (length (take m weights)) (length (take n counts)) (length (take o outputs)) (take m weights) (take n counts) cells (take o outputs)
+      ≡ network_of m n o weights counts cells outputs
+  unfolding network_of
+  layout_front =
+      let leaves : map (row_at (take n counts) cells) (range n) ≡ map (row_at counts cells) (range n)
+      = map-range_ext [] (row_at (take n counts) cells) (row_at counts cells) n front_row in
+      let outs : firsts o (take o outputs) ≡ firsts o outputs = firsts_same o (take o outputs) outputs (λ i b. get_or-take o outputs i 0 b) in
+      let bits : firsts m (take m weights) ≡ firsts m weights = firsts_same m (take m weights) weights (λ i b. get_or-take m weights i 0 b) in
+      (λ j. network_of
+      (length-take-le m weights weighed j)
+      (length-take-le n counts counted j)
+      (length-take-le o outputs named j)
+      (take m weights)
+      (take n counts)
+      cells
+      (take o outputs))
+      ∙ (λ j. record { leaves = leaves j; outputs = outs j; weights = bits j })

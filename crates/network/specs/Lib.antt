@@ -4,5 +4,6 @@ pub mod Layouts
 pub mod Searches
 pub mod Checks
 pub mod Codes
-pub mod Answers
 pub mod Additions
+pub mod Lists
+pub mod Views

@@ -1,15 +1,17 @@
-// The check by number, on lists that are lent: all of 3, then all of 4, of 5, of 6.
+// The check by number, on lists that are lent: all of the counts, then the weights, then the indices' range, then their repeats.
 ghost use Rattle.std.specs.Prelude.{◌≡◌, ◌≤◌, length};
 ghost use Rattle.spec.specs.Refusal.{code_of};
-ghost use Rattle.spec.specs.Network.{refusal_of, max_leaves};
+ghost use Rattle.spec.specs.Network.{refusal_of, max_leaves, accepting};
 ghost use Rattle.spec.specs.Layout.{network_of};
 ghost use Rattle.network.specs.Checks.{Rows, Lent, Fitting};
 ghost use Rattle.network.specs.Codes.{large_of, out_of_range_of, repeat_of};
+ghost use Rattle.network.specs.Lists.{HasRows, lists_net};
 
-use crate::{Network, refusal, scan};
+use crate::{Accepted, Network, refusal, scan};
+use spec::Refusal;
 
 // Is a count above its limit. No list is read past its limit.
-pub(crate) fn too_large(m: usize, n: usize, o: usize, counts: &[u8]) -> bool
+pub(crate) fn is_too_large(m: usize, n: usize, o: usize, counts: &[u8]) -> bool
     requires { n ≤ max_leaves → n ≤ length counts.now }
     ensures { result ≡ large_of m n o counts.now }
 {
@@ -26,25 +28,50 @@ pub(crate) fn too_large(m: usize, n: usize, o: usize, counts: &[u8]) -> bool
 }
 
 // Does a leaf, or do the outputs, name an index that is not below m.
-fn out_of_range(m: usize, n: usize, o: usize, counts: &[u8], legs: &[u16], outputs: &[u16]) -> bool
-    requires { Rows n counts.now legs.now × (o ≤ length outputs.now) }
-    ensures { result ≡ out_of_range_of m n o counts.now legs.now outputs.now }
+fn is_out_of_range(m: usize, counts: &[u8], legs: &[u16], outputs: &[u16]) -> bool
+    requires { Rows (length counts.now) counts.now legs.now }
+    ensures { result ≡ out_of_range_of m (length counts.now) (length outputs.now) counts.now legs.now outputs.now }
 {
-    if scan::leaves_out_of_range(n, counts, legs, m) {
+    if scan::leaves_out_of_range(counts.len(), counts, legs, m) {
         return true;
     }
-    scan::out_of_range(&outputs[..o], m)
+    scan::out_of_range(outputs, m)
 }
 
 // Does a leaf, or do the outputs, name an index twice.
-fn repeated(n: usize, o: usize, counts: &[u8], legs: &[u16], outputs: &[u16]) -> bool
-    requires { Rows n counts.now legs.now × (o ≤ length outputs.now) }
-    ensures { result ≡ repeat_of n o counts.now legs.now outputs.now }
+fn is_repeated(counts: &[u8], legs: &[u16], outputs: &[u16]) -> bool
+    requires { Rows (length counts.now) counts.now legs.now }
+    ensures { result ≡ repeat_of (length counts.now) (length outputs.now) counts.now legs.now outputs.now }
 {
-    if scan::leaves_repeated(n, counts, legs) {
+    if scan::leaves_repeated(counts.len(), counts, legs) {
         return true;
     }
-    scan::repeated(&outputs[..o])
+    scan::repeated(outputs)
+}
+
+/// The check of lists that are as long as their counts. Each leaf has a row of 32 places in `legs`.
+pub fn check_lists(
+    weights: &[u8],
+    leg_counts: &[u8],
+    legs: &[u16],
+    outputs: &[u16],
+) -> Result<(), Refusal>
+    requires { HasRows leg_counts.now legs.now }
+    ensures { result ≡ accepting (lists_net weights.now leg_counts.now legs.now outputs.now) }
+{
+    if is_too_large(weights.len(), leg_counts.len(), outputs.len(), leg_counts) {
+        return Err(Refusal::TooLarge);
+    }
+    if scan::above(weights, Network::MAX_WEIGHT) {
+        return Err(Refusal::Overweight);
+    }
+    if is_out_of_range(weights.len(), leg_counts, legs, outputs) {
+        return Err(Refusal::OutOfRange);
+    }
+    if is_repeated(leg_counts, legs, outputs) {
+        return Err(Refusal::Repeated);
+    }
+    Ok(())
 }
 
 // The number of the refusal, or 0, on lists that are as long as their counts.
@@ -60,19 +87,10 @@ pub fn number_in(
     requires { Fitting m n o weights.now counts.now legs.now outputs.now }
     ensures { result ≡ code_of (refusal_of (network_of m n o weights.now counts.now legs.now outputs.now)) }
 {
-    if too_large(m, n, o, counts) {
-        return refusal::TOO_LARGE;
+    match Accepted::of_counts((m, n, o), weights, counts, legs, outputs) {
+        Ok(_) => refusal::NONE,
+        Err(refused) => refused.number(),
     }
-    if scan::above(&weights[..m], Network::MAX_WEIGHT) {
-        return refusal::OVERWEIGHT;
-    }
-    if out_of_range(m, n, o, counts, legs, outputs) {
-        return refusal::OUT_OF_RANGE;
-    }
-    if repeated(n, o, counts, legs, outputs) {
-        return refusal::REPEATED;
-    }
-    refusal::NONE
 }
 
 // The same on lists of a record's lengths.

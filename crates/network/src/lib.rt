@@ -1,19 +1,24 @@
 #![tactic(auto)]
-// Networks as records: limits, what a record stands for, the check by number, and networks made step by step.
-ghost use Rattle.std.specs.Prelude.{◌≡◌, []};
+// Networks as records: limits, what a record stands for, the check by number, networks made step by step, and accepted networks.
+ghost use Rattle.std.specs.Prelude.{◌≡◌, [], IfOk, IfErr, Some};
 ghost use Rattle.spec.specs.Refusal.{code_of};
-ghost use Rattle.spec.specs.Network.{refusal_of};
+ghost use Rattle.spec.specs.Network.{refusal_of, accepting};
 ghost use Rattle.network.specs.Record.{net_of};
-ghost use Rattle.spec.specs.Memory.{placed};
 ghost use Rattle.spec.specs.Building.{if_accepted, add_weight, add_leaf, add_output};
-ghost use Rattle.network.specs.Answers.{verdict_of};
 ghost use Rattle.network.specs.Additions.{Adds};
+ghost use Rattle.network.specs.Views.{net_in};
+
+use spec::Refusal;
 
 pub mod refusal; // refusal.rt: the refusals by their numbers
+mod accepted; // accepted.rt: an accepted network
 pub mod scan; // scan.rt: searches of lists that are lent
 pub mod checks; // checks.rt: the check by number, on lists that are lent
+mod lists; // lists.rt: how an accepted network is made and read
 
-// A record. The places of its arrays past the counts are no part of the network.
+pub use accepted::Accepted;
+
+/// A record. The places of its arrays past the counts are no part of the network.
 #[derive(Clone, Copy)]
 pub struct Network {
     pub index_count: usize,
@@ -24,20 +29,6 @@ pub struct Network {
     // the indices of leaf i stand from place 32 i on
     pub legs: [u16; Network::MAX_LEAVES * Network::MAX_LEGS],
     pub outputs: [u16; Network::MAX_OUTPUTS],
-}
-
-// What a check answers: the number of the refusal, or that there is none.
-#[derive(Clone, Copy)]
-pub enum Verdict {
-    Refused(u8),
-    Accepted,
-}
-
-// What an addition answers: the verdict on the network with it, and the record, which a refusal leaves as it is.
-#[derive(Clone, Copy)]
-pub struct Added {
-    pub verdict: Verdict,
-    pub network: Network,
 }
 
 impl Network {
@@ -51,6 +42,7 @@ impl Network {
 
     pub const MAX_WEIGHT: u8 = 8;
 
+    /// The network without indices, leaves and outputs.
     pub fn empty() -> Self
         ensures { net_of result ≡ record { leaves = []; outputs = []; weights = [] } }
     {
@@ -64,93 +56,86 @@ impl Network {
             outputs: [0; Self::MAX_OUTPUTS],
         }
     }
-    // One index more, of the given weight.
-    pub fn add_weight(self, weight: u8) -> Added
-        ensures { Adds self (add_weight (net_of self) weight) result }
+
+    /// The check of any record, whatever it holds: all of `TooLarge` first, then `Overweight`, `OutOfRange`, `Repeated`.
+    pub fn check(&self) -> Result<(), Refusal>
+        ensures { result ≡ accepting (net_of self.now) }
+    {
+        self.accepted()?;
+        Ok(())
+    }
+
+    /// The record's lists, unless the network is refused.
+    pub fn accepted(&self) -> Result<Accepted<'_>, Refusal>
+        ensures ok { IfOk result (λ a. net_in a ≡ net_of self.now) }
+        ensures err { IfErr result (λ r. refusal_of (net_of self.now) ≡ Some r) }
+    {
+        let counts = (self.index_count, self.leaf_count, self.output_count);
+        Accepted::of_counts(
+            counts,
+            &self.weights,
+            &self.leg_counts,
+            &self.legs,
+            &self.outputs,
+        )
+    }
+
+    /// One index more, of the given weight in bits, 0 to 8. It is refused as the network with it would be, and the record stays then.
+    pub fn add_weight(&mut self, weight: u8) -> Result<(), Refusal>
+        ensures { Adds (add_weight (net_of self.old) weight) result self.old self.new }
     {
         let m = self.index_count;
         if m >= Self::MAX_INDICES {
-            return refused_large(self);
+            return Err(Refusal::TooLarge);
         }
-        let mut next = self;
+        let mut next = *self;
         next.weights[m] = weight;
         next.index_count = m + 1;
-        settled(self, next)
+        self.settle(&next)
     }
 
-    // One leaf more, of the given indices.
-    pub fn add_leaf(self, leaf: &[u16]) -> Added
-        ensures { Adds self (add_leaf (net_of self) leaf.now) result }
+    /// One leaf more, of the given indices. It is refused as the network with it would be, and the record stays then.
+    pub fn add_leaf(&mut self, leaf: &[u16]) -> Result<(), Refusal>
+        ensures { Adds (add_leaf (net_of self.old) leaf.now) result self.old self.new }
     {
-        let m = self.index_count;
         let n = self.leaf_count;
-        let o = self.output_count;
-        if checks::too_large(m, n, o, &self.leg_counts) {
-            return refused_large(self);
+        if checks::is_too_large(self.index_count, n, self.output_count, &self.leg_counts) {
+            return Err(Refusal::TooLarge);
         }
         if n >= Self::MAX_LEAVES {
-            return refused_large(self);
+            return Err(Refusal::TooLarge);
         }
         if leaf.len() > Self::MAX_LEGS {
-            return refused_large(self);
+            return Err(Refusal::TooLarge);
         }
-        let mut legs = self.legs;
-        place16(&mut legs, n * Self::MAX_LEGS, leaf);
-        let mut next = self;
+        let mut next = *self;
         next.leg_counts[n] = leaf.len() as u8;
-        next.legs = legs;
+        cells::place(&mut next.legs, n * Self::MAX_LEGS, leaf);
         next.leaf_count = n + 1;
-        settled(self, next)
+        self.settle(&next)
     }
 
-    // One output more.
-    pub fn add_output(self, index: u16) -> Added
-        ensures { Adds self (add_output (net_of self) index) result }
+    /// One output more. It is refused as the network with it would be, and the record stays then.
+    pub fn add_output(&mut self, index: u16) -> Result<(), Refusal>
+        ensures { Adds (add_output (net_of self.old) index) result self.old self.new }
     {
         let o = self.output_count;
         if o >= Self::MAX_OUTPUTS {
-            return refused_large(self);
+            return Err(Refusal::TooLarge);
         }
-        let mut next = self;
+        let mut next = *self;
         next.outputs[o] = index;
         next.output_count = o + 1;
-        settled(self, next)
+        self.settle(&next)
     }
-}
 
-// Writes a list at a place, as far as there is room.
-fn place16(legs: &mut [u16], at: usize, leaf: &[u16])
-    ensures { legs.new ≡ placed legs.old at leaf.now }
-{
-    if at < legs.len() {
-        cells::copy16(&mut legs[at..], leaf, leaf.len());
-    }
-}
-
-// A count would be above its limit: the record stays.
-fn refused_large(network: Network) -> Added
-    ensures { (result.verdict ≡ Verdict.Refused 3) × (result.network ≡ network) }
-{
-    Added {
-        verdict: Verdict::Refused(refusal::TOO_LARGE),
-        network,
-    }
-}
-
-// The record `after`, if it is accepted; else the record `before`.
-fn settled(before: Network, after: Network) -> Added
-    ensures { Adds before (if_accepted (net_of after)) result }
-{
-    let k = number(after);
-    if k == refusal::NONE {
-        return Added {
-            verdict: Verdict::Accepted,
-            network: after,
-        };
-    }
-    Added {
-        verdict: Verdict::Refused(k),
-        network: before,
+    // Takes the record `next` over, if it is accepted.
+    fn settle(&mut self, next: &Network) -> Result<(), Refusal>
+        ensures { Adds (if_accepted (net_of next.now)) result self.old self.new }
+    {
+        next.check()?;
+        *self = *next;
+        Ok(())
     }
 }
 
@@ -158,27 +143,8 @@ fn settled(before: Network, after: Network) -> Added
 pub fn number(network: Network) -> u8
     ensures { result ≡ code_of (refusal_of (net_of network)) }
 {
-    let m = network.index_count;
-    let n = network.leaf_count;
-    let o = network.output_count;
-    checks::number(
-        m,
-        n,
-        o,
-        &network.weights,
-        &network.leg_counts,
-        &network.legs,
-        &network.outputs,
-    )
-}
-
-// The check by number of any record, whatever it holds.
-pub fn check(network: Network) -> Verdict
-    ensures { result ≡ verdict_of (refusal_of (net_of network)) }
-{
-    let k = number(network);
-    if k == refusal::NONE {
-        return Verdict::Accepted;
+    match network.check() {
+        Ok(()) => refusal::NONE,
+        Err(refused) => refused.number(),
     }
-    Verdict::Refused(k)
 }

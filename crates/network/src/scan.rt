@@ -7,28 +7,18 @@ ghost use Rattle.network.specs.Checks.{Row, Rows, leaves_of};
 
 use crate::Network;
 
-// Is a byte above the limit.
+/// Is a byte above the limit.
 pub fn above(bytes: &[u8], limit: u8) -> bool
     ensures { result ≡ anyb (λ k. ltb limit k) bytes.now }
 {
-    for i in 0..bytes.len() {
-        if limit < bytes[i] {
-            return true;
-        }
-    }
-    false
+    bytes.iter().any(|&k| limit < k)
 }
 
 // Is an index not below the index count m.
 pub(crate) fn out_of_range(row: &[u16], m: usize) -> bool
     ensures { result ≡ any_out_of_range m row.now }
 {
-    for i in 0..row.len() {
-        if m <= row[i] as usize {
-            return true;
-        }
-    }
-    false
+    row.iter().any(|&j| m <= usize::from(j))
 }
 
 // Does an index stand at two places. Both loops are left at the first repeat.
@@ -52,13 +42,14 @@ pub(crate) fn repeated(row: &[u16]) -> bool
     found
 }
 
-// The indices of leaf i.
+/// The indices of leaf `i`.
+#[inline]
 pub fn leaf<'a>(counts: &[u8], legs: &'a [u16], i: usize) -> &'a [u16]
     requires { Row counts.now legs.now i }
     ensures { result.now ≡ row_at counts.now legs.now i }
 {
     let at = i * Network::MAX_LEGS;
-    let end = at + counts[i] as usize;
+    let end = at + usize::from(counts[i]);
     &legs[at..end]
 }
 
@@ -67,6 +58,7 @@ pub(crate) fn leaves_out_of_range(n: usize, counts: &[u8], legs: &[u16], m: usiz
     requires { Rows n counts.now legs.now }
     ensures { result ≡ anyb (any_out_of_range m) (leaves_of n counts.now legs.now) }
 {
+    // by number: a leaf's number is what its row's place is made of
     for i in 0..n {
         if out_of_range(leaf(counts, legs, i), m) {
             return true;
@@ -80,6 +72,7 @@ pub(crate) fn leaves_repeated(n: usize, counts: &[u8], legs: &[u16]) -> bool
     requires { Rows n counts.now legs.now }
     ensures { result ≡ anyb repeats (leaves_of n counts.now legs.now) }
 {
+    // by number: a leaf's number is what its row's place is made of
     for i in 0..n {
         if repeated(leaf(counts, legs, i)) {
             return true;

@@ -1,12 +1,12 @@
 -- One node's children written into a flat list, and a node built over two. Assumes nothing.
-use Rattle.std.specs.Prelude.{cond, List, [], ◌∷◌, ◌≡◌, refl, ℕ, zero, suc, ◌+◌, ◌-◌, ◌*◌, ◌≤◌, ◌<◌, ltb, get_or, set}
+use Rattle.std.specs.Prelude.{cond, List, [], ◌∷◌, ◌≡◌, refl, ℕ, zero, suc, ◌+◌, ◌-◌, ◌*◌, ◌≤◌, ◌<◌, ltb, get_or, set, Option, None, Some}
 use Rattle.std.proofs.Math.Bool.{and-false}
-use Rattle.std.proofs.Common.{sym, ap, ap₂, ◌∙◌, suc-mul, arith, lt-ltb, le-ltb, ltb-false}
+use Rattle.std.proofs.Common.{sym, ap, ap₂, ◌∙◌, suc-mul, arith, lt-ltb, le-ltb}
 use Rattle.spec.specs.Tree.{Pair, pairs_of}
-use Rattle.laws.specs.Booleans.{by_cases}
 use Rattle.laws.specs.ArrayRebuild.{Wrote, write}
 use Rattle.frontier.specs.Opens.{freed}
 use Rattle.subset.specs.Regions.{is_split}
+use Rattle.rebuild.specs.declared.Freed.{Freed}
 
 abbrev pub pair : ℕ → ℕ → Pair
 pair l r = record { left = l; right = r }
@@ -18,6 +18,11 @@ with_pair a n v l r = set a (v - n) (pair l r)
 -- what was written: the flat list, the top, the freed numbers left
 unfoldable pub wrote : List ℕ → List ℕ → ℕ → ℕ → Wrote
 wrote kids opened top left = record { array = pairs_of kids; top = top; slots = freed opened left }
+
+-- what a number taken leaves
+abbrev pub IsTaken : Freed → Freed → Option ℕ → Type 0
+IsTaken old new None = (old.left ≡ 0) × (new.left ≡ 0)
+IsTaken old new (Some v) = (1 ≤ old.left) × (v ≡ get_or old.nodes.now (old.left - 1) 0) × (new.left ≡ old.left - 1) × (new.nodes.now ≡ old.nodes.now)
 
 -- ---- one node ----
 
@@ -42,29 +47,38 @@ put_is kids a b n v l r j ej ea eb =
 
 -- ---- a node over two ----
 
-pub join_none : (kids opened : List ℕ) (n l r left : ℕ) → left ≡ 0 → wrote kids opened 0 0 ≡ write n (pairs_of kids) l r (freed opened left)
+pub join_none : (kids : List ℕ) (old new : Freed) (n l r : ℕ) → IsTaken old new None
+    → wrote kids new.nodes.now 0 new.left ≡ write n (pairs_of kids) l r (freed old.nodes.now old.left)
 unfolding wrote freed
-join_none kids opened n l r left e = ap (λ x. write n (pairs_of kids) l r (freed opened x)) (sym e)
+join_none kids old new n l r h =
+    ap (λ x. record { array = pairs_of kids; top = 0; slots = freed new.nodes.now x }) h.1 ∙ ap (λ x. write n (pairs_of kids) l r (freed old.nodes.now x)) (sym h.0)
 
-pub join_some : (kids opened b : List ℕ) (n l r left v : ℕ) → (left ≡ 0 → ⊥) → v ≡ get_or opened (left - 1) 0 → pairs_of b ≡ with_pair (pairs_of kids) n v l r
-    → wrote b opened v (left - 1) ≡ write n (pairs_of kids) l r (freed opened left)
+pub join_some : (kids b : List ℕ) (old new : Freed) (n l r v : ℕ) → IsTaken old new (Some v) → pairs_of b ≡ with_pair (pairs_of kids) n v l r
+    → wrote b new.nodes.now v new.left ≡ write n (pairs_of kids) l r (freed old.nodes.now old.left)
 unfolding wrote freed with_pair
-join_some kids opened b n l r left v f ev eb =
-    let z : left ≡ suc (left - 1) = omega (arith, f) in
-    let now : write n (pairs_of kids) l r (freed opened left) ≡ write n (pairs_of kids) l r (get_or opened (left - 1) 0 ∷ freed opened (left - 1)) =
-    ap (λ x. write n (pairs_of kids) l r (freed opened x)) z in
-    (λ i. record { array = eb i; top = v; slots = freed opened (left - 1) })
-    ∙ ap (λ x. write n (pairs_of kids) l r (x ∷ freed opened (left - 1))) ev
+join_some kids b old new n l r v h eb =
+    let z : old.left ≡ suc (old.left - 1) = omega (arith, h.0) in
+    let now : write n (pairs_of kids) l r (freed old.nodes.now old.left) ≡ write n (pairs_of kids) l r (get_or old.nodes.now (old.left - 1) 0 ∷ freed old.nodes.now (old.left - 1)) =
+    ap (λ x. write n (pairs_of kids) l r (freed old.nodes.now x)) z in
+    (λ i. record { array = eb i; top = v; slots = freed (h.3 i) (h.2 i) })
+    ∙ ap (λ x. write n (pairs_of kids) l r (x ∷ freed old.nodes.now (old.left - 1))) h.1
     ∙ sym now
 
 -- ---- the part of a mask ----
 
-module _ (split : ℕ → ℕ) (s x : ℕ) (e : x ≡ split s) where
-  pub part_less : x < s → x ≡ cond (is_split split s) (split s) 0
-  part_less h =
-      by_cases (ltb 0 (split s))
-      (λ z. rw (z, lt-ltb (split s) s (omega arith)) e)
-      (λ z. rw z (omega (arith, ltb-false 0 (split s) z)))
+-- its split, if it is proper
+unfoldable pub part_of : (ℕ → ℕ) → ℕ → Option ℕ
+part_of split s = cond (is_split split s) (Some (split s)) None
 
-  pub part_not : s ≤ x → 0 ≡ cond (is_split split s) (split s) 0
-  part_not h = rw (le-ltb (split s) s (omega arith), and-false)
+module _ (split : ℕ → ℕ) (s x : ℕ) (e : x ≡ split s) where
+  pub part_some : (x ≡ 0 → ⊥) → x < s → Some x ≡ part_of split s
+  unfolding part_of
+  part_some f h = rw (lt-ltb 0 (split s) (omega (arith, f)), lt-ltb (split s) s (omega arith)) (ap Some e)
+
+  pub part_zero : x ≡ 0 → None ≡ part_of split s
+  unfolding part_of
+  part_zero z = rw (le-ltb 0 (split s) (omega arith))
+
+  pub part_whole : s ≤ x → None ≡ part_of split s
+  unfolding part_of
+  part_whole h = rw (le-ltb (split s) s (omega arith), and-false (ltb 0 (split s)))

@@ -1,15 +1,15 @@
 #![tactic(auto)]
-// The rebuild after a search: whether it happens, and the nodes that it writes.
-ghost use Rattle.std.specs.Prelude.{◌≡◌, cond, ◌^◌, ◌<◌, ◌≤◌};
+//! The rebuild after a search: whether it happens, and the nodes that it writes.
+ghost use Rattle.std.specs.Prelude.{◌≡◌, ◌+◌, ◌^◌, ◌<◌, ◌≤◌, MatchOption, length};
 ghost use Rattle.spec.specs.Undercut.{undercuts};
 ghost use Rattle.spec.specs.Tree.{pairs_of};
 ghost use Rattle.laws.specs.ArrayRebuild.{write, build_array};
 ghost use Rattle.frontier.specs.Opens.{freed};
 ghost use Rattle.subset.specs.Walk.{split_at};
-ghost use Rattle.subset.specs.Regions.{is_split, region_of};
-ghost use Rattle.rebuild.specs.Writes.{with_pair, wrote};
+ghost use Rattle.subset.specs.Regions.{region_of};
+ghost use Rattle.rebuild.specs.Writes.{with_pair, wrote, IsTaken, part_of};
 
-// Is `best`, as f64, below `old` × (1 − 1e-9) in f64.
+/// Is `best`, as f64, below `old` × (1 − 1e-9) in f64.
 pub fn undercuts(best: u64, old: u64) -> bool
     requires { (best < 2 ^ 53) × (old < 2 ^ 53) }
     ensures { result ≡ undercuts best old }
@@ -21,71 +21,85 @@ pub fn undercuts(best: u64, old: u64) -> bool
 fn put_node(kids: &mut [u16], n: usize, v: u16, left: u16, right: u16)
     ensures { pairs_of kids.new ≡ with_pair (pairs_of kids.old) n v left right }
 {
-    let at = cells::less(v as usize, n) * 2;
-    cells::put16(kids, at, left);
-    cells::put16(kids, at + 1, right);
+    let at = usize::from(v).saturating_sub(n) * 2;
+    cells::put(kids, at, left);
+    cells::put(kids, at + 1, right);
 }
 
-// The top of what was built, and how many freed numbers are left.
-#[derive(Clone, Copy)]
-pub struct Built {
-    pub top: u16,
-    pub left: usize,
-}
-
-// A node over two that are built: it takes the last of the first `left` freed numbers.
-fn join_node(
-    opened: &[u16],
+/// The freed nodes' numbers that are left to take: the first `left` of a list, the last of these first.
+#[derive(Drop)]
+pub struct Freed<'a> {
+    nodes: &'a [u16],
     left: usize,
-    kids: &mut [u16],
-    n: usize,
-    first: u16,
-    second: u16,
-) -> Built
-    ensures { wrote kids.new opened.now result.top result.left ≡ write n (pairs_of kids.old) first second (freed opened.now left) }
-{
-    if left == 0 {
-        return Built { top: 0, left: 0 };
+}
+
+impl<'a> Freed<'a> {
+    /// All numbers of a list.
+    pub fn of(nodes: &'a [u16]) -> Freed<'a>
+        ensures nodes { result.nodes.now ≡ nodes.now }
+        ensures left { result.left ≡ length nodes.now }
+    {
+        Freed {
+            nodes,
+            left: nodes.len(),
+        }
     }
-    let v = cells::get16(opened, left - 1);
-    put_node(kids, n, v, first, second);
-    Built {
-        top: v,
-        left: left - 1,
+
+    /// Takes a number, if one is left.
+    pub fn take(&mut self) -> Option<u16>
+        ensures { IsTaken self.old self.new result }
+    {
+        if self.left == 0 {
+            return None;
+        }
+        self.left -= 1;
+        Some(cells::get_or(self.nodes, self.left, 0))
     }
 }
 
-// The part of the mask `s` by its split, or 0 if it is not split.
-fn part_of(words: &[u64], masks: usize, s: usize) -> usize
-    requires { (masks ≤ 4096) × (s < 4096) }
-    ensures { result ≡ cond (is_split (split_at words.now masks) s) (split_at words.now masks s) 0 }
+// A node over two that are built: it takes a freed number.
+fn join_node(free: &mut Freed, kids: &mut [u16], n: usize, first: u16, second: u16) -> u16
+    ensures { wrote kids.new free.new.nodes.now result free.new.left ≡ write n (pairs_of kids.old) first second (freed free.old.nodes.now free.old.left) }
 {
-    let l = cells::get64(words, masks + s) as usize;
-    if l < s { l } else { 0 }
+    match free.take() {
+        Some(v) => {
+            put_node(kids, n, v, first, second);
+            v
+        }
+        None => 0,
+    }
 }
 
-// Builds the tree over the members of the mask `s` that the table of splits describes: its left part first, then its right part, then the node over both. It
-// falls with the mask.
+// The part of the mask `s`, if it is split.
+fn part_of(part: &[u64], s: usize) -> Option<usize>
+    ensures { result ≡ part_of (split_at part.now) s }
+{
+    let l = cells::get_or(part, s, 0) as usize;
+    if l == 0 {
+        return None;
+    }
+    if l < s { Some(l) } else { None }
+}
+
+/// Builds the tree over the members of the mask `s` that the list of parts describes, and returns its number: its left part first, then its right part,
+/// then the node over both. It falls with the mask.
 pub fn build(
-    words: &[u64],
-    masks: usize,
+    part: &[u64],
     s: usize,
     members: &[u16],
-    opened: &[u16],
-    left: usize,
+    free: &mut Freed,
     kids: &mut [u16],
     n: usize,
-) -> Built
-    requires { (masks ≤ 4096) × (1 ≤ s) × (s < 4096) }
-    ensures { wrote kids.new opened.now result.top result.left ≡ build_array n members.now (region_of (split_at words.now masks) s) (freed opened.now left) (pairs_of kids.old) }
+) -> u16
+    requires { 1 ≤ s }
+    ensures { wrote kids.new free.new.nodes.now result free.new.left ≡ build_array n members.now (region_of (split_at part.now) s) (freed free.old.nodes.now free.old.left) (pairs_of kids.old) }
 {
-    let part = part_of(words, masks, s);
-    if part == 0 {
-        let top = cells::get16(members, bits::low(s as u64));
-        return Built { top, left };
+    match part_of(part, s) {
+        None => cells::get_or(members, bits::low(s as u64), 0),
+        Some(l) => {
+            let first = build(part, l, members, free, kids, n);
+            let second = build(part, s - l, members, free, kids, n);
+            join_node(free, kids, n, first, second)
+        }
     }
-    let first = build(words, masks, part, members, opened, left, kids, n);
-    let rest = first.left;
-    let second = build(words, masks, s - part, members, opened, rest, kids, n);
-    join_node(opened, second.left, kids, n, first.top, second.top)
 }

@@ -1,16 +1,17 @@
 -- The members of a slot, rising: word by word, and in a word from its lowest set digit to the next. Assumes nothing.
 use Rattle.std.specs.Prelude.{Bool, true, false, cond, ◌≡◌, refl, List, [], ◌∷◌, ◌++◌, ℕ, zero, suc, ◌+◌, ◌-◌, ◌*◌, ◌/◌, ◌^◌, ◌≤◌, ◌<◌, get_or, set, take}
-use Rattle.std.proofs.Common.{sym, ◌∙◌, ap₂, arith, suc-mul, add-one, length-append}
+use Rattle.std.proofs.Common.{sym, ◌∙◌, ap₂, subst, arith, suc-mul, add-one, length-append}
 use Rattle.std.proofs.Math.Path.{ap}
-use Rattle.std.specs.Int.Bits.{bit_and}
-use Rattle.std.specs.Int.Count.{count_trailing_zeros, ones}
+use Rattle.std.specs.Int.Count.{ones}
 use Rattle.std.proofs.lemmas.Nat.{ones-le}
 use Rattle.std.proofs.Math.ListN.{length}
 use Rattle.std.proofs.lemmas.List.Edits.{sets}
 use Rattle.std.proofs.Math.Seq.{length-sets}
 use Rattle.spec.specs.Lists.{memb, keep, from, range}
+use Rattle.spec.specs.Members.{All}
 use Rattle.laws.specs.ListLaws.{keep_ext, memb-keep-range, kept_few}
-use Rattle.bits.specs.Lowest.{Tests, places, places_step, places_none, places_ones, keep-places}
+use Rattle.bits.specs.Digits.{digit}
+use Rattle.bits.specs.Lowest.{Tests, places, places_ones, keep-places}
 use Rattle.cells.specs.Cells.{take-sets}
 use Rattle.slots.specs.Slots.{held, with_set, held-digit, held_with}
 
@@ -85,27 +86,37 @@ sets-append l i [] b = ap (λ (n : ℕ). sets l n b) (omega arith)
 sets-append l i (x ∷ a) b =
     sets-append (set l i x) (suc i) a b ∙ ap (λ (n : ℕ). sets (sets (set l i x) (suc i) a) n b) (omega arith)
 
+-- the members of a word from `base` on are below `base` + 64
+picked_below : (n : ℕ) (c : Bool) (j : ℕ) (l : List ℕ) → j < n → All (λ k. k < n) l → All (λ k. k < n) (cond c (j ∷ l) l)
+picked_below n true j l h a = (h, a)
+picked_below n false j l h a = a
+
+kept_below : (p : ℕ → Bool) (b k n : ℕ) → b + k ≤ n → All (λ j. j < n) (keep p (from b k))
+kept_below p b zero n h = tt
+kept_below p b (suc k) n h = picked_below n (p b) b (keep p (from (suc b) k)) (omega arith) (kept_below p (suc b) k n (omega arith))
+
+pub places_below : (b x n : ℕ) → b + 64 ≤ n → All (λ j. j < n) (places b 64 x)
+unfolding places
+places_below b x n h = kept_below (λ j. digit x (j - b)) b 64 n h
+
+-- where a list is a first number and a rest
+pub first_below : (n : ℕ) (l : List ℕ) (i : ℕ) (m : List ℕ) → l ≡ i ∷ m → All (λ j. j < n) l → (i < n) × All (λ j. j < n) m
+first_below n l i m e a = subst (λ (k : List ℕ). All (λ j. j < n) k) e a
+
 module _ (out₀ : List ℕ) (at base x : ℕ) where
   -- what is still to be put, from place n on, leads to all of the word's members
-  abbrev pub Putting : List ℕ → ℕ → ℕ → Type 0
-  Putting out n rest =
-      (sets out n (places base 64 rest) ≡ sets out₀ at (places base 64 x)) × (n + length (places base 64 rest) ≡ at + length (places base 64 x))
+  abbrev pub Putting : List ℕ → ℕ → List ℕ → Type 0
+  Putting out n rest = (sets out n rest ≡ sets out₀ at (places base 64 x)) × (n + length rest ≡ at + length (places base 64 x))
 
-  pub put_next : (out r : List ℕ) (n rest t : ℕ) → 0 < rest → rest < 2 ^ 64 → t ≡ count_trailing_zeros 64 rest → r ≡ set out n (base + t)
-      → Putting out n rest → Putting r (n + 1) (bit_and rest (rest - 1))
-  put_next out r n rest t pos lt e f h =
-      let z : places base 64 rest ≡ (base + t) ∷ places base 64 (bit_and rest (rest - 1)) =
-      rw e (places_step base 64 rest pos lt) in
-      (rw (f, add-one n) (sym (ap (sets out n) z) ∙ h.0), omega (arith, h.1, ap length z))
+  pub put_next : (out r : List ℕ) (n i : ℕ) (rest m : List ℕ) → rest ≡ i ∷ m → r ≡ set out n i → Putting out n rest → Putting r (n + 1) m
+  put_next out r n i rest m e f h = (rw (f, add-one n) (sym (ap (sets out n) e) ∙ h.0), omega (arith, h.1, ap length e))
 
-  pub put_most : (out : List ℕ) (n rest : ℕ) → x < 2 ^ 64 → Putting out n rest → n ≤ at + 64
+  pub put_most : (out : List ℕ) (n : ℕ) (rest : List ℕ) → x < 2 ^ 64 → Putting out n rest → n ≤ at + 64
   put_most out n rest b h = omega (arith, h.1, places_ones base 64 x b, ones-le 64 x b)
 
-  pub put_end : (out : List ℕ) (n rest : ℕ) → x < 2 ^ 64 → rest ≡ 0 → Putting out n rest
+  pub put_end : (out : List ℕ) (n : ℕ) (rest : List ℕ) → x < 2 ^ 64 → rest ≡ [] → Putting out n rest
       → (n ≡ at + length (places base 64 x)) × (n ≤ at + 64) × (out ≡ sets out₀ at (places base 64 x))
-  put_end out n rest b e h =
-      let z : places base 64 rest ≡ [] = rw e (places_none base 64) in
-      (omega (arith, h.1, ap length z), put_most out n rest b h, sym (ap (sets out n) z) ∙ h.0)
+  put_end out n rest b e h = (omega (arith, h.1, ap length e), put_most out n rest b h, sym (ap (sets out n) e) ∙ h.0)
 
 -- ---- a slot's ----
 

@@ -1,17 +1,18 @@
 -- What is found for one mask, case by case. Assumes nothing.
-use Rattle.std.specs.Prelude.{true, false, ◌≡◌, ℕ, ◌+◌, ◌-◌, ◌*◌, ◌%◌, ◌^◌, ◌≤◌, ◌<◌, ltb}
+use Rattle.std.specs.Prelude.{true, false, ◌≡◌, ℕ, ◌+◌, ◌-◌, ◌*◌, ◌%◌, ◌^◌, ◌≤◌, ◌<◌, ltb, Option}
 use Rattle.std.proofs.Math.Bool.{and-false}
 use Rattle.std.proofs.Common.{ap, ◌∙◌, arith}
 use Rattle.std.specs.Int.Bits.{bit_and}
 use Rattle.std.specs.Int.Count.{ones}
 use Rattle.std.proofs.lemmas.Nat.{ones-le}
 use borrow.Author.Tests.{eq-eqb, ne_eqb, lt-ltb, le-ltb}
+use Rattle.spec.specs.Improve.{over_limit}
 use Rattle.bits.specs.Bit.{one_shl}
 use Rattle.subset.specs.Walk.{infinite, cheapest_of, passed_over, entry_of}
 use Rattle.subset.specs.declared.Choice.{Choice}
 use Rattle.subset.specs.declared.Entry.{Entry}
 
-module _ (best : ℕ → ℕ) (work : ℕ → ℕ → ℕ) (n limit s : ℕ) where
+module _ (best : ℕ → ℕ) (work : ℕ → ℕ → ℕ) (n : ℕ) (limit : Option ℕ) (s : ℕ) where
   pub entry_single : bit_and s (s - 1) ≡ 0 → ◌≡◌ {A = Entry} (record { cost = 0; part = 0; tried = 0 }) (entry_of best work n limit s)
   unfolding entry_of
   entry_single h = rw (eq-eqb (bit_and s (s - 1)) 0 h)
@@ -27,13 +28,13 @@ module _ (best : ℕ → ℕ) (work : ℕ → ℕ → ℕ) (n limit s : ℕ) whe
   unfolding entry_of
   entry_searched h k c t e f = rw (ne_eqb (bit_and s (s - 1)) 0 h, k) (λ i. record { cost = (e i).cost; part = (e i).part; tried = f i })
 
-  pub over : s + 1 < n → limit < work s s → passed_over best work n limit s ≡ true
+  pub over : s + 1 < n → over_limit (work s s) limit ≡ true → passed_over best work n limit s ≡ true
   unfolding passed_over
-  over h k = rw (lt-ltb (s + 1) n h, lt-ltb limit (work s s) k)
+  over h k = rw (lt-ltb (s + 1) n h, k)
 
-  pub within : work s s ≤ limit → passed_over best work n limit s ≡ false
+  pub within : over_limit (work s s) limit ≡ false → passed_over best work n limit s ≡ false
   unfolding passed_over
-  within k = rw (le-ltb limit (work s s) k) (and-false (ltb (s + 1) n))
+  within k = rw k (and-false (ltb (s + 1) n))
 
   pub full : n ≤ s + 1 → passed_over best work n limit s ≡ false
   unfolding passed_over

@@ -1,5 +1,5 @@
 -- What is found for a mask hangs on smaller masks alone; so the tables are filled from the lowest mask up. Assumes nothing.
-use Rattle.std.specs.Prelude.{◌||◌, List, [], ◌∷◌, ◌≡◌, refl, ℕ, ◌+◌, ◌-◌, ◌*◌, ◌/◌, ◌%◌, ◌≤◌, ◌<◌, eqb, length, get_or, set, drop}
+use Rattle.std.specs.Prelude.{◌||◌, List, [], ◌∷◌, ◌≡◌, refl, ℕ, ◌+◌, ◌-◌, ◌*◌, ◌/◌, ◌%◌, ◌≤◌, ◌<◌, eqb, length, get_or, set, drop, Option}
 use Rattle.std.proofs.Common.{sym, ap, ap₂, ◌∙◌, add-one, arith, length-set, get_or-set_same, get_or-set_other, eqb-true}
 use Rattle.std.proofs.Math.Path.{subst, fun_ext}
 use Rattle.std.specs.Int.Bits.{bit_and, and_le_r}
@@ -8,10 +8,6 @@ use Rattle.std.proofs.Math.Pow.{pow_mono}
 use Rattle.std.proofs.lemmas.Bool.{eqb-false}
 use Rattle.laws.specs.Booleans.{by_cases}
 use Rattle.laws.specs.Masks.{Down, Under, down_under, submasks_first, submasks_down}
-use Rattle.bits.specs.Digits.{digit}
-use Rattle.slots.specs.Slots.{held}
-use Rattle.slots.specs.Weigh.{weighed_ext}
-use Rattle.masks.specs.Tables.{work_at, Tables}
 use Rattle.masks.specs.Singles.{own_bits}
 use Rattle.subset.specs.Walk.{
   infinite,
@@ -52,7 +48,7 @@ module _ (B C : ℕ → ℕ) (work : ℕ → ℕ → ℕ) (s : ℕ) (agree : (l 
       subst (λ x. scan_masks B work low rest (record { cost = infinite; part = 0 }) (drop 1 x) ≡ scan_masks C work low rest (record { cost = infinite; part = 0 }) (drop 1 x))
       (sym e) (scan_same low rest h k (record { cost = infinite; part = 0 }) l (down_under rest rest l d))
 
-  pub entry_same : (n limit : ℕ) → 1 ≤ s → s < n → entry_of B work n limit s ≡ entry_of C work n limit s
+  pub entry_same : (n : ℕ) (limit : Option ℕ) → 1 ≤ s → s < n → entry_of B work n limit s ≡ entry_of C work n limit s
   unfolding entry_of passed_over
   entry_same n limit a b =
       let le : bit_and s (s - 1) ≤ s - 1 = and_le_r s (s - 1) in
@@ -64,7 +60,7 @@ pub sum_next : (f : ℕ → ℕ) (n : ℕ) → sum_below f (n + 1) ≡ sum_below
 unfolding sum_below
 sum_next f n = ap (sum_below f) (add-one n)
 
-module _ (best : ℕ → ℕ) (work : ℕ → ℕ → ℕ) (n limit : ℕ) where
+module _ (best : ℕ → ℕ) (work : ℕ → ℕ → ℕ) (n : ℕ) (limit : Option ℕ) where
   pub entry_tried : (s : ℕ) → (entry_of best work n limit s).tried ≡ tried_of best work n limit s
   unfolding entry_of tried_of
   entry_tried s =
@@ -84,19 +80,19 @@ module _ (best : ℕ → ℕ) (work : ℕ → ℕ → ℕ) (n limit : ℕ) where
   found_few s e h b = omega (arith, ap (λ (x : Entry). x.tried) h, entry_tried s, few_tried s b)
 
 -- the masks' counts do not hang on the table of costs
-tried_same : (B C : ℕ → ℕ) (work : ℕ → ℕ → ℕ) (n limit : ℕ) → tried_of B work n limit ≡ tried_of C work n limit
+tried_same : (B C : ℕ → ℕ) (work : ℕ → ℕ → ℕ) (n : ℕ) (limit : Option ℕ) → tried_of B work n limit ≡ tried_of C work n limit
 unfolding tried_of passed_over
 tried_same B C work n limit = refl
 
 -- ---- filling ----
 
-pub fill_start : (B S : ℕ → ℕ) (work : ℕ → ℕ → ℕ) (n limit : ℕ) → Filled B S work n limit 1 0
+pub fill_start : (B S : ℕ → ℕ) (work : ℕ → ℕ → ℕ) (n : ℕ) (limit : Option ℕ) → Filled B S work n limit 1 0
 unfolding sum_below tried_of
 fill_start B S work n limit =
     record { costs = λ s a b. absurd (omega arith); parts = λ s a b. absurd (omega arith); count = refl }
 
 -- one mask more: the new tables differ from the old at s alone
-module _ (B S B' S' : ℕ → ℕ) (work : ℕ → ℕ → ℕ) (n limit s tried : ℕ) (e : Entry) (some : 1 ≤ s) (less : s < n) (same : (l : ℕ) → l < s → B' l ≡ B l)
+module _ (B S B' S' : ℕ → ℕ) (work : ℕ → ℕ → ℕ) (n : ℕ) (limit : Option ℕ) (s tried : ℕ) (e : Entry) (some : 1 ≤ s) (less : s < n) (same : (l : ℕ) → l < s → B' l ≡ B l)
     (parted : (l : ℕ) → l < s → S' l ≡ S l) (found : e ≡ entry_of B work n limit s)
   where
     at : (i : ℕ) → 1 ≤ i → i ≤ s → entry_of B work n limit i ≡ entry_of B' work n limit i
@@ -128,63 +124,18 @@ module _ (B S B' S' : ℕ → ℕ) (work : ℕ → ℕ → ℕ) (n limit s tried
               );
         }
 
--- ---- in one list of words ----
+-- ---- in lists of words ----
 
--- the sets of the masks, and their bits, are the same
-pub record SameSets (was ws : List ℕ) (n : ℕ) : Type 0 where
-  pub long : length ws ≡ length was
-  pub words : (i : ℕ) → 2 * n ≤ i → get_or ws i 0 ≡ get_or was i 0
-
-pub same_self : (ws : List ℕ) (n : ℕ) → SameSets ws ws n
-same_self ws n = record { long = refl; words = λ i h. refl }
-
-pub work_same : (was ws wt : List ℕ) (n : ℕ) → SameSets was ws n → work_at ws wt n ≡ work_at was wt n
-unfolding work_at held
-work_same was ws wt n h =
-    fun_ext λ l. fun_ext λ r. weighed_ext wt [] _ _ 128 (λ j b. ap₂ (λ x y. x || y) (one l j) (one r j))
+module _ (cost part : List ℕ) (work : ℕ → ℕ → ℕ) (n : ℕ) (limit : Option ℕ) (s tried : ℕ) (e : Entry)
+    (long : length cost ≡ n) (long_part : length part ≡ n) (some : 1 ≤ s) (less : s < n)
   where
-    one : (s j : ℕ) → held ws 2 (2 * n + s) j ≡ held was 2 (2 * n + s) j
-    one s j = ap (λ x. digit x (j % 64)) (h.words ((2 * n + s) * 2 + j / 64) (omega arith))
-
-pub tables_same : (was ws wt : List ℕ) (n : ℕ) → SameSets was ws n → Tables was wt n → Tables ws wt n
-tables_same was ws wt n h t =
-    record {
-      few = t.few;
-      room = omega (arith, t.room, h.long);
-      weights = t.weights;
-      light = t.light;
-      sized = λ s a b. h.words (6 * n + s) (omega arith) ∙ t.sized s a b ∙ sym (ap (λ w. w s s) (work_same was ws wt n h));
-    }
-
--- the list after the entry of the mask s is written
-module _ (was ws wt : List ℕ) (n limit s tried : ℕ) (e : Entry) (same : SameSets was ws n) (t : Tables was wt n) (some : 1 ≤ s) (less : s < n) where
-  abbrev pub next : List ℕ
-  next = set (set ws s e.cost) (n + s) e.part
-
-  pub next_same : SameSets was next n
-  next_same =
-      record {
-        long = length-set (set ws s e.cost) (n + s) _ ∙ length-set ws s _ ∙ same.long;
-        words = λ i h.
-            get_or-set_other (set ws s e.cost) (n + s) i e.part 0 (λ q. omega arith) ∙ get_or-set_other ws s i e.cost 0 (λ q. omega arith)
-            ∙ same.words i h;
-      }
-
-  at_cost : best_at next s ≡ e.cost
-  at_cost =
-      get_or-set_other (set ws s e.cost) (n + s) s e.part 0 (λ q. omega arith)
-      ∙ get_or-set_same ws s e.cost 0 (omega (arith, t.room, same.long))
-
-  at_part : split_at next n s ≡ e.part
-  at_part = get_or-set_same (set ws s e.cost) (n + s) e.part 0 (simp length-set (omega (arith, t.room, same.long)))
-
-  pub fill_next : e ≡ entry_of (best_at ws) (work_at ws wt n) n limit s → Filled (best_at ws) (split_at ws n) (work_at was wt n) n limit s tried
-      → Filled (best_at next) (split_at next n) (work_at was wt n) n limit (s + 1) (tried + e.tried)
+  pub fill_next : e ≡ entry_of (best_at cost) work n limit s → Filled (best_at cost) (split_at part) work n limit s tried
+      → Filled (best_at (set cost s e.cost)) (split_at (set part s e.part)) work n limit (s + 1) (tried + e.tried)
   fill_next h f =
-      fill_step (best_at ws) (split_at ws n) (best_at next) (split_at next n) (work_at was wt n) n limit s tried e some less
-      (λ l b. get_or-set_other (set ws s e.cost) (n + s) l e.part 0 (λ q. omega arith) ∙ get_or-set_other ws s l e.cost 0 (λ q. omega arith))
-      (λ l b. get_or-set_other (set ws s e.cost) (n + s) (n + l) e.part 0 (λ q. omega arith) ∙ get_or-set_other ws s (n + l) e.cost 0 (λ q. omega arith))
-      (h ∙ ap (λ w. entry_of (best_at ws) w n limit s) (work_same was ws wt n same)) at_cost at_part f
+      fill_step (best_at cost) (split_at part) (best_at (set cost s e.cost)) (split_at (set part s e.part)) work n limit s tried e some less
+      (λ l b. get_or-set_other cost s l e.cost 0 (λ q. omega arith))
+      (λ l b. get_or-set_other part s l e.part 0 (λ q. omega arith))
+      h (get_or-set_same cost s e.cost 0 (omega arith)) (get_or-set_same part s e.part 0 (omega arith)) f
 
-pub fill_end : (B S : ℕ → ℕ) (work : ℕ → ℕ → ℕ) (n limit s tried : ℕ) → s ≡ n → Filled B S work n limit s tried → Filled B S work n limit n tried
+pub fill_end : (B S : ℕ → ℕ) (work : ℕ → ℕ → ℕ) (n : ℕ) (limit : Option ℕ) (s tried : ℕ) → s ≡ n → Filled B S work n limit s tried → Filled B S work n limit n tried
 fill_end B S work n limit s tried e f = subst (λ x. Filled B S work n limit x tried) e f

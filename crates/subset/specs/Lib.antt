@@ -9,5 +9,6 @@ pub mod Stands
 pub mod Whole
 pub mod Counts
 pub mod Sets
+pub mod Rooms
 pub mod Search
 pub mod Searched

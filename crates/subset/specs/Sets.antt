@@ -16,7 +16,7 @@ use Rattle.laws.specs.Masks.{places_from}
 use Rattle.bits.specs.Bit.{bit-zero, bit-suc}
 use Rattle.bits.specs.Digits.{digit, zero_digits}
 use Rattle.bits.specs.Lowest.{places, places_ones}
-use Rattle.slots.specs.Slots.{held}
+use Rattle.masks.specs.Rows.{row_has, has_at}
 use Rattle.masks.specs.Tables.{member_has, root_has, keeps_in, United}
 use Rattle.masks.specs.Singles.{own_bits, no_bits, both_places, same_places}
 
@@ -85,25 +85,24 @@ module _ (n m : ℕ) (masks : n ≡ 2 ^ m) where
 
   -- ---- what a mask keeps ----
 
-  module _ (was ws : List ℕ) (u : United was ws n n) (weigh : (ℕ → Bool) → ℕ) (limit : Option ℕ) where
+  module _ (was rows : List (List ℕ)) (u : United was rows n n) (weigh : (ℕ → Bool) → ℕ) (limit : Option ℕ) where
     -- the members outside, or for the full mask the root once more
     outside : (s j : ℕ) → s < n → j < 128
-        → (root_has was n j || held ws 2 (n + (n - 1 - s)) j) ≡ (root_has was n j || anyb (λ p. member_has was n p j) (other_members m (places_from 0 n s)))
+        → (root_has was j || has_at rows (n - 1 - s) j) ≡ (root_has was j || anyb (λ p. member_has was p j) (other_members m (places_from 0 n s)))
     outside s j b h =
         elim (ℕ_discrete (n - 1 - s) 0) [
-          | yes e ↦ (let z : n + (n - 1 - s) ≡ n = omega arith in
-              ap (λ x. root_has was n j || held ws 2 x j) z
-              ∙ ap (λ x. root_has was n j || x) (u.root j h)
-              ∙ or_self (root_has was n j)
+          | yes e ↦ (ap (λ x. root_has was j || has_at rows x j) e
+              ∙ ap (λ r. root_has was j || row_has r j) u.root
+              ∙ or_self (root_has was j)
               ∙ sym
-              (ap (λ l. root_has was n j || anyb (λ p. member_has was n p j) l) (other_places s b ∙ ap (places_from 0 n) e ∙ no_bits 0 n)
-              ∙ or-false (root_has was n j)))
-          | no f ↦ ap (λ x. root_has was n j || x)
-              (u.done (n - 1 - s) j (omega (arith, f)) (omega arith) h ∙ ap (anyb (λ p. member_has was n p j)) (sym (other_places s b)))
+              (ap (λ l. root_has was j || anyb (λ p. member_has was p j) l) (other_places s b ∙ ap (places_from 0 n) e ∙ no_bits 0 n)
+              ∙ or-false (root_has was j)))
+          | no f ↦ ap (λ x. root_has was j || x)
+              (u.done (n - 1 - s) j (omega (arith, f)) (omega arith) h ∙ ap (anyb (λ p. member_has was p j)) (sym (other_places s b)))
         ]
 
     pub keeps_is : (s j : ℕ) → 1 ≤ s → s < n → j < 128
-        → keeps_in ws n s j ≡ keeps m (member_has was n) (root_has was n) weigh limit (places_from 0 n s) j
+        → keeps_in rows n s j ≡ keeps m (member_has was) (root_has was) weigh limit (places_from 0 n s) j
     unfolding keeps_in keeps
     keeps_is s j a b h =
-        ap₂ (λ x y. x && y) (u.done s j a b h) (ap (λ x. x || held ws 2 (n + (n - 1 - s)) j) (u.root j h) ∙ outside s j b h)
+        ap₂ (λ x y. x && y) (u.done s j a b h) (ap (λ r. row_has r j || has_at rows (n - 1 - s) j) u.root ∙ outside s j b h)

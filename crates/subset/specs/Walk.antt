@@ -1,8 +1,9 @@
--- The walk over the splits of one mask, on tables of costs and work bits, and where those tables stand in a list of words. Definitions only.
+-- The walk over the splits of one mask, on tables of costs and work bits, and where those tables stand in lists of words. Definitions only.
 -- Assumes nothing.
-use Rattle.std.specs.Prelude.{Bool, ◌&&◌, cond, List, [], ◌∷◌, ◌≡◌, ℕ, zero, suc, ◌+◌, ◌-◌, ◌^◌, ◌≤◌, ◌<◌, eqb, ltb, get_or, drop}
+use Rattle.std.specs.Prelude.{Bool, ◌&&◌, cond, List, [], ◌∷◌, ◌≡◌, ℕ, zero, suc, ◌+◌, ◌-◌, ◌^◌, ◌≤◌, ◌<◌, eqb, ltb, get_or, drop, Option, None, Some}
 use Rattle.std.specs.Int.Bits.{bit_and}
 use Rattle.std.specs.Int.Count.{ones}
+use Rattle.spec.specs.Improve.{over_limit}
 use Rattle.laws.specs.Masks.{submasks}
 use Rattle.subset.specs.declared.Choice.{Choice}
 use Rattle.subset.specs.declared.Entry.{Entry}
@@ -11,9 +12,13 @@ use Rattle.subset.specs.declared.Entry.{Entry}
 abbrev pub infinite : ℕ
 infinite = 9007199254740992
 
--- 2 to the power e if that is below `room`, else 0
-unfoldable pub step_cost : ℕ → ℕ → ℕ
-step_cost e room = cond (ltb (2 ^ e) room) (2 ^ e) 0
+-- a cost of the table, if it is below 2^53
+unfoldable pub finite : ℕ → Option ℕ
+finite cost = cond (ltb cost infinite) (Some cost) None
+
+-- 2 to the power e if that is below `room`
+unfoldable pub step_cost : ℕ → ℕ → Option ℕ
+step_cost e room = cond (ltb (2 ^ e) room) (Some (2 ^ e)) None
 
 -- ---- the walk ----
 
@@ -34,10 +39,10 @@ module _ (best : ℕ → ℕ) (work : ℕ → ℕ → ℕ) where
   cheapest_of n low rest = scan_masks low rest (record { cost = infinite; part = 0 }) (drop 1 (submasks n rest))
 
   -- ---- one mask, of n in all, with the limit on its table's bits ----
-  module _ (n limit : ℕ) where
+  module _ (n : ℕ) (limit : Option ℕ) where
     -- is it passed over: it is not the full one, and its table is above the limit
     unfoldable pub passed_over : ℕ → Bool
-    passed_over s = ltb (s + 1) n && ltb limit (work s s)
+    passed_over s = ltb (s + 1) n && over_limit (work s s) limit
 
     -- what is found for it: a single member costs nothing
     unfoldable pub entry_of : ℕ → Entry
@@ -60,7 +65,7 @@ sum_below f zero = 0
 sum_below f (suc n) = sum_below f n + f n
 
 -- the tables are filled below the mask `top`, and so many splits were tried
-pub record Filled (best split : ℕ → ℕ) (work : ℕ → ℕ → ℕ) (n limit top tried : ℕ) : Type 0 where
+pub record Filled (best split : ℕ → ℕ) (work : ℕ → ℕ → ℕ) (n : ℕ) (limit : Option ℕ) (top tried : ℕ) : Type 0 where
   pub costs : (s : ℕ) → 1 ≤ s → s < top → best s ≡ (entry_of best work n limit s).cost
   pub parts : (s : ℕ) → 1 ≤ s → s < top → split s ≡ (entry_of best work n limit s).part
   pub count : tried ≡ sum_below (tried_of best work n limit) top
@@ -68,7 +73,7 @@ pub record Filled (best split : ℕ → ℕ) (work : ℕ → ℕ → ℕ) (n lim
 -- ---- the tables ----
 
 abbrev pub best_at : List ℕ → ℕ → ℕ
-best_at ws s = get_or ws s 0
+best_at cost s = get_or cost s 0
 
-abbrev pub split_at : List ℕ → ℕ → ℕ → ℕ
-split_at ws n s = get_or ws (n + s) 0
+abbrev pub split_at : List ℕ → ℕ → ℕ
+split_at part s = get_or part s 0

@@ -1,16 +1,19 @@
 #![tactic(auto)]
-// The search over the subsets of up to 12 members, as masks. With n masks, word s of the lent list has the least cost of the mask s, and word
-// n + s the part of the first split that has it. What crate `masks` says of the masks' sets stands from word 2 n on.
+//! The search over the subsets of up to 12 members, as masks: for each the least cost of a tree over it, and the first split that has it.
 ghost use Rattle.std.specs.Prelude.{◌≡◌, ◌+◌, ◌*◌, ◌^◌, ◌<◌, ◌≤◌, ltb, length};
+ghost use Rattle.spec.specs.Improve.{over_limit};
 ghost use Rattle.slots.specs.Weigh.{Light};
-ghost use Rattle.masks.specs.Tables.{work_at, Tables};
+ghost use Rattle.masks.specs.Tables.{work_at, Sized};
+ghost use Rattle.subset.specs.Rooms.{HasRoom};
 ghost use Rattle.subset.specs.Search.{found_at, searched_in, tried_in};
-ghost use Rattle.subset.specs.Walk.{infinite, step_cost, considered, cheapest_of, entry_of, Filled, best_at, split_at};
+ghost use Rattle.subset.specs.Walk.{infinite, finite, step_cost, considered, cheapest_of, entry_of, Filled, best_at, split_at};
+
+use masks::{Masks, Tables};
 
 // From 2^53 on a cost counts as infinite.
 const INFINITE: u64 = 9007199254740992;
 
-// A cost, and the part of the split that has it.
+/// A cost, and the part of the split that has it; 2^53 and 0 where there is none, so that the walk compares one number.
 #[derive(Clone, Copy)]
 pub struct Choice {
     pub cost: u64,
@@ -25,77 +28,59 @@ fn below(bits: u64, room: u64) -> bool
     if bits < 53 { 1 << bits < room } else { false }
 }
 
-// 2 to the work bits of the step that joins the tables of the masks `l` and `r`, if that is below `room`, else 0. It is not weighed where one of
-// the two tables is too large already.
-fn step_cost<'a>(
-    words: &'a [u64],
-    weights: &'a [u8],
-    n: usize,
-    l: usize,
-    r: usize,
-    room: u64,
-) -> u64
-    requires tables { Tables words.now weights.now n }
-    requires bounds { (1 ≤ l) × (l < n) × (1 ≤ r) × (r < n) × (room ≤ infinite) }
-    ensures { result ≡ step_cost (work_at words.now weights.now n l r) room }
+// 2 to the work bits of the step that joins the tables of the masks `l` and `r`, if that is below `room`. It is not weighed where one of the two
+// tables is too large already.
+fn step_cost(tables: &Tables, l: usize, r: usize, room: u64) -> Option<u64>
+    requires { (1 ≤ l) × (l < length tables.now.bits.now) × (1 ≤ r) × (r < length tables.now.bits.now) × (room ≤ infinite) }
+    ensures { result ≡ step_cost (work_at tables.now.kept.now tables.now.weights.now l r) room }
 {
-    if !below(words[6 * n + l], room) {
-        return 0;
+    if !below(tables.bits(l), room) {
+        return None;
     }
-    if !below(words[6 * n + r], room) {
-        return 0;
+    if !below(tables.bits(r), room) {
+        return None;
     }
-    let work = masks::weigh(words, 2 * n + l, 2 * n + r, weights) as u64;
-    if below(work, room) { 1 << work } else { 0 }
+    let work = tables.work(l, r);
+    if below(work, room) { Some(1 << work) } else { None }
 }
 
 // The split of `low` + `rest` whose part is `low` + `sub` is taken if it is strictly cheaper. It is not weighed where the costs of both
 // sides are too much already.
-fn consider<'a>(
-    words: &'a [u64],
-    weights: &'a [u8],
-    n: usize,
+fn consider(
+    tables: &Tables,
+    cost: &[u64],
     low: usize,
     rest: usize,
     sub: usize,
     was: Choice,
 ) -> Choice
-    requires tables { Tables words.now weights.now n }
-    requires bounds { (1 ≤ low) × (low + rest < n) × (sub < rest) × (was.cost ≤ infinite) }
-    ensures { result ≡ considered (best_at words.now) (work_at words.now weights.now n) low rest sub was }
+    requires { (length cost.now ≡ length tables.now.bits.now) × (1 ≤ low) × (low + rest < length tables.now.bits.now) × (sub < rest) × (was.cost ≤ infinite) }
+    ensures { result ≡ considered (best_at cost.now) (work_at tables.now.kept.now tables.now.weights.now) low rest sub was }
 {
     let l = sub + low;
     let r = rest - sub;
     let most = was.cost;
-    let a = words[l];
+    let a = cost[l];
     if most <= a {
         return was;
     }
-    let b = words[r];
+    let b = cost[r];
     if most - a <= b {
         return was;
     }
-    let step = step_cost(words, weights, n, l, r, most - a - b);
-    if step == 0 {
-        return was;
-    }
-    Choice {
-        cost: a + b + step,
-        part: l,
+    match step_cost(tables, l, r, most - a - b) {
+        Some(step) => Choice {
+            cost: a + b + step,
+            part: l,
+        },
+        None => was,
     }
 }
 
 // The first cheapest split of `low` + `rest` whose part holds `low`.
-fn cheapest_split<'a>(
-    words: &'a [u64],
-    weights: &'a [u8],
-    n: usize,
-    low: usize,
-    rest: usize,
-) -> Choice
-    requires tables { Tables words.now weights.now n }
-    requires bounds { (1 ≤ low) × (low + rest < n) }
-    ensures { result ≡ cheapest_of (best_at words.now) (work_at words.now weights.now n) n low rest }
+fn cheapest_split(tables: &Tables, cost: &[u64], low: usize, rest: usize) -> Choice
+    requires { (length cost.now ≡ length tables.now.bits.now) × (1 ≤ low) × (low + rest < length tables.now.bits.now) }
+    ensures { result ≡ cheapest_of (best_at cost.now) (work_at tables.now.kept.now tables.now.weights.now) (length tables.now.bits.now) low rest }
 {
     let mut found = Choice {
         cost: INFINITE,
@@ -107,12 +92,19 @@ fn cheapest_split<'a>(
             break found;
         }
         sub = (sub - 1) & rest;
-        found = consider(words, weights, n, low, rest, sub, found);
+        found = consider(tables, cost, low, rest, sub, found);
     };
     cheapest
 }
 
-// What is found for a mask: the least cost, the part of the first split that has it, and how many splits are tried.
+// Is a table of so many bits above the limit.
+fn is_over(bits: u64, limit: Option<u16>) -> bool
+    ensures { result ≡ over_limit bits limit }
+{
+    limit.is_some_and(|most| u64::from(most) < bits)
+}
+
+/// What is found for a mask: the least cost, the part of the first split that has it, and how many splits are tried.
 #[derive(Clone, Copy)]
 pub struct Entry {
     pub cost: u64,
@@ -121,10 +113,9 @@ pub struct Entry {
 }
 
 // The mask `s`, from what is found for the masks below it. A mask that is not the full one is passed over if its table is above the limit.
-fn search_mask<'a>(words: &'a [u64], weights: &'a [u8], limit: u64, n: usize, s: usize) -> Entry
-    requires tables { Tables words.now weights.now n }
-    requires bounds { (1 ≤ s) × (s < n) }
-    ensures { result ≡ entry_of (best_at words.now) (work_at words.now weights.now n) n limit s }
+fn search_mask(tables: &Tables, cost: &[u64], limit: Option<u16>, s: usize) -> Entry
+    requires { (length cost.now ≡ length tables.now.bits.now) × (1 ≤ s) × (s < length tables.now.bits.now) }
+    ensures { result ≡ entry_of (best_at cost.now) (work_at tables.now.kept.now tables.now.weights.now) (length tables.now.bits.now) limit s }
 {
     let rest = s & (s - 1);
     if rest == 0 {
@@ -134,8 +125,8 @@ fn search_mask<'a>(words: &'a [u64], weights: &'a [u8], limit: u64, n: usize, s:
             tried: 0,
         };
     }
-    if s + 1 < n {
-        if limit < words[6 * n + s] {
+    if s + 1 < tables.len() {
+        if is_over(tables.bits(s), limit) {
             return Entry {
                 cost: INFINITE,
                 part: 0,
@@ -143,7 +134,7 @@ fn search_mask<'a>(words: &'a [u64], weights: &'a [u8], limit: u64, n: usize, s:
             };
         }
     }
-    let found = cheapest_split(words, weights, n, s - rest, rest);
+    let found = cheapest_split(tables, cost, s - rest, rest);
     Entry {
         cost: found.cost,
         part: found.part,
@@ -151,30 +142,46 @@ fn search_mask<'a>(words: &'a [u64], weights: &'a [u8], limit: u64, n: usize, s:
     }
 }
 
-// Fills the tables of costs and parts, from the lowest mask up, and returns how many splits are tried.
-fn fill(words: &mut [u64], weights: &[u8], limit: u64, n: usize) -> u64
-    requires tables { Tables words.old weights.now n }
-    requires bounds { 1 ≤ n }
-    ensures { Filled (best_at words.new) (split_at words.new n) (work_at words.old weights.now n) n limit n result }
+// Fills the lists of costs and parts, from the lowest mask up, and returns how many splits are tried.
+fn fill(tables: &Tables, limit: Option<u16>, cost: &mut [u64], part: &mut [u64]) -> u64
+    requires { (length cost.old ≡ length tables.now.bits.now) × (length part.old ≡ length tables.now.bits.now) × (1 ≤ length tables.now.bits.now) }
+    ensures { Filled (best_at cost.new) (split_at part.new) (work_at tables.now.kept.now tables.now.weights.now) (length tables.now.bits.now) limit (length tables.now.bits.now) result }
 {
     let mut tried: u64 = 0;
-    for s in 1..n {
-        let e = search_mask(words, weights, limit, n, s);
-        words[s] = e.cost;
-        words[n + s] = e.part as u64;
+    for s in 1..tables.len() {
+        let e = search_mask(tables, cost, limit, s);
+        cost[s] = e.cost;
+        part[s] = e.part as u64;
         tried += e.tried;
     }
     tried
 }
 
-// The least cost of a tree over all members, 2^53 for none below that, and how many splits were tried.
-#[derive(Clone, Copy)]
-pub struct Searched {
-    pub cost: u64,
-    pub tried: u64,
+// The same, where the lists of the tables are apart.
+fn fill_from<'a>(
+    kept: &'a [[u64; 2]],
+    bits: &'a [u64],
+    weights: &'a [u8],
+    limit: Option<u16>,
+    cost: &mut [u64],
+    part: &mut [u64],
+) -> u64
+    requires tables { Sized kept.now bits.now weights.now }
+    requires room { (length cost.old ≡ length bits.now) × (length part.old ≡ length bits.now) × (1 ≤ length bits.now) }
+    ensures { Filled (best_at cost.new) (split_at part.new) (work_at kept.now weights.now) (length bits.now) limit (length bits.now) result }
+{
+    fill(&Tables::of(kept, bits, weights), limit, cost, part)
 }
 
-// How many masks `m` members have.
+/// The least cost of a tree over all members, if one is below 2^53, how many splits were tried, and the part of each mask.
+#[derive(Clone, Copy)]
+pub struct Searched<'a> {
+    pub cost: Option<u64>,
+    pub tried: u64,
+    pub part: &'a [u64],
+}
+
+/// How many masks `m` members have.
 pub fn mask_count(m: usize) -> usize
     requires { m ≤ 12 }
     ensures { (result ≡ 2 ^ m) × (1 ≤ result) × (result ≤ 4096) }
@@ -182,18 +189,37 @@ pub fn mask_count(m: usize) -> usize
     1 << m
 }
 
-// The search over `m` members. Slot 2^m + 2^p has the local indices of member p, slot 2^m those of the region's root; `limit` is of whole bits,
-// and none from 65,536 on. The splits of the tree of that cost are left in the list.
-pub fn search(words: &mut [u64], weights: &[u8], limit: u64, m: usize) -> Searched
-    requires { (1 ≤ m) × (m ≤ 12) × (7 * 2 ^ m ≤ length words.old) × (128 ≤ length weights.now) × Light weights.now }
-    ensures { (found_at words.new (2 ^ m) result.cost ≡ searched_in words.old weights.now limit m) × (result.tried ≡ tried_in words.old weights.now limit m) }
+// A cost of the table, if it is one.
+fn finite(cost: u64) -> Option<u64>
+    ensures { result ≡ finite cost }
+{
+    if cost < INFINITE { Some(cost) } else { None }
+}
+
+/// The search over `m` members, whose local indices stand in the rows of the masks of one member, and the region's root's in row 0. The splits
+/// of the tree of that cost are in the list of parts. `limit` is the most bits of a table that is not the root's.
+pub fn search<'a>(masks: Masks<'a>, weights: &[u8], limit: Option<u16>, m: usize) -> Searched<'a>
+    requires room { HasRoom masks (2 ^ m) }
+    requires members { (1 ≤ m) × (m ≤ 12) }
+    requires weights { (128 ≤ length weights.now) × Light weights.now }
+    ensures found { found_at result.part.now (2 ^ m) result.cost ≡ searched_in masks.entry.united.now weights.now limit m }
+    ensures tried { result.tried ≡ tried_in masks.entry.united.now weights.now limit m }
 {
     let n = mask_count(m);
-    masks::unions(words, n);
-    masks::keep_sets(words, weights, n);
-    let tried = fill(words, weights, limit, n);
+    let Masks {
+        united,
+        kept,
+        bits,
+        cost,
+        part,
+    } = masks;
+    masks::unions(united);
+    masks::keep_sets(united, weights, kept, bits);
+    let tried = fill_from(kept, bits, weights, limit, cost, part);
+    let least = finite(cost[n - 1]);
     Searched {
-        cost: words[n - 1],
+        cost: least,
         tried,
+        part,
     }
 }

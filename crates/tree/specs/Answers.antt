@@ -1,40 +1,25 @@
 -- What the entries answer: number and values of each case; the calls once the network is accepted; laws of both. Assumes nothing.
-use Rattle.std.specs.Prelude.{◌≡◌, refl, Bool, true, false, not, ◌||◌, ℕ, ◌-◌, ◌≤◌, ◌<◌, ltb, length, None, Result, Err, Ok}
+use Rattle.std.specs.Prelude.{◌≡◌, refl, Bool, true, false, not, ◌||◌, ℕ, ◌-◌, ◌≤◌, ◌<◌, ltb, length, Some, None, Result, Err, Ok}
 use Rattle.std.proofs.Common.{◌∙◌}
 use Rattle.std.proofs.Math.Path.{ap}
 use mathlib.Core.List.{List, [], ◌∷◌}
-use Rattle.spec.specs.declared.Refusal.TheVariants.{InvalidTree}
+use Rattle.spec.specs.declared.Refusal.TheVariants.{InvalidTree, ShortBuffer}
 use Rattle.spec.specs.declared.Refusal.{Refusal}
 use borrow.Author.Tests.{lt-ltb, le-ltb, not-true, not-false}
-use Rattle.spec.specs.Refusal.{number_of, code_of, Check, check, checked}
+use Rattle.spec.specs.Refusal.{Check, check, checked}
 use Rattle.spec.specs.Network.{Network, leaf_count, refusal_of}
 use Rattle.spec.specs.Memory.{cleared}
 use Rattle.spec.specs.Tree.{step_order, same_plan, pairs_of}
 use Rattle.spec.specs.Calls.{Lent, lent, length_check, plain_words, step_places, wrong_tree, tree_check, valid_call, order_call, same_call, workspace_after}
-use Rattle.spec.specs.Lists.{anyb}
 use Rattle.laws.specs.Booleans.{clash}
-use Rattle.walk.specs.Entry.{Untouched, by_network, past_network, by_length, past_length, holds_first, passes_first}
-use Rattle.tree.specs.declared.Validity.{Validity}
-use Rattle.tree.specs.declared.Validity.TheVariants.{Valid}
-use Rattle.tree.specs.declared.Ordered.{Ordered}
-use Rattle.tree.specs.declared.Same.{Same}
+use Rattle.walk.specs.Entry.{network_refused, past_network, too_short, past_length, holds_first, passes_first}
 
 -- ---- answers ----
 
--- refused by number, or valid
-abbrev pub validity_of : Result (Unit {0}) Refusal → Validity
-validity_of (Err r) = Validity.Refused (number_of r)
-validity_of (Ok x) = Valid
-
--- refused by number, or so many steps
-abbrev pub ordered_of : Result (List ℕ) Refusal → Ordered
-ordered_of (Err r) = Ordered.Refused (number_of r)
-ordered_of (Ok steps) = Ordered.Done (length steps)
-
--- refused by number, or whether it is the same plan
-abbrev pub same_of : Result Bool Refusal → Same
-same_of (Err r) = Same.Refused (number_of r)
-same_of (Ok b) = Same.Done b
+-- how many steps are written
+abbrev pub counted : Result (List ℕ) Refusal → Result ℕ Refusal
+counted (Err r) = Err r
+counted (Ok steps) = Ok (length steps)
 
 -- ---- the calls on n leaves, the network's own checks aside ----
 
@@ -47,6 +32,10 @@ valid_in n words kids = checked (length_check (lent words plain_words ∷ []) �
 unfoldable pub order_in : ℕ → ℕ → ℕ → List ℕ → Result (List ℕ) Refusal
 order_in n words places kids =
     checked (length_check (lent words plain_words ∷ lent places (n - 1) ∷ []) ∷ right_tree n kids ∷ []) (Ok (step_order kids n))
+
+-- a tree, once the lists are long enough
+unfoldable pub ordered : ℕ → List ℕ → Result (List ℕ) Refusal
+ordered n kids = checked (right_tree n kids ∷ []) (Ok (step_order kids n))
 
 -- two trees, once the workspace is long enough
 unfoldable pub compared : ℕ → List ℕ → List ℕ → Result Bool Refusal
@@ -72,9 +61,9 @@ long_words : (words : ℕ) → plain_words ≤ words → (ltb words plain_words 
 long_words words h = rw (le-ltb words plain_words h)
 
 module _ (n words : ℕ) (kids : List ℕ) where
-  pub valid_short : words < plain_words → Untouched 7 (valid_in n words kids)
+  pub valid_short : words < plain_words → valid_in n words kids ≡ Err ShortBuffer
   unfolding valid_in
-  valid_short h = by_length (lent words plain_words ∷ []) (right_tree n kids ∷ []) (Ok tt) (short_words words h)
+  valid_short h = too_short (lent words plain_words ∷ []) (right_tree n kids ∷ []) (Ok tt) (short_words words h)
 
   module _ (h : plain_words ≤ words) (b : Bool) (e : b ≡ not (wrong_tree n kids)) where
     pub valid_done : b ≡ true → valid_in n words kids ≡ Ok tt
@@ -93,32 +82,35 @@ module _ (n words places : ℕ) (kids : List ℕ) where
   abbrev lents : List Lent
   lents = lent words plain_words ∷ lent places (n - 1) ∷ []
 
-  pub order_short : words < plain_words → Untouched 7 (order_in n words places kids)
+  pub order_short : words < plain_words → order_in n words places kids ≡ Err ShortBuffer
   unfolding order_in
-  order_short h = by_length lents (right_tree n kids ∷ []) (Ok (step_order kids n)) (rw (lt-ltb words plain_words h))
+  order_short h = too_short lents (right_tree n kids ∷ []) (Ok (step_order kids n)) (rw (lt-ltb words plain_words h))
 
-  pub order_few : plain_words ≤ words → places < n - 1 → Untouched 7 (order_in n words places kids)
+  pub order_few : plain_words ≤ words → places < n - 1 → order_in n words places kids ≡ Err ShortBuffer
   unfolding order_in
-  order_few h q = by_length lents (right_tree n kids ∷ []) (Ok (step_order kids n)) (rw (le-ltb words plain_words h, lt-ltb places (n - 1) q))
+  order_few h q = too_short lents (right_tree n kids ∷ []) (Ok (step_order kids n)) (rw (le-ltb words plain_words h, lt-ltb places (n - 1) q))
 
-  module _ (h : plain_words ≤ words) (q : n - 1 ≤ places) (b : Bool) (e : b ≡ not (wrong_tree n kids)) where
-    enough : anyb (λ x. ltb x.has x.needs) lents ≡ false
-    enough = rw (le-ltb words plain_words h, le-ltb places (n - 1) q)
+  pub order_ordered : plain_words ≤ words → n - 1 ≤ places → order_in n words places kids ≡ ordered n kids
+  unfolding order_in ordered
+  order_ordered h q = past_length lents (right_tree n kids ∷ []) (Ok (step_order kids n)) (rw (le-ltb words plain_words h, le-ltb places (n - 1) q))
 
-    pub order_done : not b ≡ false → order_in n words places kids ≡ Ok (step_order kids n)
-    unfolding order_in
-    order_done f =
-        past_length lents (right_tree n kids ∷ []) (Ok (step_order kids n)) enough
-        ∙ passes_first (right_tree n kids) [] (Ok (step_order kids n)) (was_right b (wrong_tree n kids) e (not-false b f))
+module _ (n : ℕ) (kids : List ℕ) where
+  pub ordered_wrong : wrong_tree n kids ≡ true → ordered n kids ≡ Err InvalidTree
+  unfolding ordered
+  ordered_wrong h = holds_first (right_tree n kids) [] (Ok (step_order kids n)) h
 
-    pub order_wrong : not b ≡ true → order_in n words places kids ≡ Err InvalidTree
-    unfolding order_in
-    order_wrong f =
-        past_length lents (right_tree n kids ∷ []) (Ok (step_order kids n)) enough
-        ∙ holds_first (right_tree n kids) [] (Ok (step_order kids n)) (was_wrong b (wrong_tree n kids) e (not-true b f))
+  pub ordered_right : wrong_tree n kids ≡ false → ordered n kids ≡ Ok (step_order kids n)
+  unfolding ordered
+  ordered_right h = passes_first (right_tree n kids) [] (Ok (step_order kids n)) h
 
-    pub order_right : not b ≡ false → wrong_tree n kids ≡ false
-    order_right f = was_right b (wrong_tree n kids) e (not-false b f)
+  ordered_either : (x : Bool) (ws : List ℕ) → workspace_after plain_words (checked (check x InvalidTree ∷ []) (Ok (step_order kids n))) ws ≡ cleared ws plain_words
+  ordered_either true ws = refl
+  ordered_either false ws = refl
+
+  -- whatever the answer, the workspace is cleared
+  pub ordered_words : (ws : List ℕ) → workspace_after plain_words (ordered n kids) ws ≡ cleared ws plain_words
+  unfolding ordered
+  ordered_words ws = ordered_either (wrong_tree n kids) ws
 
 module _ (n : ℕ) (kids others : List ℕ) where
   abbrev verdict : Result Bool Refusal
@@ -148,9 +140,9 @@ module _ (n : ℕ) (kids others : List ℕ) where
   cleared_either false true stated ws = refl
   cleared_either false false stated ws = refl
 
-  pub same_short : (words : ℕ) → words < plain_words → Untouched 7 (same_in n words kids others)
+  pub same_short : (words : ℕ) → words < plain_words → same_in n words kids others ≡ Err ShortBuffer
   unfolding same_in
-  same_short words h = by_length (lent words plain_words ∷ []) (right_tree n kids ∷ right_tree n others ∷ []) verdict (short_words words h)
+  same_short words h = too_short (lent words plain_words ∷ []) (right_tree n kids ∷ right_tree n others ∷ []) verdict (short_words words h)
 
   pub same_compared : (words : ℕ) → plain_words ≤ words → same_in n words kids others ≡ compared n kids others
   unfolding same_in compared
@@ -163,9 +155,9 @@ module _ (n : ℕ) (kids others : List ℕ) where
 -- ---- the network decides first ----
 
 module _ (N : Network) (words : ℕ) (kids : List ℕ) where
-  pub valid_refused : (k : ℕ) → k ≡ code_of (refusal_of N) → (k ≡ 0 → ⊥) → Untouched k (valid_call N words kids)
+  pub valid_refused : (r : Refusal) → refusal_of N ≡ Some r → valid_call N words kids ≡ Err r
   unfolding valid_call
-  valid_refused k e z = by_network N (length_check (lent words plain_words ∷ []) ∷ tree_check N kids ∷ []) (Ok tt) k e z
+  valid_refused r e = network_refused N (length_check (lent words plain_words ∷ []) ∷ tree_check N kids ∷ []) (Ok tt) r e
 
   pub valid_accepted : (n : ℕ) → refusal_of N ≡ None → leaf_count N ≡ n → valid_call N words kids ≡ valid_in n words kids
   unfolding valid_call valid_in
@@ -177,9 +169,9 @@ module _ (N : Network) (words places : ℕ) (kids : List ℕ) where
   abbrev order_rest : List Check
   order_rest = length_check (lent words plain_words ∷ lent places (step_places N) ∷ []) ∷ tree_check N kids ∷ []
 
-  pub order_refused : (k : ℕ) → k ≡ code_of (refusal_of N) → (k ≡ 0 → ⊥) → Untouched k (order_call N words places kids)
+  pub order_refused : (r : Refusal) → refusal_of N ≡ Some r → order_call N words places kids ≡ Err r
   unfolding order_call
-  order_refused k e z = by_network N order_rest (Ok (step_order kids (leaf_count N))) k e z
+  order_refused r e = network_refused N order_rest (Ok (step_order kids (leaf_count N))) r e
 
   pub order_accepted : (n : ℕ) → refusal_of N ≡ None → leaf_count N ≡ n → order_call N words places kids ≡ order_in n words places kids
   unfolding order_call order_in
@@ -191,9 +183,9 @@ module _ (N : Network) (words : ℕ) (kids others : List ℕ) where
   abbrev same_rest : List Check
   same_rest = length_check (lent words plain_words ∷ []) ∷ tree_check N kids ∷ tree_check N others ∷ []
 
-  pub same_refused : (k : ℕ) → k ≡ code_of (refusal_of N) → (k ≡ 0 → ⊥) → Untouched k (same_call N words kids others)
+  pub same_refused : (r : Refusal) → refusal_of N ≡ Some r → same_call N words kids others ≡ Err r
   unfolding same_call
-  same_refused k e z = by_network N same_rest (verdict (leaf_count N) kids others) k e z
+  same_refused r e = network_refused N same_rest (verdict (leaf_count N) kids others) r e
 
   pub same_accepted : (n : ℕ) → refusal_of N ≡ None → leaf_count N ≡ n → same_call N words kids others ≡ same_in n words kids others
   unfolding same_call same_in

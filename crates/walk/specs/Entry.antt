@@ -91,6 +91,27 @@ module _ {A : Type 0} (l : List Lent) (cs : List Check) (x : Result A Refusal) w
   pub past_length : anyb (λ y. ltb y.has y.needs) l ≡ false → checked (length_check l ∷ cs) x ≡ checked cs x
   past_length h = passes_first (length_check l) cs x h
 
+-- ---- refused with a refusal, and nothing touched ----
+
+module _ {A : Type 0} where
+  -- the network is refused: so is a call that checks it first
+  pub network_refused : (N : Network) (cs : List Check) (x : Result A Refusal) (r : Refusal) → refusal_of N ≡ Some r → checked (network_checks false N ++ cs) x ≡ Err r
+  network_refused N cs x r e = ap (λ (o : Option Refusal). decide o x) (first_some (network_checks false N) cs r e)
+
+  -- a list that is too short
+  pub too_short : (l : List Lent) (cs : List Check) (x : Result A Refusal) → anyb (λ y. ltb y.has y.needs) l ≡ true → checked (length_check l ∷ cs) x ≡ Err ShortBuffer
+  too_short l cs x h = holds_first (length_check l) cs x h
+
+  -- what is lent stays as it is
+  pub quiet_words : (stated : ℕ) (c : Result A Refusal) (r : Refusal) (ws : List ℕ) → c ≡ Err r → touches r ≡ false → ws ≡ workspace_after stated c ws
+  quiet_words stated c r ws e q = rw (e, q)
+
+  pub quiet_list : {B : Type 0} (c : Result A Refusal) (r : Refusal) (written : A → List B) (l : List B) → c ≡ Err r → l ≡ list_after c written l
+  quiet_list c r written l e = rw e
+
+pub network_quiet : (N : Network) (r : Refusal) → refusal_of N ≡ Some r → touches r ≡ false
+network_quiet N r e = first_quiet (network_checks false N) r (refl, (refl, (refl, (refl, tt)))) e
+
 -- ---- the stated words are cleared ----
 
 module _ {A : Type 0} (stated : ℕ) (ws ws' : List ℕ) (e : ws' ≡ cleared ws stated) where

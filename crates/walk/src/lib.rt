@@ -1,24 +1,24 @@
 #![tactic(auto)]
 // Trees as flat lists of children, two places a node: the tree check and the step order. The stacks are in the lent workspace.
-ghost use Rattle.std.specs.Prelude.{false, not, ◌≡◌, ℕ, ◌+◌, ◌-◌, ◌*◌, ◌<◌, ◌≤◌, length, get_or, set};
+ghost use Rattle.std.specs.Prelude.{false, not, ◌≡◌, ℕ, ◌+◌, ◌-◌, ◌*◌, ◌<◌, ◌≤◌, length, get_or, set, true, IfOk, IfErr};
 ghost use Rattle.spec.specs.Memory.{over};
 ghost use Rattle.spec.specs.Tree.{valid, pairs_of, step_order};
 ghost use Rattle.spec.specs.Calls.{plain_words, wrong_tree};
+ghost use Rattle.spec.specs.declared.Refusal.TheVariants.{InvalidTree};
 ghost use Rattle.walk.specs.Stack.{pushed, pushed_both, picked};
 ghost use Rattle.walk.specs.Marks.{fresh, marked, fresh_both, marked_both};
 
-// The stated workspace of a tree's calls, in words.
+use spec::Refusal;
+
+mod valid; // valid.rt: a tree that passed the check
+
+pub use valid::Tree;
+
+/// The stated workspace of a tree's calls, in words.
 pub fn stated() -> usize
     ensures { result ≡ plain_words }
 {
     4096
-}
-
-// A child's number, as wide as an index.
-fn wide(x: u16) -> usize
-    ensures { result ≡ x }
-{
-    x as usize
 }
 
 // The number of an internal node, or else the other one.
@@ -95,8 +95,8 @@ fn meets_all(kids: &[u16], n: usize, ws: &mut [u64]) -> bool
     let mut met: usize = 1;
     while 0 < p {
         let j = (v - n) * 2;
-        let l = wide(kids[j]);
-        let r = wide(kids[j + 1]);
+        let l = usize::from(kids[j]);
+        let r = usize::from(kids[j + 1]);
         if !mark_both(ws, root, l, r) {
             return false;
         }
@@ -108,7 +108,7 @@ fn meets_all(kids: &[u16], n: usize, ws: &mut [u64]) -> bool
     met == root + 1
 }
 
-// Whether `kids` is a tree of `n` leaves. Only the first 2,048 words of `ws` are used, whatever they hold.
+/// Whether `kids` is a tree of `n` leaves. Only the first 2,048 words of `ws` are used, whatever they hold.
 pub fn is_tree(kids: &[u16], n: usize, ws: &mut [u64]) -> bool
     requires { (n ≤ 512) × (2048 ≤ length ws.old) }
     ensures { result ≡ not (wrong_tree n kids.now) }
@@ -135,16 +135,16 @@ fn fill_order(kids: &[u16], n: usize, ws: &mut [u64], out: &mut [u16])
         rest -= 1;
         out[rest] = v as u16;
         let j = (v - n) * 2;
-        let left = wide(kids[j]);
-        let right = wide(kids[j + 1]);
+        let left = usize::from(kids[j]);
+        let right = usize::from(kids[j + 1]);
         let top = next(ws, n, p - 1, left, right);
         v = top.node;
         p = top.places;
     }
 }
 
-// Writes the step order of a tree of `n` leaves to the front of `out`: the internal nodes, each after its left and then its right child's.
-// Returns how many they are. Only the first 2,048 words of `ws` are used, whatever they hold.
+/// Writes the step order of a tree of `n` leaves to the front of `out`: the internal nodes, each after its left and then its right child's.
+/// Returns how many they are. Only the first 2,048 words of `ws` are used, whatever they hold.
 pub fn post_order(kids: &[u16], n: usize, ws: &mut [u64], out: &mut [u16]) -> usize
     requires { (n ≤ 512) × (wrong_tree n kids.now ≡ false) × (2048 ≤ length ws.old) × (n - 1 ≤ length out.old) }
     ensures { (result ≡ n - 1) × (out.new ≡ over out.old (step_order kids.now n)) }
@@ -154,4 +154,28 @@ pub fn post_order(kids: &[u16], n: usize, ws: &mut [u64], out: &mut [u16]) -> us
     }
     fill_order(kids, n, ws, out);
     n - 1
+}
+
+impl<'a> Tree<'a> {
+    /// The tree of `leaves` leaves in `kids`, two places an internal node, unless the list is no tree of them. Only the first 2,048 words of
+    /// `words` are used, whatever they hold.
+    pub fn check(kids: &'a [u16], leaves: usize, words: &mut [u64]) -> Result<Tree<'a>, Refusal>
+        requires { (leaves ≤ 512) × (2048 ≤ length words.old) }
+        ensures ok { IfOk result (λ t. (t.kids.now ≡ kids.now) × (t.leaves ≡ leaves)) }
+        ensures err { IfErr result (λ r. (r ≡ InvalidTree) × (wrong_tree leaves kids.now ≡ true)) }
+    {
+        if !is_tree(kids, leaves, words) {
+            return Err(Refusal::InvalidTree);
+        }
+        Ok(Tree { kids, leaves })
+    }
+
+    /// Writes the step order to the front of `out`: the internal nodes, each after its left and then its right child's. Returns how many
+    /// they are. Only the first 2,048 words of `words` are used, whatever they hold.
+    pub fn post_order(&self, words: &mut [u64], out: &mut [u16]) -> usize
+        requires { (2048 ≤ length words.old) × (self.now.leaves - 1 ≤ length out.old) }
+        ensures { (result ≡ self.now.leaves - 1) × (out.new ≡ over out.old (step_order self.now.kids.now self.now.leaves)) }
+    {
+        post_order(self.kids, self.leaves, words, out)
+    }
 }

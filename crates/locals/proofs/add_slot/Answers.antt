@@ -12,7 +12,7 @@ loop-k-init c = (omega arith, written_none _ _ _)
 pub loop-k-preserved : goal.loop-k-preserved
 loop-k-preserved c = let d = c.args in let l = c.loop-k in (
   omega arith,
-  mix_with_next bit_or (λ x y. x || y) or_digits (λ x y. or_lt 64 x y) d.words.now d.sets.now d.w d.c d.s d.c l.k c.get64-x.result c.get64-y.result _ _ (omega arith) l.invariant.1 (omega arith) (omega arith) c.get64-x.ensures c.get64-y.ensures c.put64.ensures,
+  mix_with_next bit_or (λ x y. x || y) or_digits (λ x y. or_lt 64 x y) d.words.now d.sets.now d.w d.c d.s d.c l.k c.get_or-x.result c.get_or-y.result _ _ (omega arith) l.invariant.1 (omega arith) (omega arith) c.get_or-x.ensures c.get_or-y.ensures c.put.ensures,
 )
 
 pub returns : goal.returns

@@ -6,4 +6,4 @@ use lib.ListN.{length}
 use Rattle.locals.proofs.flag_set.Given as goal
 
 abbrev pub invariant-loop-j : goal.invariant-loop-j
-invariant-loop-j l = (l.j ≤ length l.flags) × (length l.words ≡ length l.initial.words) × Tested l.initial.words l.w l.s (flag_at l.flags) l.j l.words
+invariant-loop-j l = (length l.words ≡ length l.initial.words) × Tested l.initial.words l.w l.s (flag_at l.flags) l.j l.words

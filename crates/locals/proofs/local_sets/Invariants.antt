@@ -1,8 +1,7 @@
 use Rattle.locals.specs.Turns.{Placed}
-use Prim.Native.Nat.{◌≤◌}
 use mathlib.Core.Path.{◌≡◌}
 use lib.ListN.{length}
 use Rattle.locals.proofs.local_sets.Given as goal
 
 abbrev pub invariant-loop-p : goal.invariant-loop-p
-invariant-loop-p l = (l.p ≤ l.m) × (length l.words ≡ length l.initial.words) × Placed l.sets l.w l.v l.members l.local l.c l.n l.p l.words
+invariant-loop-p l = (length l.united ≡ length l.initial.united) × Placed l.sets l.w l.v l.members l.local (length l.local) l.p l.united

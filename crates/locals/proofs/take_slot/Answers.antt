@@ -11,7 +11,7 @@ loop-k-init c = (omega arith, written_none _ _ _)
 pub loop-k-preserved : goal.loop-k-preserved
 loop-k-preserved c = let d = c.args in let l = c.loop-k in (
   omega arith,
-  mix_with_next bit_diff (λ x y. x && not y) diff_digits (λ x y h k. diff_lt 64 x y h) d.words.now d.sets.now d.w d.c d.s d.c l.k c.get64-x.result c.get64-y.result _ _ (omega arith) l.invariant.1 (omega arith) (omega arith) c.get64-x.ensures c.get64-y.ensures c.put64.ensures,
+  mix_with_next bit_diff (λ x y. x && not y) diff_digits (λ x y h k. diff_lt 64 x y h) d.words.now d.sets.now d.w d.c d.s d.c l.k c.get_or-x.result c.get_or-y.result _ _ (omega arith) l.invariant.1 (omega arith) (omega arith) c.get_or-x.ensures c.get_or-y.ensures c.put.ensures,
 )
 
 pub returns : goal.returns

@@ -1,8 +1,15 @@
-use Rattle.rebuild.specs.Writes.{join_none, join_some}
+use Rattle.std.specs.Prelude.{Option}
+use Rattle.rebuild.specs.Writes.{IsTaken, join_none, join_some}
+use Prim.Native.Nat.{ℕ}
+use mathlib.Core.Path.{subst}
 use Rattle.rebuild.proofs.join_node.Goals as goal
 
-pub returns-then-left-eq0 : goal.returns-then-left-eq0
-returns-then-left-eq0 c = let a = c.args in join_none a.kids.now a.opened.now a.n a.first a.second a.left c.if-left-eq0.true
+pub returns-in-Some : goal.returns-in-Some
+returns-in-Some c = let a = c.args in
+    join_some a.kids.now c.put_node.new.kids a.free.now c.take.new.self a.n a.first a.second c.in-Some.v
+    (subst (λ (o : Option ℕ). IsTaken a.free.now c.take.new.self o) c.in-Some.is c.take.ensures) c.put_node.ensures
 
-pub returns : goal.returns
-returns c = let a = c.args in join_some a.kids.now a.opened.now c.put_node.new.kids a.n a.first a.second a.left c.get16-v.result c.if-left-eq0.false c.get16-v.ensures c.put_node.ensures
+pub returns-in-None : goal.returns-in-None
+returns-in-None c = let a = c.args in
+    join_none a.kids.now a.free.now c.take.new.self a.n a.first a.second
+    (subst (λ (o : Option ℕ). IsTaken a.free.now c.take.new.self o) c.in-None.is c.take.ensures)

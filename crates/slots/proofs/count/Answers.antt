@@ -7,8 +7,8 @@ loop-k-preserved c =
     let d = c.args in
     let l = c.loop-k in (
       omega arith,
-      count_next d.words.now d.w d.s l.k l.n c.get64.result c.count_ones-n.result l.invariant.1
-          c.get64.ensures (omega arith) c.count_ones-n.ensures.0,
+      count_next d.words.now d.w d.s l.k l.n c.get_or.result c.count_ones-n.result l.invariant.1
+          c.get_or.ensures (omega arith) c.count_ones-n.ensures.0,
       omega (arith, c.count_ones-n.ensures.1, l.invariant.2),
     )
 

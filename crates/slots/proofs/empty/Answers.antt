@@ -9,7 +9,7 @@ loop-k-init c = (omega arith, written_none _ _ _)
 pub loop-k-preserved : goal.loop-k-preserved
 loop-k-preserved c = (
   omega arith,
-  written_next _ _ _ _ _ _ _ c.loop-k.invariant.1 (word_none _) c.put64.ensures,
+  written_next _ _ _ _ _ _ _ c.loop-k.invariant.1 (word_none _) c.put.ensures,
 )
 
 pub returns : goal.returns

@@ -7,4 +7,4 @@ use Rattle.slots.proofs.has.Goals as goal
 
 pub returns : goal.returns
 unfolding held bit
-returns c = ap (λ (x : ℕ). eqb (x / 2 ^ (c.args.i % 64) % 2) 1) c.get64-x.ensures
+returns c = ap (λ (x : ℕ). eqb (x / 2 ^ (c.args.i % 64) % 2) 1) c.get_or-x.ensures

@@ -12,6 +12,6 @@ returns-then-w-i c =
 pub returns : goal.returns
 returns c =
     let d = c.args in
-    c.put64.ensures
-    ∙ rw (c.get64-x.ensures, one_shl (d.i % 64) (omega arith))
+    c.put.ensures
+    ∙ rw (c.get_or-x.ensures, one_shl (d.i % 64) (omega arith))
     (insert_is d.words.now d.w d.s d.i (λ j. (c.slice_known-1.given j).fits) (omega arith))

@@ -8,7 +8,7 @@ loop-k-preserved c =
     let l = c.loop-k in (
       omega arith,
       walk_next d.words.now d.w d.s d.out.now d.at l.out _ l.n c.members_word-n.result l.k
-          c.get64-x.result c.get64-x.ensures
+          c.get_or-x.result c.get_or-x.ensures
           c.members_word-n.ensures.0 c.members_word-n.ensures.2 l.invariant.1,
       omega (arith, c.members_word-n.ensures.1, l.invariant.2),
     )

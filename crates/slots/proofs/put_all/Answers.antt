@@ -1,5 +1,5 @@
 use Rattle.slots.specs.Writes.{all_none, all_next}
-use native.Mathlib.Omega.{arith}
+use Rattle.std.proofs.Common.{arith, ◌∙◌}
 use Rattle.slots.proofs.put_all.Goals as goal
 
 pub loop-k-init : goal.loop-k-init
@@ -12,6 +12,6 @@ loop-k-preserved c =
     let d = c.args in (
       omega arith,
       all_next d.words.now d.w d.s d.list.now d.base c.loop-k.k
-          c.at16.result _ _ c.loop-k.invariant.1
-          c.at16.ensures.0 c.insert.ensures,
+          c.from.result _ _ c.loop-k.invariant.1
+          (c.from.ensures ∙ c.get_or.ensures) c.insert.ensures,
     )

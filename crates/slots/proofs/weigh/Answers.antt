@@ -10,8 +10,8 @@ loop-k-preserved c =
     let d = c.args in
     let l = c.loop-k in (
       omega arith,
-      weigh_next d.words.now d.w d.a d.b d.weights.now d.flags.now l.k l.sum c.get64-x.result
-          c.get64-y.result c.weigh_word-sum.result l.invariant.1 c.get64-x.ensures c.get64-y.ensures
+      weigh_next d.words.now d.w d.a d.b d.weights.now d.flags.now l.k l.sum c.get_or-x.result
+          c.get_or-y.result c.weigh_word-sum.result l.invariant.1 c.get_or-x.ensures c.get_or-y.ensures
           c.weigh_word-sum.ensures.0,
       omega (arith, c.weigh_word-sum.ensures.1, l.invariant.2),
     )

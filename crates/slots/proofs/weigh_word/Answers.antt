@@ -1,28 +1,16 @@
-use Rattle.bits.specs.Lowest.{drop_less}
+use Rattle.std.proofs.Common.{arith}
 use Rattle.slots.specs.Weigh.{weigh_turn, weigh_most, weigh_end}
-use native.Mathlib.Omega.{arith}
 use Rattle.slots.proofs.weigh_word.Goals as goal
 
 pub overflow_add-sum : goal.overflow_add-sum
 overflow_add-sum c =
-    let l = c.loop-rest in
-    omega (
-      arith,
-      c.open_weight-sum.ensures.1,
-      weigh_most c.args.weights.now c.args.flags.now c.args.base c.requires.1 c.args.x l.rest l.sum (omega arith) l.invariant.0,
-    )
-
-pub loop-rest-preserved : goal.loop-rest-preserved
-loop-rest-preserved c =
     let d = c.args in
-    let l = c.loop-rest in (
-      weigh_turn d.weights.now d.flags.now d.base d.x l.rest l.sum c.low.result c.open_weight-sum.result (omega arith)
-          (omega arith) c.low.ensures.0 c.open_weight-sum.ensures.0 l.invariant.0,
-      omega (arith, drop_less l.rest (omega arith)),
-    )
+    omega (arith, c.open_weight-sum.ensures.1, weigh_most d.weights.now d.flags.now d.base c.requires.1 d.x _ c.loop-i.sum (omega arith) c.loop-i.invariant.1)
+
+pub loop-i-preserved : goal.loop-i-preserved
+loop-i-preserved c =
+    let d = c.args in
+    (tt, weigh_turn d.weights.now d.flags.now d.base d.x _ _ c.loop-i.sum c.in-Some.i _ c.in-Some.ensures.steps c.open_weight-sum.ensures.0 c.loop-i.invariant.1)
 
 pub returns : goal.returns
-returns c =
-    let l = c.loop-rest in
-    weigh_end c.args.weights.now c.args.flags.now c.args.base c.requires.1 c.args.x l.rest l.sum (omega arith) (omega arith)
-    l.invariant.0
+returns c = let d = c.args in weigh_end d.weights.now d.flags.now d.base c.requires.1 d.x _ c.loop-i.sum (omega arith) c.in-None.ensures.steps.0 c.loop-i.invariant.1

@@ -1,14 +1,21 @@
-use Rattle.tree.specs.declared.Same.{Same}
-use Rattle.tree.specs.Answers.{same_of, compared_first, compared_second, compared-done, tree_right}
+use Rattle.tree.specs.Answers.{compared_first, compared_second, compared-done, tree_right}
 use mathlib.Core.Path.{sym, ap, ◌∙◌}
+use Rattle.std.proofs.Common.{Ok}
 use Rattle.std.proofs.lemmas.Bool.{not_from_true, not_from_false}
 use Rattle.tree.proofs.compare.Goals as goal
 
 pub returns-then-not-is_tree : goal.returns-then-not-is_tree
-returns-then-not-is_tree c = let a = c.args in sym (ap same_of (compared_first a.n a.tree.now a.other.now c.is_tree.result c.is_tree.ensures (not_from_false _ c.if-not-is_tree.true)))
+returns-then-not-is_tree c = let a = c.args in sym (compared_first a.n a.tree.now a.other.now c.is_tree.result c.is_tree.ensures (not_from_false _ c.if-not-is_tree.true))
 
 pub returns-then-not-is_tree-2 : goal.returns-then-not-is_tree-2
-returns-then-not-is_tree-2 c = let a = c.args in sym (ap same_of (compared_second a.n a.tree.now a.other.now (tree_right a.n a.tree.now a.other.now a.tree.now c.is_tree.result c.is_tree.ensures (not_from_true _ c.if-not-is_tree.false)) c.is_tree-2.result c.is_tree-2.ensures (not_from_false _ c.if-not-is_tree-2.true)))
+returns-then-not-is_tree-2 c =
+    let a = c.args in
+    let right = tree_right a.n a.tree.now a.other.now a.tree.now c.is_tree.result c.is_tree.ensures (not_from_true _ c.if-not-is_tree.false) in
+    sym (compared_second a.n a.tree.now a.other.now right c.is_tree-2.result c.is_tree-2.ensures (not_from_false _ c.if-not-is_tree-2.true))
 
 pub returns : goal.returns
-returns c = let a = c.args in ap Same.Done c.same_valid.ensures ∙ sym (ap same_of (compared-done a.n a.tree.now a.other.now (tree_right a.n a.tree.now a.other.now a.tree.now c.is_tree.result c.is_tree.ensures (not_from_true _ c.if-not-is_tree.false)) (tree_right a.n a.tree.now a.other.now a.other.now c.is_tree-2.result c.is_tree-2.ensures (not_from_true _ c.if-not-is_tree-2.false))))
+returns c =
+    let a = c.args in
+    let right = tree_right a.n a.tree.now a.other.now a.tree.now c.is_tree.result c.is_tree.ensures (not_from_true _ c.if-not-is_tree.false) in
+    let other = tree_right a.n a.tree.now a.other.now a.other.now c.is_tree-2.result c.is_tree-2.ensures (not_from_true _ c.if-not-is_tree-2.false) in
+    ap Ok c.same_valid.ensures ∙ sym (compared-done a.n a.tree.now a.other.now right other)

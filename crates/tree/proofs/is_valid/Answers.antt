@@ -1,25 +1,36 @@
-use Rattle.tree.specs.declared.Validity.{Validity}
-use Rattle.tree.specs.Answers.{validity_of, valid_refused, valid_accepted}
-use Rattle.walk.specs.Entry.{answers, same_words}
+use borrow.Author.Rules.{rules}
+use Rattle.std.proofs.Common.{◌≡◌, ◌∙◌, sym, ap, subst, length, Result, Err, None}
+use Rattle.spec.specs.Network.{refusal_of, leaf_count}
 use Rattle.spec.specs.Calls.{plain_words, workspace_after}
 use Rattle.spec.specs.declared.Refusal.{Refusal}
-use Rattle.std.specs.Prelude.{Result}
-use Rattle.network.specs.Layouts.{layout_leaf_count}
-use Rattle.network.specs.Codes.{accepted_facts}
 use Rattle.network.specs.Record.{net_of}
-use native.Mathlib.Omega.{arith}
-use Prim.Native.Nat.{ℕ}
-use mathlib.Core.Path.{refl, sym, ap, ◌∙◌}
-use lib.ListN.{length}
+use Rattle.walk.specs.Entry.{network_quiet, quiet_words}
+use Rattle.tree.specs.Answers.{valid_refused, valid_accepted}
 use Rattle.tree.proofs.is_valid.Goals as goal
 
-pub returns-then-k-ne-NONE : goal.returns-then-k-ne-NONE
-unfolding net_of
-returns-then-k-ne-NONE c = let a = c.args in let u = valid_refused (net_of a.network) (length a.ws.now) a.tree.now c.number-k.result c.number-k.ensures c.if-k-ne-NONE.true in (answers u validity_of (λ (k : ℕ). Validity.Refused k) (λ (r : Refusal). refl), same_words u plain_words a.ws.now)
+pub returns-in_err-network-clause-answer : goal.returns-in_err-network-clause-answer
+returns-in_err-network-clause-answer c =
+    let r = c.in_err-network.field-0.0 in
+    let e : c.from_residual.result ≡ Err r = search rules in
+    e ∙ sym (valid_refused (net_of c.args.network.now) (length c.args.ws.now) c.args.tree.now r c.in_err-network.ensures.err)
 
-pub valid_in-requires : goal.valid_in-requires
-valid_in-requires c = let a = c.args in let g = a.network in let f = accepted_facts g.index_count g.leaf_count g.output_count g.weights g.leg_counts g.legs g.outputs (sym c.if-k-ne-NONE.false ∙ c.number-k.ensures) in omega (arith, f.few_leaves)
+pub returns-in_err-network-clause-words : goal.returns-in_err-network-clause-words
+returns-in_err-network-clause-words c =
+    let r = c.in_err-network.field-0.0 in
+    quiet_words plain_words _ r c.args.ws.now (valid_refused (net_of c.args.network.now) (length c.args.ws.now) c.args.tree.now r c.in_err-network.ensures.err) (network_quiet (net_of c.args.network.now) r c.in_err-network.ensures.err)
 
-pub returns : goal.returns
-unfolding net_of
-returns c = let a = c.args in let g = a.network in let f = accepted_facts g.index_count g.leaf_count g.output_count g.weights g.leg_counts g.legs g.outputs (sym c.if-k-ne-NONE.false ∙ c.number-k.ensures) in let e = valid_accepted (net_of g) (length a.ws.now) a.tree.now g.leaf_count f.passed (layout_leaf_count g.index_count g.leaf_count g.output_count g.weights g.leg_counts g.legs g.outputs) in (c.valid_in.ensures.0 ∙ sym (ap validity_of e), c.valid_in.ensures.1 ∙ sym (ap (λ (r : Result (Unit {0}) Refusal). workspace_after plain_words r a.ws.now) e))
+pub returns-clause-answer : goal.returns-clause-answer
+returns-clause-answer c =
+    let N = net_of c.args.network.now in
+    let same = c.in_ok-network.ensures.ok in
+    let passed : refusal_of N ≡ None = subst (λ M. refusal_of M ≡ None) same c.in_ok-network.network.holds.passed in
+    let call = valid_accepted N (length c.args.ws.now) c.args.tree.now c.leaf_count.result passed (sym (c.leaf_count.ensures ∙ ap leaf_count same)) in
+    c.valid_in.ensures.answer ∙ sym (call)
+
+pub returns-clause-words : goal.returns-clause-words
+returns-clause-words c =
+    let N = net_of c.args.network.now in
+    let same = c.in_ok-network.ensures.ok in
+    let passed : refusal_of N ≡ None = subst (λ M. refusal_of M ≡ None) same c.in_ok-network.network.holds.passed in
+    let call = valid_accepted N (length c.args.ws.now) c.args.tree.now c.leaf_count.result passed (sym (c.leaf_count.ensures ∙ ap leaf_count same)) in
+    c.valid_in.ensures.words ∙ sym (ap (λ (r : Result (Unit {0}) Refusal). workspace_after plain_words r c.args.ws.now) call)

@@ -39,7 +39,7 @@ pub overflow_sub-p : goal.overflow_sub-p
 overflow_sub-p c = let a = c.args in let q = c.requires in let l = c.loop-rest in let m = c.loop-rest-test.true in let d = deep a.kids.now a.n q.0 q.2 a.out.now l.ws l.v l.p l.out l.rest l.invariant.0 m in omega (arith, d, q, l.invariant.1, l.invariant.4)
 
 pub loop-rest-preserved : goal.loop-rest-preserved
-loop-rest-preserved c = let a = c.args in let q = c.requires in let l = c.loop-rest in let m = c.loop-rest-test.true in let g = goes_on a.kids.now a.n q.0 q.2 a.out.now l.ws l.v l.p l.out l.rest l.invariant.0 m l.invariant.2 q.1 q.4 c.wide-left.result c.wide-right.result c.wide-left.ensures c.wide-right.ensures c.next-top.new.ws c.next-top.result.node c.next-top.result.places _ c.next-top.ensures refl in let f : length c.next-top.new.ws ≡ length l.ws = ap length c.next-top.ensures.2 ∙ simp length-set in (g, g.shallow, omega (arith, f, l.invariant.2), f ∙ l.invariant.3, simp length-set l.invariant.4)
+loop-rest-preserved c = let a = c.args in let q = c.requires in let l = c.loop-rest in let m = c.loop-rest-test.true in let g = goes_on a.kids.now a.n q.0 q.2 a.out.now l.ws l.v l.p l.out l.rest l.invariant.0 m l.invariant.2 q.1 q.4 c.from-left.result c.from-right.result c.from-left.ensures c.from-right.ensures c.next-top.new.ws c.next-top.result.node c.next-top.result.places _ c.next-top.ensures refl in let f : length c.next-top.new.ws ≡ length l.ws = ap length c.next-top.ensures.2 ∙ simp length-set in (g, g.shallow, omega (arith, f, l.invariant.2), f ∙ l.invariant.3, simp length-set l.invariant.4)
 
 pub returns : goal.returns
 returns c = let a = c.args in let q = c.requires in let l = c.loop-rest in ends a.kids.now a.n q.0 q.2 a.out.now l.ws l.v l.p l.out l.rest l.invariant.0 (omega arith)

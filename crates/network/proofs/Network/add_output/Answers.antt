@@ -8,9 +8,10 @@ use lib.ListN.{length}
 use Rattle.network.proofs.Network.add_output.Goals as goal
 
 pub returns-then-o-ge-MAX_OUTPUTS : goal.returns-then-o-ge-MAX_OUTPUTS
-returns-then-o-ge-MAX_OUTPUTS c = outputs_full c.args.self c.refused_large.ensures _ c.if-o-ge-MAX_OUTPUTS.true
+returns-then-o-ge-MAX_OUTPUTS c = outputs_full c.args.self.now _ c.if-o-ge-MAX_OUTPUTS.true
 
 pub returns : goal.returns
 unfolding net_of
-returns c = let l : length c.args.self.outputs ≡ 32 = search rules in
-    adds_same _ _ _ _ (layout_more_outputs _ _ _ _ _ _ _ _ (omega (arith, c.if-o-ge-MAX_OUTPUTS.false))) c.settled.ensures
+returns c =
+    let l : length c.args.self.now.outputs ≡ 32 = search rules in
+    adds_same _ _ _ _ _ (layout_more_outputs _ _ _ _ _ _ _ _ (omega (arith, c.if-o-ge-MAX_OUTPUTS.false))) c.settle.ensures

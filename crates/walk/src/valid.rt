@@ -1,0 +1,12 @@
+// A tree that passed the check: made by the check alone, read by all that walk it.
+ghost use Rattle.std.specs.Prelude.{◌≡◌, ◌≤◌, false};
+ghost use Rattle.spec.specs.Calls.{wrong_tree};
+
+/// A tree of `leaves` leaves: two places of `kids` an internal node, its left and its right child.
+#[derive(Clone, Copy)]
+pub struct Tree<'a> {
+    pub kids: &'a [u16],
+    pub leaves: usize,
+    ghost few: { leaves ≤ 512 },
+    ghost valid: { wrong_tree leaves kids.now ≡ false },
+}
