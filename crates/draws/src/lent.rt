@@ -1,4 +1,4 @@
-ghost use Rattle.std.specs.Prelude.{◌≡◌, ◌<◌};
+ghost use Rattle.std.specs.Prelude.{◌≡◌, ◌<◌, length};
 ghost use Rattle.spec.specs.Draws.{lent_words, draw, unit_draw, index_draw};
 ghost use Rattle.draws.specs.Cursor.{words_at};
 
@@ -60,6 +60,13 @@ impl<'a> Draws<'a> {
         ensures words { self.new ≡ (index_draw n self.old).words }
     {
         (self.next() % (n as u64)) as usize
+    }
+
+    /// How many words are left.
+    pub fn left(&self) -> usize
+        ensures { result ≡ length self.now.left }
+    {
+        self.words.len().saturating_sub(self.taken)
     }
 
     /// Was a draw due past the end.
