@@ -37,6 +37,13 @@ range_next f s g r k p e =
 -- ---- folds over the members of a slot, word by word ----
 
 module _ {S : Type 0} (f : ℕ → S → S) where
+  -- one member more of those that are left, and none left
+  pub fold_turn : (l m : List ℕ) (i : ℕ) (g r z : S) → l ≡ i ∷ m → r ≡ f i g → fold_over f l g ≡ z → fold_over f m r ≡ z
+  fold_turn l m i g r z e q h = ap (fold_over f m) q ∙ sym (ap (λ k. fold_over f k g) e) ∙ h
+
+  pub fold_stop : (l : List ℕ) (g z : S) → l ≡ [] → fold_over f l g ≡ z → g ≡ z
+  fold_stop l g z e h = sym (ap (λ k. fold_over f k g) e) ∙ h
+
   -- from a word's lowest set digit to the next
   pub fold_place : (base rest t : ℕ) (g r z : S) → 0 < rest → rest < 2 ^ 64 → t ≡ count_trailing_zeros 64 rest → r ≡ f (base + t) g
       → fold_over f (places base 64 rest) g ≡ z → fold_over f (places base 64 (bit_and rest (rest - 1))) r ≡ z
