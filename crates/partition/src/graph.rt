@@ -1,8 +1,7 @@
 ghost use Rattle.partition.specs.Layout.{Placed};
 
-use bits::Digits;
-
 use crate::place::Place;
+use bits::Digits;
 
 /// A hypergraph and a partition of its vertices, in slots of lent words, with the weight of each net.
 #[derive(Clone, Copy)]
