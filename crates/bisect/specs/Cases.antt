@@ -1,7 +1,7 @@
 -- Bisection of some leaves by cases of the definition; what code answers. Assumes nothing.
 use Rattle.std.specs.Prelude.{Bool, true, false, ◌||◌, ◌≡◌, List, [], ◌∷◌, eqb, Float, Result, Err, Ok}
 use Rattle.std.proofs.Math.Bool.{cond}
-use Rattle.std.proofs.Math.Path.{refl, ap}
+use Rattle.std.proofs.Math.Path.{refl, sym, ap}
 use Rattle.std.proofs.Common.{◌∙◌, le-leb, ne_eqb}
 use Prim.Native.Nat.{ℕ, zero, suc, ◌+◌, ◌-◌, ◌≤◌, ◌<◌, max}
 use native.Mathlib.Omega.{arith}
@@ -11,23 +11,20 @@ use Rattle.spec.specs.declared.Refusal.TheVariants.{TableTooWide, DrawsExhausted
 use Rattle.std.proofs.lemmas.Bool.{lt-leb}
 use Rattle.spec.specs.Memory.{over}
 use Rattle.spec.specs.Network.{Network}
+use Rattle.spec.specs.Calls.{touches}
 use Rattle.spec.specs.Tree.{Tree, number, Pair, flat_of}
-use Rattle.spec.specs.Greedy.{Built}
+use Rattle.spec.specs.Greedy.{Built, leaves_of, greedy_from}
 use Rattle.spec.specs.Hypergraph.{hypergraph_of}
 use Rattle.spec.specs.Draws.{Words, drawn}
 use Rattle.spec.specs.Bisection.{Halved, left_half, right_half, small_end, join_halves, halves, split, bisect, bisect_rec}
 use Rattle.laws.specs.BisectionHalves.{halves_length, fuel_enough}
-use Rattle.draws.specs.Cursor.{words_at}
+use Rattle.laws.specs.Booleans.{clash}
 use Rattle.merging.specs.Merge.{with_node}
-use Rattle.greedynodes.specs.Ends.{Greedied}
+use Rattle.greedynodes.specs.Ends.{Greedied, is_refused, is_built}
 
 -- bisection of some leaves, with fuel enough
 unfoldable pub halved : Network → Float → ℕ → List ℕ → List Pair → Words → Result Halved Refusal
 halved N eps cutoff leaves a ws = bisect_rec N eps cutoff (length leaves) leaves a ws
-
--- the refusal that a top from 65,536 on stands for
-abbrev pub refusal_at : ℕ → Refusal
-refusal_at top = cond (eqb top 65536) TableTooWide DrawsExhausted
 
 -- ---- the definition, case by case ----
 
@@ -92,19 +89,60 @@ module _ (N : Network) (eps : Float) (cutoff : ℕ) where
 
 -- ---- what code answers ----
 
--- a refusal, or the number of the tree that is built, whose array stands at the front of `kids`; and the cursor
-pub data Halves (N : Network) (eps : Float) (cutoff : ℕ) (a : List Pair) (leaves words : List ℕ) (at : ℕ) (kids₀ kids : List ℕ) (top next : ℕ) : Type 0 where
-  is_off : 65536 ≤ top → halved N eps cutoff leaves a (words_at words at) ≡ Err (refusal_at top) → Halves N eps cutoff a leaves words at kids₀ kids top next
-  is_tree : top < 65536 → (b : Built) → halved N eps cutoff leaves a (words_at words at) ≡ Ok (record { built = b; words = words_at words next })
+-- greedy over a small end: 12, or the number of the tree that is built
+pub data Small (N : Network) (a : List Pair) (leaves kids₀ kids : List ℕ) (answer : Result ℕ Refusal) : Type 0 where
+  small_wide : answer ≡ Err TableTooWide → greedy_from N a (leaves_of leaves) ≡ Err TableTooWide → Small N a leaves kids₀ kids answer
+  small_built : (top : ℕ) → answer ≡ Ok top → (b : Built) → greedy_from N a (leaves_of leaves) ≡ Ok b → kids ≡ over kids₀ (flat_of b.pairs)
+      → length b.pairs ≡ length a + (length leaves - 1) → (0 < length leaves → (t : Tree) × (b.tops ≡ t ∷ []) × (top ≡ number t)) → Small N a leaves kids₀ kids answer
+
+-- by the number that greedy answers
+pub small_off : (N : Network) (a : List Pair) (leaves kids₀ kids : List ℕ) (r : ℕ) → Greedied N a leaves kids₀ kids r → 65536 ≤ r → Small N a leaves kids₀ kids (Err TableTooWide)
+small_off N a leaves kids₀ kids r (is_refused z q) h = small_wide refl q
+small_off N a leaves kids₀ kids r (is_built z b q w k t) h = absurd (omega arith)
+
+pub small_on : (N : Network) (a : List Pair) (leaves kids₀ kids : List ℕ) (r : ℕ) → Greedied N a leaves kids₀ kids r → r < 65536 → Small N a leaves kids₀ kids (Ok r)
+small_on N a leaves kids₀ kids r (is_refused z q) h = absurd (omega arith)
+small_on N a leaves kids₀ kids r (is_built z b q w k t) h = small_built r refl b q w k t
+
+-- a refusal, after which the stated words are cleared, or the number of the tree that is built, whose array stands at the front of `kids`; and the words after it
+pub data Halves (N : Network) (eps : Float) (cutoff : ℕ) (a : List Pair) (leaves : List ℕ) (at : Words) (kids₀ kids : List ℕ) (answer : Result ℕ Refusal) (next : Words) : Type 0 where
+  is_off : (r : Refusal) → touches r ≡ true → answer ≡ Err r → halved N eps cutoff leaves a at ≡ Err r → Halves N eps cutoff a leaves at kids₀ kids answer next
+  is_tree : (top : ℕ) → answer ≡ Ok top → (b : Built) → halved N eps cutoff leaves a at ≡ Ok (record { built = b; words = next })
       → kids ≡ over kids₀ (flat_of b.pairs) → length b.pairs ≡ length a + (length leaves - 1)
-      → (0 < length leaves → (t : Tree) × (b.tops ≡ t ∷ []) × (top ≡ number t)) → Halves N eps cutoff a leaves words at kids₀ kids top next
+      → (0 < length leaves → (t : Tree) × (b.tops ≡ t ∷ []) × (top ≡ number t)) → Halves N eps cutoff a leaves at kids₀ kids answer next
 
 -- leaves that are not halved: 13, or greedy's answer
-pub data Unsplit (N : Network) (a : List Pair) (leaves words : List ℕ) (at : ℕ) (kids₀ kids : List ℕ) (top : ℕ) : Type 0 where
-  is_dry : top ≡ 65537 → (words_at words at).exhausted ≡ true → Unsplit N a leaves words at kids₀ kids top
-  is_greedy : (words_at words at).exhausted ≡ false → Greedied N a leaves kids₀ kids top → Unsplit N a leaves words at kids₀ kids top
+pub data Unsplit (N : Network) (a : List Pair) (leaves : List ℕ) (at : Words) (kids₀ kids : List ℕ) (answer : Result ℕ Refusal) : Type 0 where
+  is_dry : answer ≡ Err DrawsExhausted → at.exhausted ≡ true → Unsplit N a leaves at kids₀ kids answer
+  is_greedy : at.exhausted ≡ false → Small N a leaves kids₀ kids answer → Unsplit N a leaves at kids₀ kids answer
 
--- a node over two tops
-pub data Joins (n : ℕ) (kids₀ kids : List ℕ) (count left right at top next : ℕ) : Type 0 where
-  is_right : 65536 ≤ right → top ≡ right → Joins n kids₀ kids count left right at top next
-  is_node : right < 65536 → top ≡ n + count → next ≡ at → kids ≡ with_node kids₀ count left right → Joins n kids₀ kids count left right at top next
+-- a node over two tops, unless the right half is refused
+pub data Joins (n : ℕ) (kids₀ kids : List ℕ) (count left : ℕ) (right answer : Result ℕ Refusal) : Type 0 where
+  is_right : (r : Refusal) → right ≡ Err r → answer ≡ Err r → Joins n kids₀ kids count left right answer
+  is_node : (top : ℕ) → right ≡ Ok top → answer ≡ Ok (n + count) → kids ≡ with_node kids₀ count left top → Joins n kids₀ kids count left right answer
+
+-- ---- an answer is one of the two ----
+
+is_ok : Result ℕ Refusal → Bool
+is_ok (Ok x) = true
+is_ok (Err r) = false
+
+pub ok_or_err {ℓ} : {P : Type ℓ} {o : Result ℕ Refusal} {x : ℕ} {r : Refusal} → o ≡ Ok x → o ≡ Err r → P
+unfolding is_ok
+ok_or_err e f = clash (ap is_ok e) (ap is_ok f)
+
+top_in : Result ℕ Refusal → ℕ
+top_in (Ok x) = x
+top_in (Err r) = 0
+
+pub same_top : {o : Result ℕ Refusal} {x y : ℕ} → o ≡ Ok x → o ≡ Ok y → x ≡ y
+unfolding top_in
+same_top e f = sym (ap top_in e) ∙ ap top_in f
+
+err_in : Result ℕ Refusal → Refusal
+err_in (Ok x) = TableTooWide
+err_in (Err r) = r
+
+pub same_err : {o : Result ℕ Refusal} {r s : Refusal} → o ≡ Err r → o ≡ Err s → r ≡ s
+unfolding err_in
+same_err e f = sym (ap err_in e) ∙ ap err_in f

@@ -1,5 +1,5 @@
 -- What `bisect_rec` answers, from what its calls answer. Assumes nothing.
-use Rattle.std.specs.Prelude.{false, ◌≡◌, refl, List, [], ◌∷◌, ◌++◌, ℕ, ◌+◌, ◌-◌, ◌≤◌, ◌<◌, max, Float, length, take, drop, Err, Ok}
+use Rattle.std.specs.Prelude.{false, ◌≡◌, refl, List, [], ◌∷◌, ◌++◌, ℕ, ◌+◌, ◌-◌, ◌≤◌, ◌<◌, max, Float, length, take, drop, Result, Err, Ok}
 use Rattle.std.proofs.Common.{sym, ◌∙◌, ap, ap₂, subst, arith, length-append, length-drop, take_all, take_at, drop_at, length-take-le}
 use Rattle.spec.specs.Lists.{memb, count}
 use Rattle.spec.specs.Memory.{over}
@@ -7,17 +7,17 @@ use Rattle.spec.specs.Network.{Network}
 use Rattle.spec.specs.Tree.{Tree, number, Pair, flat_of}
 use Rattle.spec.specs.Greedy.{Built, plus, joined, join_all}
 use Rattle.spec.specs.Hypergraph.{hypergraph_of}
-use Rattle.spec.specs.Draws.{drawn}
+use Rattle.spec.specs.Draws.{Words, drawn}
+use Rattle.spec.specs.declared.Refusal.{Refusal}
+use Rattle.spec.specs.declared.Refusal.TheVariants.{TableTooWide, DrawsExhausted}
 use Rattle.spec.specs.Bisection.{Halved, with_words, left_half, right_half, small_end, bisect}
 use Rattle.laws.specs.Booleans.{by_cases, clash}
 use Rattle.laws.specs.ListLaws.{count_memb, count_not_memb}
 use Rattle.laws.specs.BisectionHalves.{on_zero, halves_length, members_count}
-use Rattle.draws.specs.Cursor.{words_at}
 use Rattle.merging.specs.Removed.{flat_length, put_node}
 use Rattle.greedynodes.specs.Begin.{Asks}
-use Rattle.greedynodes.specs.Ends.{Greedied, is_refused, is_built}
 use Rattle.bisect.specs.Cuts.{CutBy, is_exhausted, is_whole, is_cut}
-use Rattle.bisect.specs.Cases.{halved, refusal_at, halved_small, halved_exhausted, halved_whole, left_refused, right_refused, both_done, Halves, is_off, is_tree, Unsplit, is_dry, is_greedy, Joins, is_right, is_node}
+use Rattle.bisect.specs.Cases.{halved, halved_small, halved_exhausted, halved_whole, left_refused, right_refused, both_done, Small, small_wide, small_built, Halves, is_off, is_tree, Unsplit, is_dry, is_greedy, Joins, is_right, is_node, ok_or_err, same_top}
 
 -- ---- lists ----
 
@@ -45,56 +45,53 @@ rest_part l y m k h e ek =
 
 -- ---- leaves that are not halved ----
 
-module _ (N : Network) (eps : Float) (cutoff : ℕ) (a : List Pair) (leaves words : List ℕ) (at : ℕ) (kids₀ : List ℕ) where
-  by_greedy : (next : ℕ) → halved N eps cutoff leaves a (words_at words at) ≡ small_end N eps cutoff leaves a (words_at words next)
-      → (kids : List ℕ) (top : ℕ) → Greedied N a leaves kids₀ kids top → Halves N eps cutoff a leaves words at kids₀ kids top next
-  by_greedy next e kids top (is_refused z q) =
-      is_off (omega (arith, z)) (e ∙ ap (with_words (words_at words next)) q ∙ ap (λ (k : ℕ). Err (refusal_at k)) (sym z))
-  by_greedy next e kids top (is_built h b q w k t) = is_tree h b (e ∙ ap (with_words (words_at words next)) q) w k t
+module _ (N : Network) (eps : Float) (cutoff : ℕ) (a : List Pair) (leaves : List ℕ) (at : Words) (kids₀ : List ℕ) where
+  by_greedy : (next : Words) → halved N eps cutoff leaves a at ≡ small_end N eps cutoff leaves a next
+      → (kids : List ℕ) (answer : Result ℕ Refusal) → Small N a leaves kids₀ kids answer → Halves N eps cutoff a leaves at kids₀ kids answer next
+  by_greedy next e kids answer (small_wide z q) = is_off TableTooWide refl z (e ∙ ap (with_words next) q)
+  by_greedy next e kids answer (small_built top z b q w k t) = is_tree top z b (e ∙ ap (with_words next) q) w k t
 
   -- a small end
-  pub rec_small : length leaves ≤ max cutoff 2 → (kids : List ℕ) (top : ℕ) → Greedied N a leaves kids₀ kids top
-      → Halves N eps cutoff a leaves words at kids₀ kids top at
-  rec_small h kids top g = by_greedy at (halved_small N eps cutoff leaves a (words_at words at) h) kids top g
+  pub rec_small : length leaves ≤ max cutoff 2 → (kids : List ℕ) (answer : Result ℕ Refusal) → Small N a leaves kids₀ kids answer
+      → Halves N eps cutoff a leaves at kids₀ kids answer at
+  rec_small h kids answer g = by_greedy at (halved_small N eps cutoff leaves a at h) kids answer g
 
-  pub cut_same : (leaves' : List ℕ) (left next : ℕ) → CutBy N leaves eps words at leaves' left next → left ≡ 0 → leaves' ≡ leaves
+  pub cut_same : (leaves' : List ℕ) (left : ℕ) (next : Words) → CutBy N leaves eps at leaves' left next → left ≡ 0 → leaves' ≡ leaves
   cut_same leaves' left next (is_exhausted l part ep s same) z = same
   cut_same leaves' left next (is_whole l part ep s q same) z = same
   cut_same leaves' left next (is_cut l m part ep s q same) z = absurd (omega arith)
 
   -- 13, or one side is empty
-  pub rec_unsplit : max cutoff 2 < length leaves → (leaves' : List ℕ) (left next : ℕ) → CutBy N leaves eps words at leaves' left next → left ≡ 0
-      → (kids : List ℕ) (top : ℕ) → Unsplit N a leaves' words next kids₀ kids top → Halves N eps cutoff a leaves words at kids₀ kids top next
-  rec_unsplit h leaves' left next c z kids top u =
-      go c (subst (λ (l : List ℕ). Unsplit N a l words next kids₀ kids top) (cut_same leaves' left next c z) u)
+  pub rec_unsplit : max cutoff 2 < length leaves → (leaves' : List ℕ) (left : ℕ) (next : Words) → CutBy N leaves eps at leaves' left next → left ≡ 0
+      → (kids : List ℕ) (answer : Result ℕ Refusal) → Unsplit N a leaves' next kids₀ kids answer → Halves N eps cutoff a leaves at kids₀ kids answer next
+  rec_unsplit h leaves' left next c z kids answer u =
+      go c (subst (λ (l : List ℕ). Unsplit N a l next kids₀ kids answer) (cut_same leaves' left next c z) u)
     where
-      go : CutBy N leaves eps words at leaves' left next → Unsplit N a leaves words next kids₀ kids top → Halves N eps cutoff a leaves words at kids₀ kids top next
-      go (is_exhausted l part ep s same) (is_dry e t) =
-          is_off (omega (arith, e))
-          (halved_exhausted N eps cutoff leaves a (words_at words at) h part (words_at words next) ep s ∙ ap (λ (k : ℕ). Err (refusal_at k)) (sym e))
+      go : CutBy N leaves eps at leaves' left next → Unsplit N a leaves next kids₀ kids answer → Halves N eps cutoff a leaves at kids₀ kids answer next
+      go (is_exhausted l part ep s same) (is_dry e t) = is_off DrawsExhausted refl e (halved_exhausted N eps cutoff leaves a at h part next ep s)
       go (is_exhausted l part ep s same) (is_greedy t g) = clash s t
       go (is_whole l part ep s q same) (is_dry e t) = clash t s
       go (is_whole l part ep s q same) (is_greedy t g) =
-          by_greedy next (halved_whole N eps cutoff leaves a (words_at words at) h part (words_at words next) ep s q) kids top g
+          by_greedy next (halved_whole N eps cutoff leaves a at h part next ep s q) kids answer g
       go (is_cut l m part ep s q same) v = absurd (omega arith)
 
 -- ---- the halves ----
 
 -- leaves that are cut, with the two halves as parts of one list
-record Parts (N : Network) (leaves : List ℕ) (eps : Float) (words : List ℕ) (at : ℕ) (leaves' : List ℕ) (left next : ℕ) : Type 0 where
+record Parts (N : Network) (leaves : List ℕ) (eps : Float) (at : Words) (leaves' : List ℕ) (left : ℕ) (next : Words) : Type 0 where
   part : List ℕ
-  is : bisect (hypergraph_of N leaves) eps (words_at words at) ≡ drawn part (words_at words next)
-  going : (words_at words next).exhausted ≡ false
+  is : bisect (hypergraph_of N leaves) eps at ≡ drawn part next
+  going : next.exhausted ≡ false
   some : 0 < length (left_half part leaves)
   few : length (left_half part leaves) < length leaves
   front : take left leaves' ≡ left_half part leaves
   back : drop left leaves' ≡ right_half part leaves
 
-parts_of : (N : Network) (leaves : List ℕ) (eps : Float) (words : List ℕ) (at : ℕ) (leaves' : List ℕ) (left next : ℕ)
-    → CutBy N leaves eps words at leaves' left next → (left ≡ 0 → ⊥) → Parts N leaves eps words at leaves' left next
-parts_of N leaves eps words at leaves' left next (is_exhausted l part ep s same) n = absurd (n l)
-parts_of N leaves eps words at leaves' left next (is_whole l part ep s q same) n = absurd (n l)
-parts_of N leaves eps words at leaves' left next (is_cut l m part ep s q same) n =
+parts_of : (N : Network) (leaves : List ℕ) (eps : Float) (at : Words) (leaves' : List ℕ) (left : ℕ) (next : Words)
+    → CutBy N leaves eps at leaves' left next → (left ≡ 0 → ⊥) → Parts N leaves eps at leaves' left next
+parts_of N leaves eps at leaves' left next (is_exhausted l part ep s same) n = absurd (n l)
+parts_of N leaves eps at leaves' left next (is_whole l part ep s q same) n = absurd (n l)
+parts_of N leaves eps at leaves' left next (is_cut l m part ep s q same) n =
     record {
       part = part;
       is = ep;
@@ -105,12 +102,12 @@ parts_of N leaves eps words at leaves' left next (is_cut l m part ep s q same) n
       back = ap (drop left) same ∙ drop_at (left_half part leaves) (right_half part leaves) left (sym q);
     }
 
-module _ (N : Network) (eps : Float) (cutoff : ℕ) (a : List Pair) (n made : ℕ) (weights counts legs outputs leaves words : List ℕ) (at : ℕ) (kids₀ : List ℕ)
-    (asks : Asks N a n made weights counts legs outputs leaves kids₀) (leaves' : List ℕ) (left next : ℕ)
-    (cut : CutBy N leaves eps words at leaves' left next) (n₀ : left ≡ 0 → ⊥)
+module _ (N : Network) (eps : Float) (cutoff : ℕ) (a : List Pair) (n made : ℕ) (weights counts legs outputs leaves : List ℕ) (at : Words) (kids₀ : List ℕ)
+    (asks : Asks N a n made weights counts legs outputs leaves kids₀) (leaves' : List ℕ) (left : ℕ) (next : Words)
+    (cut : CutBy N leaves eps at leaves' left next) (n₀ : left ≡ 0 → ⊥)
   where
-    abbrev P : Parts N leaves eps words at leaves' left next
-    P = parts_of N leaves eps words at leaves' left next cut n₀
+    abbrev P : Parts N leaves eps at leaves' left next
+    P = parts_of N leaves eps at leaves' left next cut n₀
 
     abbrev L : List ℕ
     L = left_half P.part leaves
@@ -139,61 +136,61 @@ module _ (N : Network) (eps : Float) (cutoff : ℕ) (a : List Pair) (n made : �
     left_many : left ≤ length leaves' → length L ≡ left
     left_many h = sym (ap length P.front) ∙ length-take-le left leaves' h
 
-    module _ (kids₁ : List ℕ) (top₁ at₁ : ℕ) (x : Halves N eps cutoff a (take left leaves') words next kids₀ kids₁ top₁ at₁) (h : max cutoff 2 < length leaves) where
-      abbrev X : Halves N eps cutoff a L words next kids₀ kids₁ top₁ at₁
-      X = subst (λ (l : List ℕ). Halves N eps cutoff a l words next kids₀ kids₁ top₁ at₁) P.front x
+    module _ (kids₁ : List ℕ) (answer₁ : Result ℕ Refusal) (at₁ : Words) (x : Halves N eps cutoff a (take left leaves') next kids₀ kids₁ answer₁ at₁) (h : max cutoff 2 < length leaves) where
+      abbrev X : Halves N eps cutoff a L next kids₀ kids₁ answer₁ at₁
+      X = subst (λ (l : List ℕ). Halves N eps cutoff a l next kids₀ kids₁ answer₁ at₁) P.front x
 
       -- the left half is refused
-      pub rec_left : 65536 ≤ top₁ → Halves N eps cutoff a leaves words at kids₀ kids₁ top₁ at₁
-      rec_left t = go X
+      pub rec_left : (r : Refusal) → answer₁ ≡ Err r → (answer : Result ℕ Refusal) → answer ≡ Err r → Halves N eps cutoff a leaves at kids₀ kids₁ answer at₁
+      rec_left r t answer e = go X
         where
-          go : Halves N eps cutoff a L words next kids₀ kids₁ top₁ at₁ → Halves N eps cutoff a leaves words at kids₀ kids₁ top₁ at₁
-          go (is_off u q) = is_off u (left_refused N eps cutoff leaves a (words_at words at) h P.part (words_at words next) P.is P.going P.some P.few (refusal_at top₁) q)
-          go (is_tree u b q w k z) = absurd (omega arith)
+          go : Halves N eps cutoff a L next kids₀ kids₁ answer₁ at₁ → Halves N eps cutoff a leaves at kids₀ kids₁ answer at₁
+          go (is_off u y z q) = is_off u y (e ∙ sym t ∙ z) (left_refused N eps cutoff leaves a at h P.part next P.is P.going P.some P.few u q)
+          go (is_tree top z b q w k y) = ok_or_err z t
 
       -- the right half is refused, or both are joined
-      pub rec_joined : left ≤ length leaves' → top₁ < 65536 → (r : List ℕ) → r ≡ drop left leaves' → (c₁ c₂ : ℕ) → c₁ ≡ made + (left - 1)
-          → c₂ ≡ made + (length leaves - 2) → n + c₂ < 65536 → (kids₂ kids₃ : List ℕ) (top₂ at₂ top₃ at₃ : ℕ)
-          → ((b : List Pair) → Asks N b n c₁ weights counts legs outputs r kids₁ → Halves N eps cutoff b r words at₁ kids₁ kids₂ top₂ at₂)
-          → Joins n kids₂ kids₃ c₂ top₁ top₂ at₂ top₃ at₃ → Halves N eps cutoff a leaves words at kids₀ kids₃ top₃ at₃
-      rec_joined hl t r er c₁ c₂ e₁ e₂ fit kids₂ kids₃ top₂ at₂ top₃ at₃ f j = go X
+      pub rec_joined : left ≤ length leaves' → (top₁ : ℕ) → answer₁ ≡ Ok top₁ → (r : List ℕ) → r ≡ drop left leaves' → (c₁ c₂ : ℕ) → c₁ ≡ made + (left - 1)
+          → c₂ ≡ made + (length leaves - 2) → (kids₂ kids₃ : List ℕ) (answer₂ : Result ℕ Refusal) (at₂ : Words) (answer₃ : Result ℕ Refusal)
+          → ((b : List Pair) → Asks N b n c₁ weights counts legs outputs r kids₁ → Halves N eps cutoff b r at₁ kids₁ kids₂ answer₂ at₂)
+          → Joins n kids₂ kids₃ c₂ top₁ answer₂ answer₃ → Halves N eps cutoff a leaves at kids₀ kids₃ answer₃ at₂
+      rec_joined hl top₁ t r er c₁ c₂ e₁ e₂ kids₂ kids₃ answer₂ at₂ answer₃ f j = go X
         where
           er' : r ≡ R
           er' = er ∙ P.back
 
-          go : Halves N eps cutoff a L words next kids₀ kids₁ top₁ at₁ → Halves N eps cutoff a leaves words at kids₀ kids₃ top₃ at₃
-          go (is_off u q) = absurd (omega arith)
-          go (is_tree u b q w k z) =
-              both (subst (λ (l : List ℕ). Halves N eps cutoff b.pairs l words at₁ kids₁ kids₂ top₂ at₂) er'
+          go : Halves N eps cutoff a L next kids₀ kids₁ answer₁ at₁ → Halves N eps cutoff a leaves at kids₀ kids₃ answer₃ at₂
+          go (is_off u y z q) = ok_or_err t z
+          go (is_tree top s b q w k z) =
+              both (subst (λ (l : List ℕ). Halves N eps cutoff b.pairs l at₁ kids₁ kids₂ answer₂ at₂) er'
               (f b.pairs (half_asks r (λ v. omega (arith, ap (count v) er', members_count (on_zero P.part) v 0 leaves)) b.pairs c₁ kids₁
               (omega (arith, e₁, k, asks.array, left_many hl))
               (w ∙ sym (over-over kids₀ (flat_of b.pairs) (flat_of b.pairs) (omega arith)) ∙ ap (λ (l : List ℕ). over l (flat_of b.pairs)) (sym w))))) j
             where
               hx : Halved
-              hx = record { built = b; words = words_at words at₁ }
+              hx = record { built = b; words = at₁ }
 
-              both : Halves N eps cutoff b.pairs R words at₁ kids₁ kids₂ top₂ at₂ → Joins n kids₂ kids₃ c₂ top₁ top₂ at₂ top₃ at₃
-                  → Halves N eps cutoff a leaves words at kids₀ kids₃ top₃ at₃
-              both (is_off v y) (is_right s e) =
-                  is_off (omega (arith, e))
-                  (right_refused N eps cutoff leaves a (words_at words at) h P.part (words_at words next) P.is P.going P.some P.few hx q (refusal_at top₂) y
-                  ∙ ap (λ (i : ℕ). Err (refusal_at i)) (sym e))
-              both (is_off v y) (is_node s e₃ e₄ e₅) = absurd (omega arith)
-              both (is_tree v d y wy ky zy) (is_right s e) = absurd (omega arith)
-              both (is_tree v d y wy ky zy) (is_node s e₃ e₄ e₅) =
+              both : Halves N eps cutoff b.pairs R at₁ kids₁ kids₂ answer₂ at₂ → Joins n kids₂ kids₃ c₂ top₁ answer₂ answer₃
+                  → Halves N eps cutoff a leaves at kids₀ kids₃ answer₃ at₂
+              both (is_off v tv g y) (is_right d s₂ e) =
+                  is_off v tv (e ∙ sym s₂ ∙ g) (right_refused N eps cutoff leaves a at h P.part next P.is P.going P.some P.few hx q v y)
+              both (is_off v tv g y) (is_node top₂ s₂ e₃ e₅) = ok_or_err s₂ g
+              both (is_tree top₂ g d y wy ky zy) (is_right v s₂ e) = ok_or_err g s₂
+              both (is_tree top₃ g d y wy ky zy) (is_node top₂ s₂ e₃ e₅) =
                   let (tx, px, nx) = z P.some in
                   let (ty, py, ny) = zy (omega (arith, P.few, halves_length P.part leaves)) in
+                  let mx : top₁ ≡ number tx = same_top t s ∙ nx in
+                  let my : top₂ ≡ number ty = same_top s₂ g ∙ ny in
                   let ec : c₂ ≡ length d.pairs = omega (arith, e₂, ky, k, asks.array, P.some, P.few, halves_length P.part leaves) in
                   let two : 2 ≤ length leaves = omega (arith, P.some, P.few) in
                   let wd : kids₂ ≡ over kids₀ (flat_of d.pairs) =
                   wy ∙ ap (λ (l : List ℕ). over l (flat_of d.pairs)) w ∙ over-over kids₀ (flat_of b.pairs) (flat_of d.pairs) (flat_more b.pairs d.pairs (omega (arith, ky))) in
                   let built : join_all N d.pairs (b.tops ++ d.tops) ≡ record { pairs = plus d.pairs tx ty; tops = joined N d.pairs tx ty ∷ [] } =
                   ap₂ (λ (l m : List Tree). join_all N d.pairs (l ++ m)) px py in
-                  is_tree (omega (arith, e₃)) (record { pairs = plus d.pairs tx ty; tops = joined N d.pairs tx ty ∷ [] })
-                  (both_done N eps cutoff leaves a (words_at words at) h P.part (words_at words next) P.is P.going P.some P.few hx q
-                  (record { built = d; words = words_at words at₂ }) y
-                  ∙ ap₂ (λ (o : Built) (i : ℕ). Ok (record { built = o; words = words_at words i })) built (sym e₄))
-                  (put_node kids₀ kids₂ kids₃ d.pairs tx ty c₂ top₁ top₂ wd ec nx ny e₅)
+                  is_tree (n + c₂) e₃ (record { pairs = plus d.pairs tx ty; tops = joined N d.pairs tx ty ∷ [] })
+                  (both_done N eps cutoff leaves a at h P.part next P.is P.going P.some P.few hx q
+                  (record { built = d; words = at₂ }) y
+                  ∙ ap (λ (o : Built). Ok (record { built = o; words = at₂ })) built)
+                  (put_node kids₀ kids₂ kids₃ d.pairs tx ty c₂ top₁ top₂ wd ec mx my e₅)
                   (one_more (length (plus d.pairs tx ty)) (length d.pairs) (length a) (length leaves)
                   (length-append d.pairs (record { left = number tx; right = number ty } ∷ [])) (sym ec ∙ e₂ ∙ ap (λ (i : ℕ). i + (length leaves - 2)) asks.array) two)
-                  (λ g. (joined N d.pairs tx ty, refl, e₃ ∙ omega (arith, ec, asks.lends.leaves)))
+                  (λ g. (joined N d.pairs tx ty, refl, omega (arith, ec, asks.lends.leaves)))

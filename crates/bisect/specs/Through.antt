@@ -13,7 +13,6 @@ use Rattle.spec.specs.Coarsen.{Level, coarsen}
 use Rattle.spec.specs.Bisection.{initial, side_limit, through_level, refined_from, multilevel, bisect}
 use Rattle.laws.specs.Booleans.{clash}
 use Rattle.network.specs.Layouts.{map-range_ext}
-use Rattle.draws.specs.Cursor.{words_at}
 use Rattle.partition.specs.Layout.{net_in, graph_in}
 use Rattle.moves.specs.Kept.{Kept}
 use Rattle.moves.specs.Laying.{Bits}
@@ -24,9 +23,9 @@ use Rattle.levels.specs.Stage.{front_none, front_span, Stage, graph_at, places_a
 use Rattle.levels.specs.Deeper.{Deeper, Tried, is_few, is_more}
 
 -- The front of the list is the partition of level l, whatever number of levels the definition may go down, if it is at least that of the vertices.
-pub record Through (l m n : ℕ) (maxw : Float) (draws : List ℕ) (at at' : ℕ) (ws weights : List ℕ) (vw : List Float) (places ws' weights' : List ℕ) (vw' : List Float)
+pub record Through (l m n : ℕ) (maxw : Float) (words words' : Words) (ws weights : List ℕ) (vw : List Float) (places ws' weights' : List ℕ) (vw' : List Float)
     (places' part' : List ℕ) : Type 0 where
-  pub same : (fuel : ℕ) → n ≤ fuel → drawn (take n part') (words_at draws at') ≡ multilevel fuel maxw (graph_at ws weights vw l m n) (words_at draws at)
+  pub same : (fuel : ℕ) → n ≤ fuel → drawn (take n part') words' ≡ multilevel fuel maxw (graph_at ws weights vw l m n) words
   pub bits : Bits (take n part')
   pub kept : Keeps l ws weights vw places ws' weights' vw' places'
 
@@ -108,20 +107,20 @@ unfolding graph_in
 vertices_are l m n ws weights vw places h = span_length (l * 128) n vw (omega (arith, h.low, h.room, h.vertices_fit))
 
 -- at most 48 vertices
-pub through_small : (l m n : ℕ) (maxw : Float) (draws : List ℕ) (at : ℕ) (ws weights : List ℕ) (vw : List Float) (places : List ℕ)
-    → Stage ws (length weights) (length vw) (length places) l m n → (ws' part' : List ℕ) (at' : ℕ) → n ≤ 48
-    → Gives n draws (initial (graph_at ws weights vw l m n) maxw (words_at draws at)) ws ws' part' at'
-    → Through l m n maxw draws at at' ws weights vw places ws' weights vw places part'
-through_small l m n maxw draws at ws weights vw places h ws' part' at' b g =
+pub through_small : (l m n : ℕ) (maxw : Float) (words : Words) (ws weights : List ℕ) (vw : List Float) (places : List ℕ)
+    → Stage ws (length weights) (length vw) (length places) l m n → (ws' part' : List ℕ) (words' : Words) → n ≤ 48
+    → Gives n (initial (graph_at ws weights vw l m n) maxw words) ws ws' part' words'
+    → Through l m n maxw words words' ws weights vw places ws' weights vw places part'
+through_small l m n maxw words ws weights vw places h ws' part' words' b g =
     record {
       same = λ fuel f. g.given
-          ∙ sym (few_vertices maxw (graph_at ws weights vw l m n) (words_at draws at) fuel (omega (arith, vertices_are l m n ws weights vw (length places) h)));
+          ∙ sym (few_vertices maxw (graph_at ws weights vw l m n) words fuel (omega (arith, vertices_are l m n ws weights vw (length places) h)));
       bits = g.bits;
       kept = keeps_none l ws weights vw places ws' h.low g.kept;
     }
 
-module _ {l m n : ℕ} {limit : Float} {draws : List ℕ} {at at₁ : ℕ} {ws weights : List ℕ} {vw : List Float} {places ws₁ weights₁ : List ℕ} {vw₁ : List Float} {places₁ : List ℕ}
-    {found : Bool} {m₁ n₁ : ℕ} (d : Deeper l m n limit draws at at₁ ws weights vw places ws₁ weights₁ vw₁ places₁ found m₁ n₁)
+module _ {l m n : ℕ} {limit : Float} {words words₁ : Words} {ws weights : List ℕ} {vw : List Float} {places ws₁ weights₁ : List ℕ} {vw₁ : List Float} {places₁ : List ℕ}
+    {found : Bool} {m₁ n₁ : ℕ} (d : Deeper l m n limit words words₁ ws weights vw places ws₁ weights₁ vw₁ places₁ found m₁ n₁)
     (h : Stage ws (length weights) (length vw) (length places) l m n) (over : 48 < n) where
   abbrev here : Hypergraph
   here = graph_at ws weights vw l m n
@@ -144,26 +143,26 @@ module _ {l m n : ℕ} {limit : Float} {draws : List ℕ} {at at₁ : ℕ} {ws w
       let z : length (span ((l + 1) * 128) ((l + 1) * 128 + n₁) vw₁) ≡ n₁ =
       span_length ((l + 1) * 128) n₁ vw₁ (omega (arith, (d.stage f).low, (d.stage f).room, (d.stage f).vertices_fit)) in
       three_fewer n n₁ over (omega (arith, h.room)) d.fewer
-      ((λ i. enough (sym count_here i) (sym z i)) ∙ found_fewer here limit (words_at draws at) (words_at draws at₁) found next f d.level)
+      ((λ i. enough (sym count_here i) (sym z i)) ∙ found_fewer here limit words words₁ found next f d.level)
 
   module _ (maxw : Float) (third : limit ≡ div binary64 maxw (whole_float 3)) where
-    level_is : drawn (level_if found next) (words_at draws at₁) ≡ coarsen here (div binary64 maxw (whole_float 3)) (words_at draws at)
-    level_is = d.level ∙ ap (λ x. coarsen here x (words_at draws at)) third
+    level_is : drawn (level_if found next) words₁ ≡ coarsen here (div binary64 maxw (whole_float 3)) words
+    level_is = d.level ∙ ap (λ x. coarsen here x words) third
 
     -- no coarser level is worthwhile
-    pub through_none : {ws₂ part' : List ℕ} {at₂ : ℕ} → found ≡ false → Gives n draws (initial (graph_at ws₁ weights₁ vw₁ l m n) maxw (words_at draws at₁)) ws₁ ws₂ part' at₂
-        → Through l m n maxw draws at at₂ ws weights vw places ws₂ weights₁ vw₁ places₁ part'
-    through_none {ws₂} {part'} {at₂} f g =
+    pub through_none : {ws₂ part' : List ℕ} {words₂ : Words} → found ≡ false → Gives n (initial (graph_at ws₁ weights₁ vw₁ l m n) maxw words₁) ws₁ ws₂ part' words₂
+        → Through l m n maxw words words₂ ws weights vw places ws₂ weights₁ vw₁ places₁ part'
+    through_none {ws₂} {part'} {words₂} f g =
         record {
-          same = λ fuel b. g.given ∙ ap (λ (G : Hypergraph). initial G maxw (words_at draws at₁)) again
-              ∙ none_deeper maxw here (words_at draws at) (words_at draws at₁) next found fuel (omega (arith, h.some_left)) (omega (arith, count_here)) f level_is;
+          same = λ fuel b. g.given ∙ ap (λ (G : Hypergraph). initial G maxw words₁) again
+              ∙ none_deeper maxw here words words₁ next found fuel (omega (arith, h.some_left)) (omega (arith, count_here)) f level_is;
           bits = g.bits;
           kept = keeps_graph l ws weights vw places ws₁ weights₁ vw₁ places₁ ws₂ h.low d.kept g.kept;
         }
 
   -- the coarser level's partition is given
-  module _ {maxw : Float} {ws₂ weights₂ : List ℕ} {vw₂ : List Float} {places₂ part₂ : List ℕ} {at₂ : ℕ}
-      (t : Through (l + 1) m₁ n₁ maxw draws at₁ at₂ ws₁ weights₁ vw₁ places₁ ws₂ weights₂ vw₂ places₂ part₂) where
+  module _ {maxw : Float} {ws₂ weights₂ : List ℕ} {vw₂ : List Float} {places₂ part₂ : List ℕ} {words₂ : Words}
+      (t : Through (l + 1) m₁ n₁ maxw words₁ words₂ ws₁ weights₁ vw₁ places₁ ws₂ weights₂ vw₂ places₂ part₂) where
     back_kept : Keeps l ws weights vw places ws₂ weights₂ vw₂ places₂
     back_kept = keeps_then l ws weights vw places ws₁ weights₁ vw₁ places₁ ws₂ weights₂ vw₂ places₂ d.kept t.kept
 
@@ -180,22 +179,22 @@ module _ {l m n : ℕ} {limit : Float} {draws : List ℕ} {at at₁ : ℕ} {ws w
     back_bits part₃ e = subst Bits (sym e) (bits_map (take n₁ part₂) (places_at places₂ l n) t.bits)
 
     -- THROUGH A COARSER LEVEL AND BACK
-    pub through_level_lem : {ws₃ part₄ : List ℕ} {at₃ : ℕ} (part₃ : List ℕ) → limit ≡ div binary64 maxw (whole_float 3) → found ≡ true
+    pub through_level_lem : {ws₃ part₄ : List ℕ} {words₃ : Words} (part₃ : List ℕ) → limit ≡ div binary64 maxw (whole_float 3) → found ≡ true
         → take n part₃ ≡ map (side_of (take n₁ part₂)) (places_at places₂ l n)
-        → Gives n draws (fm (graph_at ws₂ weights₂ vw₂ l m n) maxw 4 (take n part₃) (words_at draws at₂)) ws₂ ws₃ part₄ at₃
-        → Through l m n maxw draws at at₃ ws weights vw places ws₃ weights₂ vw₂ places₂ part₄
-    through_level_lem {ws₃} {part₄} {at₃} part₃ third f e g =
+        → Gives n (fm (graph_at ws₂ weights₂ vw₂ l m n) maxw 4 (take n part₃) words₂) ws₂ ws₃ part₄ words₃
+        → Through l m n maxw words words₃ ws weights vw places ws₃ weights₂ vw₂ places₂ part₄
+    through_level_lem {ws₃} {part₄} {words₃} part₃ third f e g =
         record {
-          same = λ fuel b. g.given ∙ (λ i. fm (back_graph i) maxw 4 ((e ∙ ap (map (side_of (take n₁ part₂))) back_places) i) (words_at draws at₂)) ∙ deeper fuel b;
+          same = λ fuel b. g.given ∙ (λ i. fm (back_graph i) maxw 4 ((e ∙ ap (map (side_of (take n₁ part₂))) back_places) i) words₂) ∙ deeper fuel b;
           bits = g.bits;
           kept = keeps_graph l ws weights vw places ws₂ weights₂ vw₂ places₂ ws₃ h.low back_kept g.kept;
         }
       where
-        deeper : (fuel : ℕ) → n ≤ fuel → refined_from here maxw next (drawn (take n₁ part₂) (words_at draws at₂)) ≡ multilevel fuel maxw here (words_at draws at)
+        deeper : (fuel : ℕ) → n ≤ fuel → refined_from here maxw next (drawn (take n₁ part₂) words₂) ≡ multilevel fuel maxw here words
         deeper zero b = absurd (omega (arith, h.some_left))
         deeper (suc fuel) b =
             ap (refined_from here maxw next) (t.same fuel (omega (arith, fewer_there f)))
-            ∙ one_deeper maxw here (words_at draws at) (words_at draws at₁) next found fuel (omega (arith, count_here)) f (level_is maxw third)
+            ∙ one_deeper maxw here words words₁ next found fuel (omega (arith, count_here)) f (level_is maxw third)
 
 -- ---- a level that may be left as it is ----
 
@@ -204,17 +203,17 @@ record Held : Type 0 where
   weights : List ℕ
   vw : List Float
   places : List ℕ
-  at : ℕ
+  words : Words
 
-module _ {l m n : ℕ} {limit : Float} {draws : List ℕ} {at at₁ : ℕ} {ws weights : List ℕ} {vw : List Float} {places ws₁ weights₁ : List ℕ} {vw₁ : List Float} {places₁ : List ℕ}
-    {found : Bool} {m₁ n₁ : ℕ} (t : Tried l m n limit draws at at₁ ws weights vw places ws₁ weights₁ vw₁ places₁ found m₁ n₁)
+module _ {l m n : ℕ} {limit : Float} {words words₁ : Words} {ws weights : List ℕ} {vw : List Float} {places ws₁ weights₁ : List ℕ} {vw₁ : List Float} {places₁ : List ℕ}
+    {found : Bool} {m₁ n₁ : ℕ} (t : Tried l m n limit words words₁ ws weights vw places ws₁ weights₁ vw₁ places₁ found m₁ n₁)
     (h : Stage ws (length weights) (length vw) (length places) l m n) where
   abbrev Here : Type 0
-  Here = Tried l m n limit draws at at₁ ws weights vw places ws₁ weights₁ vw₁ places₁ found m₁ n₁
+  Here = Tried l m n limit words words₁ ws weights vw places ws₁ weights₁ vw₁ places₁ found m₁ n₁
 
-  all_same : at₁ ≡ at → ws₁ ≡ ws → weights₁ ≡ weights → vw₁ ≡ vw → places₁ ≡ places
-      → ◌≡◌ {A = Held} (record { ws = ws₁; weights = weights₁; vw = vw₁; places = places₁; at = at₁ }) (record { ws = ws; weights = weights; vw = vw; places = places; at = at })
-  all_same ea e₁ e₂ e₃ e₄ i = record { ws = e₁ i; weights = e₂ i; vw = e₃ i; places = e₄ i; at = ea i }
+  all_same : words₁ ≡ words → ws₁ ≡ ws → weights₁ ≡ weights → vw₁ ≡ vw → places₁ ≡ places
+      → ◌≡◌ {A = Held} (record { ws = ws₁; weights = weights₁; vw = vw₁; places = places₁; words = words₁ }) (record { ws = ws; weights = weights; vw = vw; places = places; words = words })
+  all_same ea e₁ e₂ e₃ e₄ i = record { ws = e₁ i; weights = e₂ i; vw = e₃ i; places = e₄ i; words = ea i }
 
   pub tried_stage : Stage ws₁ (length weights₁) (length vw₁) (length places₁) l m n
   tried_stage = go t
@@ -225,23 +224,23 @@ module _ {l m n : ℕ} {limit : Float} {draws : List ℕ} {at at₁ : ℕ} {ws w
       go (is_more b d) = stage_after d h b
 
   -- a level was found
-  pub tried_more : found ≡ true → (48 < n) × Deeper l m n limit draws at at₁ ws weights vw places ws₁ weights₁ vw₁ places₁ found m₁ n₁
+  pub tried_more : found ≡ true → (48 < n) × Deeper l m n limit words words₁ ws weights vw places ws₁ weights₁ vw₁ places₁ found m₁ n₁
   tried_more e = go t
     where
-      go : Here → (48 < n) × Deeper l m n limit draws at at₁ ws weights vw places ws₁ weights₁ vw₁ places₁ found m₁ n₁
+      go : Here → (48 < n) × Deeper l m n limit words words₁ ws weights vw places ws₁ weights₁ vw₁ places₁ found m₁ n₁
       go (is_few b f ea e₁ e₂ e₃ e₄) = clash e f
       go (is_more b d) = (b, d)
 
   -- none was
-  pub tried_none : (maxw : Float) → limit ≡ div binary64 maxw (whole_float 3) → {ws₂ part' : List ℕ} {at₂ : ℕ} → found ≡ false
-      → Gives n draws (initial (graph_at ws₁ weights₁ vw₁ l m n) maxw (words_at draws at₁)) ws₁ ws₂ part' at₂
-      → Through l m n maxw draws at at₂ ws weights vw places ws₂ weights₁ vw₁ places₁ part'
-  tried_none maxw third {ws₂} {part'} {at₂} f g = go t
+  pub tried_none : (maxw : Float) → limit ≡ div binary64 maxw (whole_float 3) → {ws₂ part' : List ℕ} {words₂ : Words} → found ≡ false
+      → Gives n (initial (graph_at ws₁ weights₁ vw₁ l m n) maxw words₁) ws₁ ws₂ part' words₂
+      → Through l m n maxw words words₂ ws weights vw places ws₂ weights₁ vw₁ places₁ part'
+  tried_none maxw third {ws₂} {part'} {words₂} f g = go t
     where
-      go : Here → Through l m n maxw draws at at₂ ws weights vw places ws₂ weights₁ vw₁ places₁ part'
+      go : Here → Through l m n maxw words words₂ ws weights vw places ws₂ weights₁ vw₁ places₁ part'
       go (is_few b f' ea e₁ e₂ e₃ e₄) =
-          subst (λ (x : Held). Through l m n maxw draws x.at at₂ x.ws x.weights x.vw x.places ws₂ weights₁ vw₁ places₁ part') (all_same ea e₁ e₂ e₃ e₄)
-          (through_small l m n maxw draws at₁ ws₁ weights₁ vw₁ places₁ tried_stage ws₂ part' at₂ b g)
+          subst (λ (x : Held). Through l m n maxw x.words words₂ x.ws x.weights x.vw x.places ws₂ weights₁ vw₁ places₁ part') (all_same ea e₁ e₂ e₃ e₄)
+          (through_small l m n maxw words₁ ws₁ weights₁ vw₁ places₁ tried_stage ws₂ part' words₂ b g)
       go (is_more b d) = through_none d h b maxw third f g
 
 -- ---- level 0 ----
@@ -258,16 +257,16 @@ first_level ws weights vw m n b =
     ap (λ (k : ℕ). graph_in ws 0 (take 256 weights) m (take k vw)) z ∙ graph_front ws 0 weights 256 m (take n vw) b
 
 -- THE HYPERGRAPH, HALVED
-pub halved : {m n : ℕ} {maxw : Float} {draws : List ℕ} {at at' : ℕ} {ws weights : List ℕ} {vw : List Float} {places ws' weights' : List ℕ} {vw' : List Float} {places' part' : List ℕ}
+pub halved : {m n : ℕ} {maxw : Float} {words words' : Words} {ws weights : List ℕ} {vw : List Float} {places ws' weights' : List ℕ} {vw' : List Float} {places' part' : List ℕ}
     (eps total : Float) → Stage ws (length weights) (length vw) (length places) 0 m n → length part' ≡ n → total ≡ fold_over summed (take n vw) zero_float → maxw ≡ side_limit total eps
-    → Through 0 m n maxw draws at at' ws weights vw places ws' weights' vw' places' part'
-    → (drawn part' (words_at draws at') ≡ bisect (graph_in ws 0 weights m (take n vw)) eps (words_at draws at)) × Bits part'
+    → Through 0 m n maxw words words' ws weights vw places ws' weights' vw' places' part'
+    → (drawn part' words' ≡ bisect (graph_in ws 0 weights m (take n vw)) eps words) × Bits part'
 unfolding bisect graph_in
-halved {m} {n} {maxw} {draws} {at} {at'} {ws} {weights} {vw} {places} {part' = part'} eps total h long et em t =
+halved {m} {n} {maxw} {words} {words'} {ws} {weights} {vw} {places} {part' = part'} eps total h long et em t =
     let z : take n part' ≡ part' = take_all n part' (omega arith) in
     let k : length (take n vw) ≡ n = length-take-le n vw (front_fits ws (length weights) (length vw) (length places) m n h) in (
-      ap (λ (p : List ℕ). drawn p (words_at draws at')) (sym z)
+      ap (λ (p : List ℕ). drawn p words') (sym z)
           ∙ t.same (length (take n vw)) (omega arith)
-          ∙ (λ i. multilevel (length (take n vw)) ((em ∙ ap (λ (x : Float). side_limit x eps) et) i) (first_level ws weights vw m n h.mesh.few.0 i) (words_at draws at)),
+          ∙ (λ i. multilevel (length (take n vw)) ((em ∙ ap (λ (x : Float). side_limit x eps) et) i) (first_level ws weights vw m n h.mesh.few.0 i) words),
       subst Bits z t.bits,
     )

@@ -1,25 +1,19 @@
 // Parts of bisection that call no partition: the imbalance, small ends, the node over two halves.
-ghost use Rattle.std.specs.Prelude.{List, ◌≡◌, ◌<◌, ◌≤◌, max};
+ghost use Rattle.std.specs.Prelude.{List, ◌≡◌, ◌+◌, ◌<◌, ◌≤◌, length, max};
 ghost use Rattle.spec.specs.Network.{Network as Net};
 ghost use Rattle.spec.specs.Tree.{Pair};
 ghost use Rattle.spec.specs.Bisection.{imbalance};
 ghost use Rattle.slots.specs.Weigh.{Light};
 ghost use Rattle.greedynodes.specs.Begin.{Fits, Asks};
-ghost use Rattle.bisect.specs.Cases.{Unsplit, Joins};
+ghost use Rattle.merging.specs.Merge.{with_node};
+ghost use Rattle.bisect.specs.Cases.{Small, Unsplit};
 
+use draws::Draws;
 use merging::REFUSED;
+use network::Accepted;
+use spec::Refusal;
 
-// The answer where a draw was due past the end of the words.
-pub const EXHAUSTED: usize = 65537;
-
-// The top of what was built over some leaves, or REFUSED, or EXHAUSTED; and the cursor into the words.
-#[derive(Clone, Copy)]
-pub struct Half {
-    pub top: usize,
-    pub at: usize,
-}
-
-// The imbalance, given in thousandths: at least 0.001 and at most 0.9.
+/// The imbalance, given in thousandths: at least 0.001 and at most 0.9.
 pub fn imbalance(i: usize) -> f64
     requires { i ≤ 1000 }
     ensures { result ≡ imbalance i }
@@ -34,51 +28,66 @@ pub fn imbalance(i: usize) -> f64
     x
 }
 
-// The most leaves of a small end.
+/// The most leaves of a small end.
 pub fn small(cutoff: usize) -> usize
     ensures { result ≡ max cutoff 2 }
 {
-    if cutoff < 2 { 2 } else { cutoff }
+    cutoff.max(2)
 }
 
-// Greedy over leaves that are not halved, or EXHAUSTED.
-pub fn unsplit(
+/// Greedy over the leaves of a small end, onto the array of `count` nodes. Returns the top of what is built.
+pub fn small_end(
     ws: &mut [u64],
-    weights: &[u8],
-    n: usize,
-    counts: &[u8],
-    legs: &[u16],
-    outputs: &[u16],
+    network: &Accepted,
     leaves: &[u16],
-    draws: &[u64],
-    at: usize,
     kids: &mut [u16],
     count: usize,
-) -> Half
-    requires { Fits 4 n count weights.now outputs.now leaves.now ws.old × Light weights.now }
-    ensures cursor_stays { result.at ≡ at }
-    ensures unsplit { (N : Net) (a : List Pair) → Asks N a n count weights.now counts.now legs.now outputs.now leaves.now kids.old → Unsplit N a leaves.now draws.now at kids.old kids.new result.top }
+) -> Result<u16, Refusal>
+    requires { Fits 4 (length network.now.leg_counts.now) count network.now.weights.now network.now.outputs.now leaves.now ws.old × Light network.now.weights.now }
+    ensures { (N : Net) (a : List Pair) → Asks N a (length network.now.leg_counts.now) count network.now.weights.now network.now.leg_counts.now network.now.legs.now network.now.outputs.now leaves.now kids.old → Small N a leaves.now kids.old kids.new result }
 {
-    if draws::is_exhausted(draws, at) {
-        return Half { top: EXHAUSTED, at };
-    }
     let top = greedynodes::greedy_nodes(
-        ws, 4, weights, n, counts, legs, outputs, leaves, kids, count,
+        ws,
+        4,
+        network.weights,
+        network.leg_counts.len(),
+        network.leg_counts,
+        network.legs,
+        network.outputs,
+        leaves,
+        kids,
+        count,
     );
-    Half { top, at }
+    if REFUSED <= top {
+        return Err(Refusal::TableTooWide);
+    }
+    Ok(top as u16)
 }
 
-// The node over the tops of two halves, at place `count` of the array; a refusal of the right one is handed on.
-pub fn join_halves(n: usize, kids: &mut [u16], count: usize, left: usize, right: Half) -> Half
-    requires { (left < 65536) × (n ≤ 256) × (count ≤ 4096) }
-    ensures { Joins n kids.old kids.new count left right.top right.at result.top result.at }
+/// The same over leaves that were to be halved and are not: refused where a draw was due past the end of the words.
+pub fn unsplit(
+    ws: &mut [u64],
+    network: &Accepted,
+    leaves: &[u16],
+    draws: &Draws,
+    kids: &mut [u16],
+    count: usize,
+) -> Result<u16, Refusal>
+    requires { Fits 4 (length network.now.leg_counts.now) count network.now.weights.now network.now.outputs.now leaves.now ws.old × Light network.now.weights.now }
+    ensures { (N : Net) (a : List Pair) → Asks N a (length network.now.leg_counts.now) count network.now.weights.now network.now.leg_counts.now network.now.legs.now network.now.outputs.now leaves.now kids.old → Unsplit N a leaves.now draws.now kids.old kids.new result }
 {
-    if REFUSED <= right.top {
-        return right;
+    if draws.is_exhausted() {
+        return Err(Refusal::DrawsExhausted);
     }
-    merging::put_node(kids, count, left as u16, right.top as u16);
-    Half {
-        top: n + count,
-        at: right.at,
-    }
+    small_end(ws, network, leaves, kids, count)
+}
+
+/// The node over the tops of two halves, at place `count` of the array of a tree of `n` leaves.
+pub fn join_halves(n: usize, kids: &mut [u16], count: usize, left: u16, right: u16) -> u16
+    requires { (n ≤ 256) × (count ≤ 4096) }
+    ensures node { kids.new ≡ with_node kids.old count left right }
+    ensures top { result ≡ n + count }
+{
+    merging::put_node(kids, count, left, right);
+    (n + count) as u16
 }

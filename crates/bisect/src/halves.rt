@@ -1,5 +1,5 @@
 // The two halves of a list of leaves, by a partition.
-ghost use Rattle.std.specs.Prelude.{◌++◌, ◌≡◌, ◌<◌, ◌≤◌, length, get_or};
+ghost use Rattle.std.specs.Prelude.{◌++◌, ◌≡◌, ◌<◌, ◌≤◌, length};
 ghost use Rattle.spec.specs.Memory.{over};
 ghost use Rattle.spec.specs.Bisection.{members_at, left_half, right_half};
 ghost use Rattle.bisect.specs.Picks.{on_side, place_after, put_at};
@@ -8,20 +8,20 @@ ghost use Rattle.bisect.specs.Picks.{on_side, place_after, put_at};
 fn is_on(part: &[u8], v: usize, left: bool) -> bool
     ensures { result ≡ on_side left part.now v }
 {
-    let side = cells::get8(part, v);
+    let side = cells::get_or(part, v, 0);
     if left {
         return side == 0;
     }
     side != 0
 }
 
-// Puts leaf `v` at place `k` if it is on the side that is asked for. Returns the next free place.
-fn pick_leaf(out: &mut [u16], k: usize, leaves: &[u16], part: &[u8], v: usize, left: bool) -> usize
+// Puts the leaf at place `v` of the list at place `k` if it is on the side that is asked for. Returns the next free place.
+fn pick_leaf(out: &mut [u16], k: usize, leaf: u16, part: &[u8], v: usize, left: bool) -> usize
     requires { k < 1048576 }
-    ensures { (result ≡ place_after (on_side left part.now v) k) × (out.new ≡ put_at (on_side left part.now v) out.old k (get_or leaves.now v 0)) }
+    ensures { (result ≡ place_after (on_side left part.now v) k) × (out.new ≡ put_at (on_side left part.now v) out.old k leaf) }
 {
     if is_on(part, v, left) {
-        cells::put16(out, k, cells::get16(leaves, v));
+        cells::put(out, k, leaf);
         return k + 1;
     }
     k
@@ -33,19 +33,19 @@ fn pick(out: &mut [u16], leaves: &[u16], part: &[u8], left: bool) -> usize
     ensures { (result ≡ length (members_at (on_side left part.now) 0 leaves.now)) × (out.new ≡ over out.old (members_at (on_side left part.now) 0 leaves.now)) }
 {
     let mut k: usize = 0;
-    for v in 0..leaves.len() {
-        k = pick_leaf(out, k, leaves, part, v, left);
+    for (v, &leaf) in leaves.iter().enumerate() {
+        k = pick_leaf(out, k, leaf, part, v, left);
     }
     k
 }
 
-// Puts the leaves of side 0 before the others, each in their order, and returns how many are on side 0. The list `others` is for a copy.
+/// Puts the leaves of side 0 before the others, each in their order, and returns how many are on side 0. The list `others` is for a copy.
 pub fn halve(leaves: &mut [u16], part: &[u8], others: &mut [u16]) -> usize
     requires { (length leaves.old ≤ length others.old) × (length leaves.old ≤ 65536) }
     ensures { (result ≡ length (left_half part.now leaves.old)) × (leaves.new ≡ left_half part.now leaves.old ++ right_half part.now leaves.old) }
 {
     let n = leaves.len();
-    cells::copy16(others, leaves, n);
+    cells::copy(others, leaves, n);
     let left = pick(leaves, &others[..n], part, true);
     pick(&mut leaves[left..], &others[..n], part, false);
     left

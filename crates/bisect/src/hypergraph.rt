@@ -1,52 +1,55 @@
 // The hypergraph of some leaves of a network: a vertex for each, and the indices that two or more of them name as nets.
 ghost use Rattle.std.specs.Prelude.{◌≡◌, ◌+◌, ◌*◌, ◌<◌, ◌≤◌, length};
-ghost use Rattle.spec.specs.Network.{Network};
+ghost use Rattle.spec.specs.Network.{Network as Net};
 ghost use Rattle.bisect.specs.Raw.{leaf_put, raw};
 ghost use Rattle.bisect.specs.Whole.{Names, IsOf};
 
-// Puts `v` into the slot of each index that leaf `l` names.
-fn put_leaf(graph: &mut [u64], nets: usize, counts: &[u8], legs: &[u16], l: usize, v: usize)
-    requires { (nets < 32768) × (l < 65536) }
-    ensures { graph.new ≡ leaf_put nets counts.now legs.now l v graph.old }
-{
-    mesh::put_into(graph, 2, nets, legs, l * 32, cells::at8(counts, l), v);
-}
+use coarsen::Slots;
+use network::Accepted;
+use partition::Place;
 
-// Makes the slot of each index the set of the leaves that name it, by their numbers in the list.
-fn put_leaves(graph: &mut [u64], nets: usize, counts: &[u8], legs: &[u16], leaves: &[u16])
-    requires { (nets < 32768) × (length leaves.now ≤ 128) }
-    ensures { graph.new ≡ raw nets counts.now legs.now leaves.now graph.old (length leaves.now) }
+// Puts `v` into the slot of each index that leaf `l` names.
+fn put_leaf(words: &mut [u64], nets: usize, network: &Accepted, l: usize, v: usize)
+    requires { (nets < 32768) × (l < 65536) }
+    ensures { words.new ≡ leaf_put nets network.now.leg_counts.now network.now.legs.now l v words.old }
 {
-    mesh::empty_all(graph, 2, nets, 256);
-    for v in 0..leaves.len() {
-        put_leaf(graph, nets, counts, legs, cells::at16(leaves, v), v);
+    let first = l * 32;
+    for k in 0..cells::at8(network.leg_counts, l) {
+        slots::insert(words, 2, nets + cells::at16(network.legs, first + k), v);
     }
 }
 
-// The hypergraph of `leaves`, at `nets` and `vertices`, with `weights2` and `vw`. Returns how many nets it has.
+// Makes the slot of each index the set of the leaves that name it, by their numbers in the list.
+fn put_leaves(words: &mut [u64], nets: usize, network: &Accepted, leaves: &[u16])
+    requires { (nets < 32768) × (length leaves.now ≤ 128) }
+    ensures { words.new ≡ raw nets network.now.leg_counts.now network.now.legs.now leaves.now words.old (length leaves.now) }
+{
+    mesh::empty_all(words, 2, nets, 256);
+    for (v, &l) in leaves.iter().enumerate() {
+        put_leaf(words, nets, network, usize::from(l), v);
+    }
+}
+
+/// The hypergraph of `leaves`, in slots of its own, with `weights2` and `vw`. Returns how many nets it has.
 pub fn hypergraph_of(
-    graph: &mut [u64],
-    nets: usize,
-    vertices: usize,
-    weights: &[u8],
-    counts: &[u8],
-    legs: &[u16],
+    words: &mut [u64],
+    slots: Slots,
+    network: &Accepted,
     leaves: &[u16],
     weights2: &mut [u8],
     vw: &mut [f64],
 ) -> usize
-    requires { (length weights.now ≤ 256) × (length leaves.now ≤ 128) × (length vw.old ≡ length leaves.now) × (length weights.now ≤ length weights2.old) × (nets + 256 ≤ vertices * 2) × ((vertices + 128) * 4 ≤ length graph.old) × (nets < 32768) × (vertices < 32768) }
-    ensures { (N : Network) → Names N weights.now counts.now legs.now leaves.now → IsOf N leaves.now graph.old nets vertices (length weights.now) graph.new weights2.new result vw.new }
+    requires { (length network.now.weights.now ≤ 256) × (length leaves.now ≤ 128) × (length vw.old ≡ length leaves.now) × (length network.now.weights.now ≤ length weights2.old) × (slots.nets + 256 ≤ slots.vertices * 2) × ((slots.vertices + 128) * 4 ≤ length words.old) × (slots.nets < 32768) × (slots.vertices < 32768) }
+    ensures { (N : Net) → Names N network.now.weights.now network.now.leg_counts.now network.now.legs.now leaves.now → IsOf N leaves.now words.old slots.nets slots.vertices (length network.now.weights.now) words.new weights2.new result vw.new }
 {
-    put_leaves(graph, nets, counts, legs, leaves);
-    cells::fillf(vw, 1.0);
-    mesh::mesh(
-        graph,
-        nets,
-        vertices,
-        weights.len(),
-        leaves.len(),
-        weights,
-        weights2,
-    )
+    put_leaves(words, slots.nets, network, leaves);
+    cells::fill(vw, 1.0);
+    let place = Place {
+        nets: slots.nets,
+        vertices: slots.vertices,
+        sides: 14336,
+        net_count: network.weights.len(),
+        vertex_count: leaves.len(),
+    };
+    mesh::mesh(words, &place, network.weights, weights2)
 }

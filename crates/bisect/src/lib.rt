@@ -3,9 +3,9 @@
 ghost use Rattle.std.specs.Prelude.{◌≡◌, ◌≤◌, length, take};
 ghost use Rattle.spec.specs.Draws.{drawn};
 ghost use Rattle.spec.specs.Bisection.{bisect};
-ghost use Rattle.draws.specs.Cursor.{words_at};
 ghost use Rattle.partition.specs.Layout.{graph_in};
 ghost use Rattle.moves.specs.Laying.{Bits};
+ghost use Rattle.levels.specs.Lists.{IsSameLoan};
 ghost use Rattle.levels.specs.Stage.{Stage};
 ghost use Rattle.bisect.specs.Through.{Through};
 
@@ -13,99 +13,49 @@ pub mod ends; // ends.rt: the imbalance, small ends, the node over two halves
 pub mod halves; // halves.rt: the two halves of a list of leaves, by a partition
 pub mod hypergraph; // hypergraph.rt: the hypergraph of some leaves
 
-// A partition of level `level`, at the front of the list, through coarser levels and back. It falls with the number of vertices.
-// Returns the cursor.
+use coarsen::Size;
+use draws::Draws;
+use levels::Levels;
+
+// A partition of a level, at the front of the list, through coarser levels and back. It falls with the number of vertices.
 fn multilevel(
-    graph: &mut [u64],
+    words: &mut [u64],
+    lists: &mut Levels,
     level: usize,
-    m: usize,
-    n: usize,
-    weights: &mut [u8],
-    vw: &mut [f64],
-    maxw: f64,
-    draws: &[u64],
-    at: usize,
+    size: Size,
+    most_weight: f64,
+    draws: &mut Draws,
     part: &mut [u8],
-    places: &mut [u16],
-) -> usize
-    requires { Stage graph.old (length weights.old) (length vw.old) (length places.old) level m n × (n ≤ length part.old) }
-    ensures { Through level m n maxw draws.now at result graph.old weights.old vw.old places.old graph.new weights.new vw.new places.new part.new }
+)
+    requires { Stage words.old (length lists.old.net_weights.now) (length lists.old.vertex_weights.now) (length lists.old.places.now) level size.nets size.vertices × (size.vertices ≤ length part.old) }
+    ensures lent { IsSameLoan lists.old lists.new }
+    ensures through { Through level size.nets size.vertices most_weight draws.old draws.new words.old lists.old.net_weights.now lists.old.vertex_weights.now lists.old.places.now words.new lists.new.net_weights.now lists.new.vertex_weights.now lists.new.places.now part.new }
 {
-    let c = levels::coarsen_at(
-        graph,
-        level,
-        m,
-        n,
-        weights,
-        vw,
-        maxw / 3.0,
-        draws,
-        at,
-        places,
-    );
-    let cursor = c.at;
-    if !c.found {
-        return levels::initial_at(
-            graph,
-            level,
-            m,
-            n,
-            weights,
-            vw,
-            maxw,
-            draws,
-            cursor,
-            part,
-            places.len(),
-        );
+    match levels::coarsen_at(words, lists, level, size, most_weight / 3.0, draws) {
+        None => levels::initial_at(words, lists, level, size, most_weight, draws, part),
+        Some(coarse) => {
+            multilevel(words, lists, level + 1, coarse, most_weight, draws, part);
+            levels::project_at(part, lists, level, size.vertices, coarse.vertices);
+            levels::refine_at(words, lists, level, size, most_weight, draws, part);
+        }
     }
-    let coarse = c.vertices;
-    let back = multilevel(
-        graph,
-        level + 1,
-        c.nets,
-        coarse,
-        weights,
-        vw,
-        maxw,
-        draws,
-        cursor,
-        part,
-        places,
-    );
-    levels::project_at(part, level, n, coarse, places);
-    levels::refine_at(
-        graph,
-        level,
-        m,
-        n,
-        weights,
-        vw,
-        maxw,
-        draws,
-        back,
-        part,
-        places.len(),
-    )
 }
 
-// Halves the hypergraph of level 0. Returns the cursor.
+/// Halves the hypergraph of level 0.
 pub fn bisect(
-    graph: &mut [u64],
-    m: usize,
-    n: usize,
-    weights: &mut [u8],
-    vw: &mut [f64],
+    words: &mut [u64],
+    lists: &mut Levels,
+    size: Size,
     eps: f64,
-    draws: &[u64],
-    at: usize,
+    draws: &mut Draws,
     part: &mut [u8],
-    places: &mut [u16],
-) -> usize
-    requires { Stage graph.old (length weights.old) (length vw.old) (length places.old) 0 m n × (length part.old ≡ n) }
-    ensures { (drawn part.new (words_at draws.now result) ≡ bisect (graph_in graph.old 0 weights.old m (take n vw.old)) eps (words_at draws.now at)) × Bits part.new }
+)
+    requires { Stage words.old (length lists.old.net_weights.now) (length lists.old.vertex_weights.now) (length lists.old.places.now) 0 size.nets size.vertices × (length part.old ≡ size.vertices) }
+    ensures lent { IsSameLoan lists.old lists.new }
+    ensures halved { drawn part.new draws.new ≡ bisect (graph_in words.old 0 lists.old.net_weights.now size.nets (take size.vertices lists.old.vertex_weights.now)) eps draws.old }
+    ensures sides { Bits part.new }
 {
-    let total = levels::total_weight(&vw[..n]);
-    let maxw = levels::side_limit(total, eps);
-    multilevel(graph, 0, m, n, weights, vw, maxw, draws, at, part, places)
+    let total = levels::front_weight(lists, size.vertices);
+    let most_weight = levels::side_limit(total, eps);
+    multilevel(words, lists, 0, size, most_weight, draws, part);
 }

@@ -9,7 +9,7 @@ use Rattle.std.specs.Float.Ieee.{mul, lt}
 use Rattle.std.proofs.Math.Decide.{dec_le}
 use Rattle.spec.specs.Lists.{memb, keep, range}
 use Rattle.spec.specs.Floats.{zero_float, whole_float, decimal}
-use Rattle.spec.specs.Draws.{Drawn, drawn}
+use Rattle.spec.specs.Draws.{Words, Drawn, drawn}
 use Rattle.spec.specs.Hypergraph.{Net, nets≥2}
 use Rattle.spec.specs.Coarsen.{Level, matching, level_of, worthwhile, coarsen}
 use Rattle.laws.specs.Booleans.{by_cases, or_cases, or_intror, clash}
@@ -19,7 +19,6 @@ use Rattle.network.specs.Layouts.{map-range_ext, firsts-take}
 use Rattle.slots.specs.Slots.{held}
 use Rattle.slots.specs.Rising.{rising_of}
 use Rattle.partition.specs.Layout.{net_in, graph_in}
-use Rattle.draws.specs.Cursor.{words_at}
 use Rattle.matching.specs.Meshed.{Meshed}
 use Rattle.mesh.specs.Stays.{Stays, stays_then, stays_wider}
 use Rattle.mesh.specs.Fronts.{rising_front}
@@ -138,25 +137,25 @@ enough n left = lt (mul binary64 (decimal 95 100) (whole_float n)) (whole_float 
 abbrev pub level_if : Bool → Level → Option Level
 level_if found l = cond found (Some l) None
 
-module _ (ws : List ℕ) (nets : ℕ) (weights : List ℕ) (m : ℕ) (vw : List Float) (maxw : Float) (words mates : List ℕ) (at at' : ℕ)
-    (e : drawn mates (words_at words at') ≡ matching (graph_in ws nets weights m vw) maxw (words_at words at)) where
+module _ (ws : List ℕ) (nets : ℕ) (weights : List ℕ) (m : ℕ) (vw : List Float) (maxw : Float) (words words' : Words) (mates : List ℕ)
+    (e : drawn mates words' ≡ matching (graph_in ws nets weights m vw) maxw words) where
   pub drawn_paired : 0 < length vw → Paired (length vw) mates
   unfolding graph_in
   drawn_paired b =
       mutual_paired (length vw) mates
-      (subst (λ (d : Drawn (List ℕ)). Mutual (length vw) d.value) (sym e) (mutual_matching (graph_in ws nets weights m vw) maxw (words_at words at) b))
+      (subst (λ (d : Drawn (List ℕ)). Mutual (length vw) d.value) (sym e) (mutual_matching (graph_in ws nets weights m vw) maxw words b))
 
   -- COARSENED
   pub coarsened : (ws' : List ℕ) (nets₂ : ℕ) (weights' : List ℕ) (m' : ℕ) (vw' : List Float) (n' : ℕ) (places' : List ℕ) (found : Bool)
       → level_in ws' nets₂ weights' m' vw' n' places' (length vw) ≡ level_of (graph_in ws nets weights m vw) maxw mates → length (take n' vw') ≡ n'
       → found ≡ not (enough (length vw) n')
-      → drawn (level_if found (level_in ws' nets₂ weights' m' vw' n' places' (length vw))) (words_at words at') ≡ coarsen (graph_in ws nets weights m vw) maxw (words_at words at)
+      → drawn (level_if found (level_in ws' nets₂ weights' m' vw' n' places' (length vw))) words' ≡ coarsen (graph_in ws nets weights m vw) maxw words
   unfolding coarsen enough graph_in
   coarsened ws' nets₂ weights' m' vw' n' places' found q el f =
       let G = graph_in ws nets weights m vw in
-      ap (λ b. drawn (level_if b l) (words_at words at')) (f ∙ ap (λ y. not (enough (length vw) y)) (sym el))
-      ∙ ap (λ o. drawn o (words_at words at')) (either (enough (length vw) (length (take n' vw'))))
-      ∙ ap (λ x. drawn (worthwhile G maxw x) (words_at words at')) q
+      ap (λ b. drawn (level_if b l) words') (f ∙ ap (λ y. not (enough (length vw) y)) (sym el))
+      ∙ ap (λ o. drawn o words') (either (enough (length vw) (length (take n' vw'))))
+      ∙ ap (λ x. drawn (worthwhile G maxw x) words') q
       ∙ ap (λ (d : Drawn (List ℕ)). drawn (worthwhile G maxw (level_of G maxw d.value)) d.words) e
     where
       l : Level

@@ -2,3 +2,4 @@ pub mod Pairs
 pub mod Joined
 pub mod Mapped
 pub mod Level
+pub mod Sizes

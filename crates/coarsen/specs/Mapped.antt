@@ -17,9 +17,8 @@ use Rattle.mesh.specs.Crossed.{among_all}
 abbrev pub images : List ℕ → List ℕ → List ℕ
 images places l = map (λ v. get_or places v 0) l
 
-pub image_at : (places l : List ℕ) (n k : ℕ) → k < n → n ≤ length l → get_or (images places (take n l)) (0 + k) 0 ≡ get_or places (get_or l k 0) 0
-image_at places l n k h b =
-    rw (zero-add k) (at (take n l) k (omega (arith, length-take-le n l b)) ∙ ap (λ (v : ℕ). get_or places v 0) (get_or-take n l k 0 h))
+pub image_at : (places l : List ℕ) (k : ℕ) → k < length l → get_or (images places l) (0 + k) 0 ≡ get_or places (get_or l k 0) 0
+image_at places l k h = rw (zero-add k) (at l k h)
   where
     at : (t : List ℕ) (k : ℕ) → k < length t → get_or (images places t) k 0 ≡ get_or places (get_or t k 0) 0
     at [] k h = absurd (omega arith)
@@ -27,11 +26,11 @@ image_at places l n k h b =
     at (x ∷ t) (suc k) h = at t k (omega arith)
 
 -- slot s holds the images of a list, put there after it was emptied
-pub images_put : (ws g r places pins l : List ℕ) (s len : ℕ) → len ≡ length l → take len pins ≡ l → g ≡ with_set ws 2 s (λ j. false)
-    → r ≡ with_set g 2 s (and_all g 2 s (images places (take len pins)) 0 len) → r ≡ with_set ws 2 s (λ j. memb j (images places l))
-images_put ws g r places pins l s len e f p q =
-    q ∙ ap (λ t. with_set g 2 s (and_all g 2 s (images places t) 0 len)) f
-    ∙ ap (λ (k : ℕ). with_set g 2 s (and_all g 2 s (images places l) 0 k)) (e ∙ sym (length-map l (λ v. get_or places v 0)))
+pub images_put : (ws g r places pins l : List ℕ) (s : ℕ) → pins ≡ l → g ≡ with_set ws 2 s (λ j. false)
+    → r ≡ with_set g 2 s (and_all g 2 s (images places pins) 0 (length pins)) → r ≡ with_set ws 2 s (λ j. memb j (images places l))
+images_put ws g r places pins l s f p q =
+    q ∙ ap (λ t. with_set g 2 s (and_all g 2 s (images places t) 0 (length t))) f
+    ∙ ap (λ (k : ℕ). with_set g 2 s (and_all g 2 s (images places l) 0 k)) (sym (length-map l (λ v. get_or places v 0)))
     ∙ with_set_ext g 2 s _ _ (λ j b. ap (λ t. held g 2 s j || t) (among_all (images places l) j))
     ∙ ap (λ t. with_set t 2 s (λ j. held t 2 s j || memb j (images places l))) p
     ∙ with_set_then ws 2 s (λ j. false) (λ j x. x || memb j (images places l))

@@ -1,18 +1,19 @@
 #![tactic(auto)]
 // A coarser hypergraph: a vertex for each pair of a matching and each vertex alone, the nets mapped to these.
 ghost use Rattle.std.specs.Prelude.{not, ◌≡◌, ◌+◌, ◌*◌, ◌<◌, ◌≤◌, length, take};
-ghost use Rattle.spec.specs.Draws.{drawn};
-ghost use Rattle.spec.specs.Coarsen.{coarsen};
 ghost use Rattle.slots.specs.Slots.{with_set};
 ghost use Rattle.slots.specs.Writes.{and_all};
-ghost use Rattle.draws.specs.Cursor.{words_at};
-ghost use Rattle.partition.specs.Layout.{graph_in};
 ghost use Rattle.matching.specs.Meshed.{Meshed};
 ghost use Rattle.mesh.specs.Compact.{Within};
 ghost use Rattle.coarsen.specs.Pairs.{Paired};
 ghost use Rattle.coarsen.specs.Joined.{weight_in, joined_of, joined_one, joined};
 ghost use Rattle.coarsen.specs.Mapped.{images, mapped_net, mapped};
-ghost use Rattle.coarsen.specs.Level.{Coarser, level_in, level_if, enough};
+ghost use Rattle.coarsen.specs.Level.{Coarser, enough};
+ghost use Rattle.coarsen.specs.Sizes.{ByTry, Made};
+
+use draws::Draws;
+use matching::Graph;
+use partition::{Layout, Place};
 
 // What `v` weighs with its mate.
 fn weight_of(vw: &[f64], mates: &[u16], v: usize) -> f64
@@ -62,14 +63,13 @@ fn join_all(vw: &[f64], mates: &[u16], places: &mut [u16], coarse: &mut [f64]) -
     c
 }
 
-// Puts the coarse vertices of the first `len` pins of a list into slot `s`.
-fn put_coarse(graph: &mut [u64], s: usize, places: &[u16], pins: &[u16], len: usize)
-    requires { (s < 1048576) × (len ≤ length pins.now) }
-    ensures { graph.new ≡ with_set graph.old 2 s (and_all graph.old 2 s (images places.now (take len pins.now)) 0 len) }
+// Puts the coarse vertices of the pins of a list into slot `s`.
+fn put_coarse(graph: &mut [u64], s: usize, places: &[u16], pins: &[u16])
+    requires { s < 1048576 }
+    ensures { graph.new ≡ with_set graph.old 2 s (and_all graph.old 2 s (images places.now pins.now) 0 (length pins.now)) }
 {
-    for k in 0..len {
-        let v = cells::at16(pins, k);
-        slots::insert(graph, 2, s, cells::at16(places, v));
+    for &v in pins {
+        slots::insert(graph, 2, s, cells::at16(places, usize::from(v)));
     }
 }
 
@@ -81,7 +81,7 @@ fn map_net(graph: &mut [u64], nets: usize, coarse: usize, places: &[u16], e: usi
     let mut pins = [0u16; 128];
     let len = slots::members(graph, 2, nets + e, &mut pins, 0);
     slots::empty(graph, 2, coarse + e);
-    put_coarse(graph, coarse + e, places, &pins, len);
+    put_coarse(graph, coarse + e, places, &pins[..len]);
 }
 
 // The same for each of `m` nets.
@@ -94,33 +94,43 @@ fn map_nets(graph: &mut [u64], nets: usize, coarse: usize, m: usize, places: &[u
     }
 }
 
-// How many nets and vertices a hypergraph has.
+/// How many nets and vertices a hypergraph has.
 #[derive(Clone, Copy)]
 pub struct Size {
     pub nets: usize,
     pub vertices: usize,
 }
 
-// The coarser hypergraph of a matching, at `nets2` and `vertices2`, with `weights2` and `vw2`, and the coarse vertex of each vertex in `places`.
+/// The slots in lent words at which the nets and the vertices of a hypergraph begin.
+#[derive(Clone, Copy)]
+pub struct Slots {
+    pub nets: usize,
+    pub vertices: usize,
+}
+
+// The coarser hypergraph of a matching, in slots of its own, with `weights2` and `vw2`, and the coarse vertex of each vertex in `places`.
 fn level(
-    graph: &mut [u64],
-    nets: usize,
-    m: usize,
-    weights: &[u8],
-    vw: &[f64],
+    words: &mut [u64],
+    layout: &Layout,
     mates: &[u16],
-    nets2: usize,
-    vertices2: usize,
+    slots: Slots,
     weights2: &mut [u8],
     vw2: &mut [f64],
     places: &mut [u16],
 ) -> Size
-    requires { (m ≤ 256) × (length vw.now ≤ 128) × Within graph.old nets m (length vw.now) × Paired (length vw.now) mates.now × (length vw.now ≤ length places.old) × (length vw.now ≤ length vw2.old) × (m ≤ length weights2.old) × (nets + 256 ≤ nets2) × (nets2 + 256 ≤ vertices2 * 2) × ((vertices2 + 128) * 4 ≤ length graph.old) × (nets2 < 32768) × (vertices2 < 32768) }
-    ensures { Coarser graph.old nets weights.now m vw.now mates.now nets2 vertices2 graph.new weights2.new result.nets vw2.new result.vertices places.new × (length (take result.vertices vw2.new) ≡ result.vertices) }
+    requires { (layout.now.net_count ≤ 256) × (length layout.now.vertex_weights.now ≤ 128) × Within words.old layout.now.nets layout.now.net_count (length layout.now.vertex_weights.now) × Paired (length layout.now.vertex_weights.now) mates.now × (length layout.now.vertex_weights.now ≤ length places.old) × (length layout.now.vertex_weights.now ≤ length vw2.old) × (layout.now.net_count ≤ length weights2.old) × (layout.now.nets + 256 ≤ slots.nets) × (slots.nets + 256 ≤ slots.vertices * 2) × ((slots.vertices + 128) * 4 ≤ length words.old) × (slots.nets < 32768) × (slots.vertices < 32768) }
+    ensures { Coarser words.old layout.now.nets layout.now.net_weights.now layout.now.net_count layout.now.vertex_weights.now mates.now slots.nets slots.vertices words.new weights2.new result.nets vw2.new result.vertices places.new × (length (take result.vertices vw2.new) ≡ result.vertices) }
 {
-    let n = join_all(vw, mates, places, vw2);
-    map_nets(graph, nets, nets2, m, places);
-    let k = mesh::mesh(graph, nets2, vertices2, m, n, weights, weights2);
+    let n = join_all(layout.vertex_weights, mates, places, vw2);
+    map_nets(words, layout.nets, slots.nets, layout.net_count, places);
+    let place = Place {
+        nets: slots.nets,
+        vertices: slots.vertices,
+        sides: layout.sides,
+        net_count: layout.net_count,
+        vertex_count: n,
+    };
+    let k = mesh::mesh(words, &place, layout.net_weights, weights2);
     Size {
         nets: k,
         vertices: n,
@@ -138,47 +148,30 @@ fn is_worthwhile(n: usize, left: usize) -> bool
     true
 }
 
-// How many nets and vertices the coarser hypergraph has, and whether it is worthwhile; the cursor.
-#[derive(Clone, Copy)]
-pub struct Coarse {
-    pub nets: usize,
-    pub vertices: usize,
-    pub found: bool,
-    pub at: usize,
-}
-
-// A coarser hypergraph, by a matching in a drawn order, at `nets2` and `vertices2`. The list `mates` is for the matching.
+/// A coarser hypergraph, by a matching in a drawn order, in slots of its own, with `weights2` and `vw2`, and the coarse vertex of each vertex in `places`. The
+/// list `mates` is for the matching. Returns how many nets and vertices the coarser hypergraph has; none where too many vertices are left.
 pub fn coarsen(
-    graph: &mut [u64],
-    nets: usize,
-    vertices: usize,
-    m: usize,
-    weights: &[u8],
-    vw: &[f64],
+    words: &mut [u64],
+    layout: &Layout,
     limit: f64,
-    words: &[u64],
-    at: usize,
-    nets2: usize,
-    vertices2: usize,
+    draws: &mut Draws,
+    slots: Slots,
     weights2: &mut [u8],
     vw2: &mut [f64],
     places: &mut [u16],
     mates: &mut [u16],
-) -> Coarse
-    requires { (nets < 32768) × (vertices < 32768) × (0 < length vw.now) × Meshed graph.old nets vertices m (length vw.now) × (length mates.old ≡ length vw.now) × Within graph.old nets m (length vw.now) × (length vw.now ≤ length places.old) × (length vw.now ≤ length vw2.old) × (m ≤ length weights2.old) × (nets + 256 ≤ nets2) × (nets2 + 256 ≤ vertices2 * 2) × ((vertices2 + 128) * 4 ≤ length graph.old) × (nets2 < 32768) × (vertices2 < 32768) }
-    ensures same { drawn (level_if result.found (level_in graph.new nets2 weights2.new result.nets vw2.new result.vertices places.new (length vw.now))) (words_at words.now result.at) ≡ coarsen (graph_in graph.old nets weights.now m vw.now) limit (words_at words.now at) }
-    ensures level { Coarser graph.old nets weights.now m vw.now mates.new nets2 vertices2 graph.new weights2.new result.nets vw2.new result.vertices places.new }
+) -> Option<Size>
+    requires { (layout.now.nets < 32768) × (layout.now.vertices < 32768) × (0 < length layout.now.vertex_weights.now) × Meshed words.old layout.now.nets layout.now.vertices layout.now.net_count (length layout.now.vertex_weights.now) × (length mates.old ≡ length layout.now.vertex_weights.now) × Within words.old layout.now.nets layout.now.net_count (length layout.now.vertex_weights.now) × (length layout.now.vertex_weights.now ≤ length places.old) × (length layout.now.vertex_weights.now ≤ length vw2.old) × (layout.now.net_count ≤ length weights2.old) × (layout.now.nets + 256 ≤ slots.nets) × (slots.nets + 256 ≤ slots.vertices * 2) × ((slots.vertices + 128) * 4 ≤ length words.old) × (slots.nets < 32768) × (slots.vertices < 32768) }
+    ensures { ByTry (λ found m n. Made words.old layout.now.nets layout.now.net_weights.now layout.now.net_count layout.now.vertex_weights.now limit draws.old draws.new mates.new slots.nets slots.vertices words.new weights2.new vw2.new places.new found m n) result }
 {
-    let cursor = matching::match_all(
-        graph, nets, vertices, m, weights, vw, limit, words, at, mates,
-    );
-    let size = level(
-        graph, nets, m, weights, vw, mates, nets2, vertices2, weights2, vw2, places,
-    );
-    Coarse {
-        nets: size.nets,
-        vertices: size.vertices,
-        found: is_worthwhile(vw.len(), size.vertices),
-        at: cursor,
+    let graph = Graph {
+        words,
+        layout: *layout,
+    };
+    matching::match_all(&graph, limit, draws, mates);
+    let size = level(words, layout, mates, slots, weights2, vw2, places);
+    if is_worthwhile(layout.vertex_weights.len(), size.vertices) {
+        return Some(size);
     }
+    None
 }

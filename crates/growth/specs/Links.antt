@@ -9,7 +9,6 @@ use Rattle.spec.specs.Draws.{Words, draw, unit_draw}
 use Rattle.spec.specs.Hypergraph.{fold_over}
 use Rattle.spec.specs.Bisection.{Strongest}
 use Rattle.slots.specs.Rising.{rising_of}
-use Rattle.draws.specs.Cursor.{words_at}
 
 abbrev pub strong_in : Float → Option ℕ → Words → Strongest
 strong_in link vertex ws = record { link = link; vertex = vertex; words = ws }
@@ -28,8 +27,8 @@ strongest_in part links n ws = fold_over (offered_in part links) (range n) (stro
 
 -- ---- one vertex, by the lists ----
 
-module _ (part : List ℕ) (links : List Float) (words : List ℕ) (u at next : ℕ) (noise g best : Float) (vertex : Option ℕ)
-    (en : noise ≡ (unit_draw (words_at words at)).value) (ew : words_at words next ≡ (draw (words_at words at)).words)
+module _ (part : List ℕ) (links : List Float) (ws ws' : Words) (u : ℕ) (noise g best : Float) (vertex : Option ℕ)
+    (en : noise ≡ (unit_draw ws).value) (ew : ws' ≡ (unit_draw ws).words)
     (eg : g ≡ get_or links u zero_float) where
   abbrev noisy : Float → Float → Float
   noisy x d = add binary64 x (mul binary64 micro d)
@@ -38,18 +37,18 @@ module _ (part : List ℕ) (links : List Float) (words : List ℕ) (u at next : 
   chosen x b ws = strong_in (cond b x best) (cond b (Some u) vertex) ws
 
   offered_by : (b : Bool) → lt best (noisy g noise) ≡ b → get_or part u 0 ≡ 0
-      → chosen (noisy g noise) b (words_at words next) ≡ offered_in part links u (strong_in best vertex (words_at words at))
+      → chosen (noisy g noise) b ws' ≡ offered_in part links u (strong_in best vertex ws)
   offered_by b e z =
-      ap (λ t. chosen (noisy g noise) t (words_at words next)) (sym e)
+      ap (λ t. chosen (noisy g noise) t ws') (sym e)
       ∙ (λ i. chosen (noisy (eg i) (en i)) (lt best (noisy (eg i) (en i))) (ew i))
-      ∙ sym (ap (λ t. cond t (chosen (noisy (get_or links u zero_float) (unit_draw (words_at words at)).value) (lt best (noisy (get_or links u zero_float) (unit_draw (words_at words at)).value)) (draw (words_at words at)).words) (strong_in best vertex (words_at words at))) (eq-eqb (get_or part u 0) 0 z))
+      ∙ sym (ap (λ t. cond t (chosen (noisy (get_or links u zero_float) (unit_draw ws).value) (lt best (noisy (get_or links u zero_float) (unit_draw ws).value)) (draw ws).words) (strong_in best vertex ws)) (eq-eqb (get_or part u 0) 0 z))
 
   pub offered_better : (x : Float) → x ≡ noisy g noise → lt best x ≡ true → get_or part u 0 ≡ 0
-      → strong_in x (Some u) (words_at words next) ≡ offered_in part links u (strong_in best vertex (words_at words at))
-  offered_better x ex p z = ap (λ x. strong_in x (Some u) (words_at words next)) ex ∙ offered_by true (ap (lt best) (sym ex) ∙ p) z
+      → strong_in x (Some u) ws' ≡ offered_in part links u (strong_in best vertex ws)
+  offered_better x ex p z = ap (λ x. strong_in x (Some u) ws') ex ∙ offered_by true (ap (lt best) (sym ex) ∙ p) z
 
   pub offered_weak : (x : Float) → x ≡ noisy g noise → lt best x ≡ false → get_or part u 0 ≡ 0
-      → strong_in best vertex (words_at words next) ≡ offered_in part links u (strong_in best vertex (words_at words at))
+      → strong_in best vertex ws' ≡ offered_in part links u (strong_in best vertex ws)
   offered_weak x ex p z = offered_by false (ap (lt best) (sym ex) ∙ p) z
 
 pub offered_other : (part : List ℕ) (links : List Float) (u : ℕ) (c : Strongest) → (get_or part u 0 ≡ 0 → ⊥) → c ≡ offered_in part links u c

@@ -12,10 +12,9 @@ use Rattle.spec.specs.Hypergraph.{Hypergraph, cut, vertex_count, vertex_weight}
 use Rattle.spec.specs.Fm.{fm}
 use Rattle.spec.specs.Bisection.{Growth, half, growth_turn, ended, grown, candidate}
 use Rattle.laws.specs.SideLaws.{cond_has, until_has}
-use Rattle.draws.specs.Cursor.{words_at}
-use Rattle.partition.specs.Layout.{graph_in}
+use Rattle.partition.specs.Layout.{graph_in, place}
 use Rattle.partition.specs.Cuts.{IsCutWeight}
-use Rattle.queue.specs.Enters.{Place, place}
+use Rattle.partition.specs.declared.place.Place.{Place}
 use Rattle.growth.specs.Grown.{part_grown}
 use Rattle.moves.specs.Kept.{Kept, graph_kept, Site}
 use Rattle.moves.specs.Split.{split_sides}
@@ -58,17 +57,17 @@ module _ (G : Hypergraph) where
 
 -- ---- a try ----
 
-pub record Tried (weights : List ℕ) (vw : List Float) (o : Place) (maxw : Float) (draws ws ws' part : List ℕ) (at at' : ℕ) (c : Float) : Type 0 where
-  pub made : drawn part (words_at draws at') ≡ candidate (graph_in ws o.nets weights o.m vw) maxw (words_at draws at)
-  pub weight : c ≡ cut (graph_in ws o.nets weights o.m vw) part
+pub record Tried (weights : List ℕ) (vw : List Float) (o : Place) (maxw : Float) (words words' : Words) (ws ws' part : List ℕ) (c : Float) : Type 0 where
+  pub made : drawn part words' ≡ candidate (graph_in ws o.nets weights o.net_count vw) maxw words
+  pub weight : c ≡ cut (graph_in ws o.nets weights o.net_count vw) part
   pub bits : Bits part
   pub kept : Kept (o.sides * 2) ws ws'
 
-pub tried : (weights : List ℕ) (vw : List Float) (nets vertices sides m : ℕ) (maxw : Float) (draws ws ws' part₁ part₂ : List ℕ) (at at₁ at₂ : ℕ) (c : Float)
-    → Site ws (place nets vertices sides m (length vw)) → drawn part₁ (words_at draws at₁) ≡ part_grown (graph_in ws nets weights m vw) (words_at draws at)
-    → Halves weights vw (place nets vertices sides m (length vw)) maxw 8 draws ws ws' part₁ part₂ at₁ at₂ → IsCutWeight ws' nets sides weights m (length vw) c
-    → Tried weights vw (place nets vertices sides m (length vw)) maxw draws ws ws' part₂ at at₂ c
-tried weights vw nets vertices sides m maxw draws ws ws' part₁ part₂ at at₁ at₂ c site eg h ec =
+pub tried : (weights : List ℕ) (vw : List Float) (nets vertices sides m : ℕ) (maxw : Float) (words words₁ words₂ : Words) (ws ws' part₁ part₂ : List ℕ) (c : Float)
+    → Site ws (place nets vertices sides m (length vw)) → drawn part₁ words₁ ≡ part_grown (graph_in ws nets weights m vw) words
+    → Halves weights vw (place nets vertices sides m (length vw)) maxw 8 ws ws' part₁ part₂ words₁ words₂ → IsCutWeight ws' nets sides weights m (length vw) c
+    → Tried weights vw (place nets vertices sides m (length vw)) maxw words words₂ ws ws' part₂ c
+tried weights vw nets vertices sides m maxw words words₁ words₂ ws ws' part₁ part₂ c site eg h ec =
     let g : graph_in ws' nets weights m vw ≡ graph_in ws nets weights m vw = graph_kept (sides * 2) ws ws' h.kept nets m weights vw (omega (arith, site.behind.0)) in
     record {
       made = h.refined ∙ ap (λ (d : Drawn (List ℕ)). fm (graph_in ws nets weights m vw) maxw 8 d.value d.words) eg;

@@ -1,111 +1,67 @@
 #![tactic(auto)]
 // A first partition: the best of eight growths, each refined.
-ghost use Rattle.std.specs.Prelude.{true, ◌≡◌, ◌<◌, length, Some};
+ghost use Rattle.std.specs.Prelude.{◌≡◌, ◌<◌, length, Some};
 ghost use Rattle.spec.specs.Bisection.{half, better};
-ghost use Rattle.partition.specs.Layout.{graph_in};
-ghost use Rattle.queue.specs.Enters.{place};
+ghost use Rattle.partition.specs.Layout.{graph_in, place_of};
 ghost use Rattle.moves.specs.Kept.{Site};
 ghost use Rattle.initial.specs.Tried.{Tried};
 ghost use Rattle.initial.specs.Least.{candidate_as, best_of, Initial};
 
-// The weight of the cut nets of a try, or of the best one so far; was there one; the cursor.
-#[derive(Clone, Copy)]
-pub struct Best {
-    pub cut: f64,
-    pub found: bool,
-    pub at: usize,
-}
+use draws::Draws;
+use matching::Graph;
+use partition::Layout;
 
-// One try, in the list `trial`: a growth, refined in at most eight passes, and the weight of its cut nets.
+// One try, in the list `trial`: a growth, refined in at most eight passes. Returns the weight of its cut nets.
 fn try_once(
-    graph: &mut [u64],
-    nets: usize,
-    vertices: usize,
-    sides: usize,
-    m: usize,
-    weights: &[u8],
-    vw: &[f64],
-    maxw: f64,
+    words: &mut [u64],
+    layout: &Layout,
+    most_weight: f64,
     goal: f64,
-    draws: &[u64],
-    at: usize,
+    draws: &mut Draws,
     trial: &mut [u8],
-) -> Best
-    requires { (length trial.old ≡ length vw.now) × (0 < length vw.now) × Site graph.old (place nets vertices sides m (length vw.now)) × (goal ≡ half (graph_in graph.old nets weights.now m vw.now)) }
-    ensures { Tried weights.now vw.now (place nets vertices sides m (length vw.now)) maxw draws.now graph.old graph.new trial.new at result.at result.cut }
+) -> f64
+    requires { (length trial.old ≡ length layout.now.vertex_weights.now) × (0 < length layout.now.vertex_weights.now) × Site words.old (place_of layout.now) × (goal ≡ half (graph_in words.old layout.now.nets layout.now.net_weights.now layout.now.net_count layout.now.vertex_weights.now)) }
+    ensures { Tried layout.now.net_weights.now layout.now.vertex_weights.now (place_of layout.now) most_weight draws.old draws.new words.old words.new trial.new result }
 {
-    let a = growth::grown(
-        graph, nets, vertices, m, weights, vw, goal, draws, at, trial,
-    );
-    let b = refine::fm(
-        graph, nets, vertices, sides, m, weights, vw, maxw, 8, draws, a, trial,
-    );
-    let cut = partition::cut(graph, nets, vertices, sides, m, vw.len(), weights);
-    Best {
-        cut,
-        found: true,
-        at: b,
-    }
+    let graph = Graph {
+        words,
+        layout: *layout,
+    };
+    growth::grown(&graph, goal, draws, trial);
+    refine::fm(layout, words, trial, most_weight, 8, draws);
+    layout.place().cut(words, layout.net_weights)
 }
 
-// Of the best try so far and a new one, the one of the lesser cut, and the first of two that are equal.
-fn keep_better(part: &mut [u8], trial: &[u8], best: Best, cut: f64, at: usize) -> Best
+// Of the best try so far, whose cut weighs `best`, and a new one, the one of the lesser cut, and the first of two that are equal. Returns the weight of its cut.
+fn keep_better(part: &mut [u8], trial: &[u8], best: Option<f64>, cut: f64) -> f64
     requires { length part.old ≡ length trial.now }
-    ensures { (best_of result.found result.cut part.new ≡ Some (better (best_of best.found best.cut part.old) (candidate_as cut trial.now))) × (result.found ≡ true) × (result.at ≡ at) }
+    ensures { Some (candidate_as result part.new) ≡ Some (better (best_of best part.old) (candidate_as cut trial.now)) }
 {
-    let n = trial.len();
-    if best.found {
-        if cut < best.cut {
-            cells::copy8(part, trial, n);
-            return Best {
-                cut,
-                found: true,
-                at,
-            };
+    if let Some(least) = best {
+        if !(cut < least) {
+            return least;
         }
-        return Best {
-            cut: best.cut,
-            found: true,
-            at,
-        };
     }
-    cells::copy8(part, trial, n);
-    Best {
-        cut,
-        found: true,
-        at,
-    }
+    part.copy_from_slice(trial);
+    cut
 }
 
-// The best of eight tries. The list `trial` is for each of them. `goal` is half of the weight. Returns the cursor.
+/// The best of eight tries, in `part`. The list `trial` is for each of them. `goal` is half of the weight; no side gets heavier than `most_weight` by a move.
 pub fn initial(
-    graph: &mut [u64],
-    nets: usize,
-    vertices: usize,
-    sides: usize,
-    m: usize,
-    weights: &[u8],
-    vw: &[f64],
-    maxw: f64,
+    words: &mut [u64],
+    layout: &Layout,
+    most_weight: f64,
     goal: f64,
-    draws: &[u64],
-    at: usize,
+    draws: &mut Draws,
     part: &mut [u8],
     trial: &mut [u8],
-) -> usize
-    requires { (length trial.old ≡ length vw.now) × (0 < length vw.now) × Site graph.old (place nets vertices sides m (length vw.now)) × (goal ≡ half (graph_in graph.old nets weights.now m vw.now)) × (length part.old ≡ length vw.now) }
-    ensures { Initial weights.now vw.now nets vertices sides m maxw draws.now graph.old at graph.new part.new result }
+)
+    requires { (length trial.old ≡ length layout.now.vertex_weights.now) × (0 < length layout.now.vertex_weights.now) × Site words.old (place_of layout.now) × (goal ≡ half (graph_in words.old layout.now.nets layout.now.net_weights.now layout.now.net_count layout.now.vertex_weights.now)) × (length part.old ≡ length layout.now.vertex_weights.now) }
+    ensures { Initial layout.now.net_weights.now layout.now.vertex_weights.now layout.now.nets layout.now.vertices layout.now.sides layout.now.net_count most_weight words.old draws.old words.new part.new draws.new }
 {
-    let mut best = Best {
-        cut: 0.0,
-        found: false,
-        at,
-    };
+    let mut best = None;
     for k in 0usize..8 {
-        let t = try_once(
-            graph, nets, vertices, sides, m, weights, vw, maxw, goal, draws, best.at, trial,
-        );
-        best = keep_better(part, trial, best, t.cut, t.at);
+        let cut = try_once(words, layout, most_weight, goal, draws, trial);
+        best = Some(keep_better(part, trial, best, cut));
     }
-    best.at
 }

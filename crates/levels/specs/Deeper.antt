@@ -4,10 +4,9 @@ use Rattle.std.proofs.Common.{sym, ◌∙◌, subst, arith, length-append, lengt
 use Rattle.std.proofs.Math.Path.{ap}
 use Rattle.std.proofs.Math.ListN.{length}
 use Rattle.spec.specs.Memory.{placed}
-use Rattle.spec.specs.Draws.{drawn}
+use Rattle.spec.specs.Draws.{Words, drawn}
 use Rattle.spec.specs.Coarsen.{Level, coarsen}
 use Rattle.cells.specs.Cells.{placed_length, placed_nothing_before, placed_there}
-use Rattle.draws.specs.Cursor.{words_at}
 use Rattle.partition.specs.Layout.{graph_in}
 use Rattle.coarsen.specs.Level.{enough, level_if, level_in, Coarser}
 use Rattle.levels.specs.Spans.{span, span_length}
@@ -46,26 +45,26 @@ module _ {A : Type 0} where
 
 -- ---- the next level ----
 
-pub record Deeper (l m n : ℕ) (limit : Float) (draws : List ℕ) (at at' : ℕ) (ws weights : List ℕ) (vw : List Float) (places ws' weights' : List ℕ) (vw' : List Float) (places' : List ℕ)
+pub record Deeper (l m n : ℕ) (limit : Float) (words words' : Words) (ws weights : List ℕ) (vw : List Float) (places ws' weights' : List ℕ) (vw' : List Float) (places' : List ℕ)
     (found : Bool) (m' n' : ℕ) : Type 0 where
-  pub level : drawn (level_if found (record { graph = graph_at ws' weights' vw' (l + 1) m' n'; places = places_at places' l n })) (words_at draws at')
-      ≡ coarsen (graph_at ws weights vw l m n) limit (words_at draws at)
+  pub level : drawn (level_if found (record { graph = graph_at ws' weights' vw' (l + 1) m' n'; places = places_at places' l n })) words'
+      ≡ coarsen (graph_at ws weights vw l m n) limit words
   pub stage : found ≡ true → Stage ws' (length weights') (length vw') (length places') (l + 1) m' n'
   pub fewer : n' ≤ n
   pub kept : Keeps l ws weights vw places ws' weights' vw' places'
 
 -- a level of at most 48 vertices is left as it is
-pub data Tried (l m n : ℕ) (limit : Float) (draws : List ℕ) (at at' : ℕ) (ws weights : List ℕ) (vw : List Float) (places ws' weights' : List ℕ) (vw' : List Float) (places' : List ℕ)
+pub data Tried (l m n : ℕ) (limit : Float) (words words' : Words) (ws weights : List ℕ) (vw : List Float) (places ws' weights' : List ℕ) (vw' : List Float) (places' : List ℕ)
     (found : Bool) (m' n' : ℕ) : Type 0 where
-  is_few : n ≤ 48 → found ≡ false → at' ≡ at → ws' ≡ ws → weights' ≡ weights → vw' ≡ vw → places' ≡ places
-      → Tried l m n limit draws at at' ws weights vw places ws' weights' vw' places' found m' n'
-  is_more : 48 < n → Deeper l m n limit draws at at' ws weights vw places ws' weights' vw' places' found m' n'
-      → Tried l m n limit draws at at' ws weights vw places ws' weights' vw' places' found m' n'
+  is_few : n ≤ 48 → found ≡ false → words' ≡ words → ws' ≡ ws → weights' ≡ weights → vw' ≡ vw → places' ≡ places
+      → Tried l m n limit words words' ws weights vw places ws' weights' vw' places' found m' n'
+  is_more : 48 < n → Deeper l m n limit words words' ws weights vw places ws' weights' vw' places' found m' n'
+      → Tried l m n limit words words' ws weights vw places ws' weights' vw' places' found m' n'
 
-module _ (l m n : ℕ) (limit : Float) (draws : List ℕ) (at at' : ℕ) (ws weights : List ℕ) (vw : List Float) (places ws' weights' : List ℕ) (vw' : List Float) (places' : List ℕ)
+module _ (l m n : ℕ) (limit : Float) (words words' : Words) (ws weights : List ℕ) (vw : List Float) (places ws' weights' : List ℕ) (vw' : List Float) (places' : List ℕ)
     (found : Bool) (m' n' : ℕ) (w₂ : List ℕ) (v₂ : List Float) (p₂ mates : List ℕ)
     (h : Stage ws (length weights) (length vw) (length places) l m n) (over : 48 < n)
-    (same : drawn (level_if found (level_in ws' ((l + 1) * 512) w₂ m' v₂ n' p₂ (length (vertices_at vw l n)))) (words_at draws at') ≡ coarsen (graph_at ws weights vw l m n) limit (words_at draws at))
+    (same : drawn (level_if found (level_in ws' ((l + 1) * 512) w₂ m' v₂ n' p₂ (length (vertices_at vw l n)))) words' ≡ coarsen (graph_at ws weights vw l m n) limit words)
     (c : Coarser ws (l * 512) (nets_at weights l) m (vertices_at vw l n) mates ((l + 1) * 512) ((l + 1) * 256 + 128) ws' w₂ m' v₂ n' p₂)
     (long : (length w₂ ≡ 256) × (length v₂ ≡ 128) × (length p₂ ≡ l * 128 + n - l * 128))
     (ew : weights' ≡ placed weights ((l + 1) * 256) w₂) (ev : vw' ≡ placed vw ((l + 1) * 128) v₂)
@@ -99,8 +98,8 @@ module _ (l m n : ℕ) (limit : Float) (draws : List ℕ) (at at' : ℕ) (ws wei
       places_at' : List ℕ → List ℕ
       places_at' x = places_at x l n
 
-  level_is : drawn (level_if found made) (words_at draws at') ≡ coarsen (graph_at ws weights vw l m n) limit (words_at draws at)
-  level_is = ap (λ (x : Level). drawn (level_if found x) (words_at draws at')) (sym made_is) ∙ same
+  level_is : drawn (level_if found made) words' ≡ coarsen (graph_at ws weights vw l m n) limit words
+  level_is = ap (λ (x : Level). drawn (level_if found x) words') (sym made_is) ∙ same
 
   shrinks : found ≡ true → n' + 3 ≤ n
   unfolding graph_in
@@ -108,7 +107,7 @@ module _ (l m n : ℕ) (limit : Float) (draws : List ℕ) (at at' : ℕ) (ws wei
       let z : length (vertices_at vw' (l + 1) n') ≡ n' =
       span_length ((l + 1) * 128) n' vw' (omega (arith, h.low, h.room, few, h.vertices_fit, ap length ev ∙ placed_length vw v₂ ((l + 1) * 128))) in
       three_fewer n n' over (omega (arith, h.room)) few
-      ((λ i. enough (sym vertices_long i) (sym z i)) ∙ found_fewer (graph_at ws weights vw l m n) limit (words_at draws at) (words_at draws at') found made f level_is)
+      ((λ i. enough (sym vertices_long i) (sym z i)) ∙ found_fewer (graph_at ws weights vw l m n) limit words words' found made f level_is)
 
   keeps : Keeps l ws weights vw places ws' weights' vw' places'
   keeps =
@@ -123,7 +122,7 @@ module _ (l m n : ℕ) (limit : Float) (draws : List ℕ) (at at' : ℕ) (ws wei
       }
 
   -- DEEPER
-  pub deeper : Deeper l m n limit draws at at' ws weights vw places ws' weights' vw' places' found m' n'
+  pub deeper : Deeper l m n limit words words' ws weights vw places ws' weights' vw' places' found m' n'
   deeper =
       record {
         level = level_is;

@@ -3,11 +3,10 @@
 use Rattle.std.specs.Prelude.{◌≡◌, refl, List, [], ◌∷◌, ◌++◌, ℕ, zero, suc, ◌+◌, ◌-◌, ◌*◌, ◌≤◌, ◌<◌, Float, length, take, drop}
 use Rattle.std.proofs.Common.{sym, ap, ◌∙◌, subst, arith, take-take, take_at}
 use Rattle.std.proofs.Math.Seq.{take-nil}
-use Rattle.spec.specs.Draws.{Drawn, drawn}
+use Rattle.spec.specs.Draws.{Words, Drawn, drawn}
 use Rattle.spec.specs.Hypergraph.{Hypergraph}
-use Rattle.draws.specs.Cursor.{words_at}
 use Rattle.partition.specs.Layout.{graph_in}
-use Rattle.queue.specs.Enters.{place}
+use Rattle.partition.specs.Layout.{place}
 use Rattle.matching.specs.Meshed.{Meshed}
 use Rattle.mesh.specs.Compact.{Within}
 use Rattle.moves.specs.Kept.{Kept, kept_then, graph_kept, Site, site_kept}
@@ -141,14 +140,14 @@ keeps_graph l ws₀ weights₀ vw₀ places₀ ws₁ weights₁ vw₁ places₁ 
 -- ---- a partition that is given ----
 
 -- The first n places of a list are the partition d, and the words those after it; the slots of all levels stay.
-pub record Gives (n : ℕ) (draws : List ℕ) (d : Drawn (List ℕ)) (ws ws' part' : List ℕ) (at' : ℕ) : Type 0 where
-  pub given : drawn (take n part') (words_at draws at') ≡ d
+pub record Gives (n : ℕ) (d : Drawn (List ℕ)) (ws ws' part' : List ℕ) (words' : Words) : Type 0 where
+  pub given : drawn (take n part') words' ≡ d
   pub bits : Bits (take n part')
   pub kept : Kept 28672 ws ws'
 
 -- the front of the list was lent, and is the partition
-pub gives : (n : ℕ) (draws : List ℕ) (d : Drawn (List ℕ)) (ws ws' part rest : List ℕ) (at : ℕ) → length part ≡ n → drawn part (words_at draws at) ≡ d → Bits part → Kept 28672 ws ws'
-    → Gives n draws d ws ws' (part ++ rest) at
-gives n draws d ws ws' part rest at l e b k =
+pub gives : (n : ℕ) (d : Drawn (List ℕ)) (ws ws' part rest : List ℕ) (words : Words) → length part ≡ n → drawn part words ≡ d → Bits part → Kept 28672 ws ws'
+    → Gives n d ws ws' (part ++ rest) words
+gives n d ws ws' part rest words l e b k =
     let z : take n (part ++ rest) ≡ part = take_at part rest n l in
-    record { given = ap (λ x. drawn x (words_at draws at)) z ∙ e; bits = subst Bits (sym z) b; kept = k }
+    record { given = ap (λ x. drawn x words) z ∙ e; bits = subst Bits (sym z) b; kept = k }

@@ -2,27 +2,47 @@
 // One level of bisection, in lists that hold all of them: made coarser, a coarser partition projected to it, refined. The most that a side may weigh.
 ghost use Rattle.std.specs.Prelude.{◌≡◌, map, ◌+◌, ◌*◌, ◌≤◌, length, take};
 ghost use Rattle.spec.specs.Floats.{zero_float, greater, lesser};
-ghost use Rattle.spec.specs.Memory.{copied, placed};
 ghost use Rattle.spec.specs.Hypergraph.{fold_over, side_of};
 ghost use Rattle.spec.specs.Bisection.{side_limit, initial};
 ghost use Rattle.spec.specs.Fm.{fm};
-ghost use Rattle.draws.specs.Cursor.{words_at};
+ghost use Rattle.coarsen.specs.Sizes.{ByTry};
 ghost use Rattle.moves.specs.Laying.{Bits};
 ghost use Rattle.levels.specs.Spans.{summed, span};
 ghost use Rattle.levels.specs.Stage.{Stage, graph_at, Gives};
 ghost use Rattle.levels.specs.Deeper.{Tried};
+ghost use Rattle.levels.specs.Lists.{IsSameLoan};
 
-use coarsen::Coarse;
+use coarsen::{Size, Slots};
+use draws::Draws;
+use partition::Layout;
 
-// The sum of the vertices' weights.
+/// Lists that hold what all levels weigh, and how they hang together: the weights of level l's nets stand from place 256 l on, those of its vertices and the map to
+/// the next level from place 128 l on. The slots of level l stand in words beside them: its nets from slot 512 l on, its vertices from slot 256 l + 128 on.
+#[derive(Drop)]
+pub struct Levels<'a> {
+    pub net_weights: &'a mut [u8],
+    pub vertex_weights: &'a mut [f64],
+    pub places: &'a mut [u16],
+}
+
+
+/// The sum of the vertices' weights.
 pub fn total_weight(vw: &[f64]) -> f64
     ensures { result ≡ fold_over summed vw.now zero_float }
 {
     let mut sum = 0.0;
-    for v in 0..vw.len() {
-        sum = sum + cells::getf(vw, v);
+    for &w in vw {
+        sum = sum + w;
     }
     sum
+}
+
+/// The sum of the weights of the first `n` vertices of level 0.
+pub fn front_weight(levels: &Levels, n: usize) -> f64
+    requires { n ≤ length levels.now.vertex_weights.now }
+    ensures { result ≡ fold_over summed (take n levels.now.vertex_weights.now) zero_float }
+{
+    total_weight(&levels.vertex_weights[..n])
 }
 
 // The greater of two numbers, and the lesser.
@@ -44,7 +64,7 @@ fn lesser(x: f64, y: f64) -> f64
     x
 }
 
-// The most that a side may weigh.
+/// The most that a side may weigh.
 pub fn side_limit(total: f64, eps: f64) -> f64
     ensures { result ≡ side_limit total eps }
 {
@@ -54,147 +74,122 @@ pub fn side_limit(total: f64, eps: f64) -> f64
     lesser(wanted, most)
 }
 
-// Copies the first `n` places of a list to the front of `to`, as far as both go.
-fn copyf(to: &mut [f64], list: &[f64], n: usize)
-    ensures { to.new ≡ copied to.old list.now n }
-{
-    for k in 0..cells::min(n, cells::min(to.len(), list.len())) {
-        to[k] = list[k];
-    }
-}
-
-// Writes `src` at `at`, as far as `out` goes.
-fn placef(out: &mut [f64], at: usize, src: &[f64])
-    ensures { out.new ≡ placed out.old at src.now }
-{
-    if at < out.len() {
-        copyf(&mut out[at..], src, src.len());
-    }
-}
-
 // Each vertex comes to the side of the coarse vertex that it is part of.
 fn project(part: &mut [u8], coarse: &[u8], places: &[u16])
     requires { length part.old ≡ length places.now }
     ensures { part.new ≡ map (side_of coarse.now) places.now }
 {
-    for v in 0..part.len() {
+    for (v, side) in part.iter_mut().enumerate() {
         let c = cells::at16(places, v);
-        cells::put8(part, v, cells::get8(coarse, c));
+        *side = cells::get_or(coarse, c, 0);
     }
 }
 
-// The same at one level: the partition of `coarse` vertices at the front of the list becomes one of `n`.
-pub fn project_at(part: &mut [u8], level: usize, n: usize, coarse: usize, places: &[u16])
-    requires { (level ≤ 27) × (n ≤ 128) × (n ≤ length part.old) × (coarse ≤ n) × (3584 ≤ length places.now) }
-    ensures { take n part.new ≡ map (side_of (take coarse part.old)) (span (level * 128) (level * 128 + n) places.now) }
+/// The same at one level: the partition of `coarse` vertices at the front of the list becomes one of `n`.
+pub fn project_at(part: &mut [u8], levels: &Levels, level: usize, n: usize, coarse: usize)
+    requires { (level ≤ 27) × (n ≤ 128) × (n ≤ length part.old) × (coarse ≤ n) × (3584 ≤ length levels.now.places.now) }
+    ensures { take n part.new ≡ map (side_of (take coarse part.old)) (span (level * 128) (level * 128 + n) levels.now.places.now) }
 {
     let mut former = [0u8; 128];
     let first = level * 128;
     let end = first + n;
-    cells::copy8(&mut former, part, coarse);
-    project(&mut part[..n], &former[..coarse], &places[first..end]);
+    cells::copy(&mut former, part, coarse);
+    project(
+        &mut part[..n],
+        &former[..coarse],
+        &levels.places[first..end],
+    );
 }
 
-// Refines the partition of level `level` at the front of the list, in at most four passes. Returns the cursor.
+/// Refines the partition of a level at the front of the list, in at most four passes.
 pub fn refine_at(
-    graph: &mut [u64],
+    words: &mut [u64],
+    levels: &Levels,
     level: usize,
-    m: usize,
-    n: usize,
-    weights: &[u8],
-    vw: &[f64],
-    maxw: f64,
-    draws: &[u64],
-    at: usize,
+    size: Size,
+    most_weight: f64,
+    draws: &mut Draws,
     part: &mut [u8],
-    places: usize,
-) -> usize
-    requires { Stage graph.old (length weights.now) (length vw.now) places level m n × (n ≤ length part.old) × Bits (take n part.old) }
-    ensures { Gives n draws.now (fm (graph_at graph.old weights.now vw.now level m n) maxw 4 (take n part.old) (words_at draws.now at)) graph.old graph.new part.new result }
+)
+    requires { Stage words.old (length levels.now.net_weights.now) (length levels.now.vertex_weights.now) (length levels.now.places.now) level size.nets size.vertices × (size.vertices ≤ length part.old) × Bits (take size.vertices part.old) }
+    ensures { Gives size.vertices (fm (graph_at words.old levels.now.net_weights.now levels.now.vertex_weights.now level size.nets size.vertices) most_weight 4 (take size.vertices part.old) draws.old) words.old words.new part.new draws.new }
 {
     let net = level * 256;
     let nets = net + 256;
     let first = level * 128;
-    let end = first + n;
+    let end = first + size.vertices;
+    let layout = Layout {
+        nets: level * 512,
+        vertices: level * 256 + 128,
+        sides: 14336,
+        net_count: size.nets,
+        net_weights: &levels.net_weights[net..nets],
+        vertex_weights: &levels.vertex_weights[first..end],
+    };
     refine::fm(
-        graph,
-        level * 512,
-        level * 256 + 128,
-        14336,
-        m,
-        &weights[net..nets],
-        &vw[first..end],
-        maxw,
+        &layout,
+        words,
+        &mut part[..size.vertices],
+        most_weight,
         4,
         draws,
-        at,
-        &mut part[..n],
-    )
+    );
 }
 
-// A first partition of level `level`, at the front of the list. Returns the cursor.
+/// A first partition of a level, at the front of the list.
 pub fn initial_at(
-    graph: &mut [u64],
+    words: &mut [u64],
+    levels: &Levels,
     level: usize,
-    m: usize,
-    n: usize,
-    weights: &[u8],
-    vw: &[f64],
-    maxw: f64,
-    draws: &[u64],
-    at: usize,
+    size: Size,
+    most_weight: f64,
+    draws: &mut Draws,
     part: &mut [u8],
-    places: usize,
-) -> usize
-    requires { Stage graph.old (length weights.now) (length vw.now) places level m n × (n ≤ length part.old) }
-    ensures { Gives n draws.now (initial (graph_at graph.old weights.now vw.now level m n) maxw (words_at draws.now at)) graph.old graph.new part.new result }
+)
+    requires { Stage words.old (length levels.now.net_weights.now) (length levels.now.vertex_weights.now) (length levels.now.places.now) level size.nets size.vertices × (size.vertices ≤ length part.old) }
+    ensures { Gives size.vertices (initial (graph_at words.old levels.now.net_weights.now levels.now.vertex_weights.now level size.nets size.vertices) most_weight draws.old) words.old words.new part.new draws.new }
 {
     let mut trial = [0u8; 128];
     let net = level * 256;
     let nets = net + 256;
     let first = level * 128;
-    let end = first + n;
-    let total = total_weight(&vw[first..end]);
+    let end = first + size.vertices;
+    let layout = Layout {
+        nets: level * 512,
+        vertices: level * 256 + 128,
+        sides: 14336,
+        net_count: size.nets,
+        net_weights: &levels.net_weights[net..nets],
+        vertex_weights: &levels.vertex_weights[first..end],
+    };
+    let total = total_weight(layout.vertex_weights);
     initial::initial(
-        graph,
-        level * 512,
-        level * 256 + 128,
-        14336,
-        m,
-        &weights[net..nets],
-        &vw[first..end],
-        maxw,
+        words,
+        &layout,
+        most_weight,
         total / 2.0,
         draws,
-        at,
-        &mut part[..n],
-        &mut trial[..n],
-    )
+        &mut part[..size.vertices],
+        &mut trial[..size.vertices],
+    );
 }
 
-// The coarser hypergraph of level `level`, at the next level, with its weights and the map to it. One of at most 48 vertices is left as it is.
-pub fn coarsen_at(
-    graph: &mut [u64],
-    level: usize,
-    m: usize,
-    n: usize,
-    weights: &mut [u8],
-    vw: &mut [f64],
-    limit: f64,
-    draws: &[u64],
-    at: usize,
+// The coarser hypergraph of a level, at the next level, by lists of its own that are put into those of all levels.
+fn coarsen_lists(
+    words: &mut [u64],
+    net_weights: &mut [u8],
+    vertex_weights: &mut [f64],
     places: &mut [u16],
-) -> Coarse
-    requires { Stage graph.old (length weights.old) (length vw.old) (length places.old) level m n }
-    ensures { Tried level m n limit draws.now at result.at graph.old weights.old vw.old places.old graph.new weights.new vw.new places.new result.found result.nets result.vertices }
+    level: usize,
+    size: Size,
+    limit: f64,
+    draws: &mut Draws,
+) -> Option<Size>
+    requires { Stage words.old (length net_weights.old) (length vertex_weights.old) (length places.old) level size.nets size.vertices }
+    ensures { ByTry (λ found m n. Tried level size.nets size.vertices limit draws.old draws.new words.old net_weights.old vertex_weights.old places.old words.new net_weights.new vertex_weights.new places.new found m n) result }
 {
-    if n <= 48 {
-        return Coarse {
-            nets: 0,
-            vertices: 0,
-            found: false,
-            at,
-        };
+    if size.vertices <= 48 {
+        return None;
     }
     let mut weights2 = [0u8; 256];
     let mut vw2 = [0.0f64; 128];
@@ -202,26 +197,58 @@ pub fn coarsen_at(
     let net = level * 256;
     let nets = net + 256;
     let first = level * 128;
-    let end = first + n;
+    let end = first + size.vertices;
     let next = level + 1;
-    let c = coarsen::coarsen(
-        graph,
-        level * 512,
-        level * 256 + 128,
-        m,
-        &weights[net..nets],
-        &vw[first..end],
+    let layout = Layout {
+        nets: level * 512,
+        vertices: level * 256 + 128,
+        sides: 14336,
+        net_count: size.nets,
+        net_weights: &net_weights[net..nets],
+        vertex_weights: &vertex_weights[first..end],
+    };
+    let slots = Slots {
+        nets: next * 512,
+        vertices: next * 256 + 128,
+    };
+    let coarse = coarsen::coarsen(
+        words,
+        &layout,
         limit,
         draws,
-        at,
-        next * 512,
-        next * 256 + 128,
+        slots,
         &mut weights2,
         &mut vw2,
         &mut places[first..end],
-        &mut mates[..n],
+        &mut mates[..size.vertices],
     );
-    cells::place8(weights, next * 256, &weights2);
-    placef(vw, next * 128, &vw2);
-    c
+    cells::place(net_weights, next * 256, &weights2);
+    cells::place(vertex_weights, next * 128, &vw2);
+    coarse
+}
+
+/// The coarser hypergraph of a level, at the next level, with its weights and the map to it. Returns its size; none where the level is left as it is: one of at
+/// most 48 vertices, or one that loses too few of them.
+pub fn coarsen_at(
+    words: &mut [u64],
+    levels: &mut Levels,
+    level: usize,
+    size: Size,
+    limit: f64,
+    draws: &mut Draws,
+) -> Option<Size>
+    requires { Stage words.old (length levels.old.net_weights.now) (length levels.old.vertex_weights.now) (length levels.old.places.now) level size.nets size.vertices }
+    ensures lent { IsSameLoan levels.old levels.new }
+    ensures tried { ByTry (λ found m n. Tried level size.nets size.vertices limit draws.old draws.new words.old levels.old.net_weights.now levels.old.vertex_weights.now levels.old.places.now words.new levels.new.net_weights.now levels.new.vertex_weights.now levels.new.places.now found m n) result }
+{
+    coarsen_lists(
+        words,
+        levels.net_weights,
+        levels.vertex_weights,
+        levels.places,
+        level,
+        size,
+        limit,
+        draws,
+    )
 }

@@ -1,16 +1,12 @@
 -- The choice of a mate in lent lists, and a matching by slots. Assumes nothing.
-use Rattle.std.specs.Prelude.{Bool, true, false, ◌&&◌, cond, ◌≡◌, List, ℕ, length, get_or, set, Float, Option, None, Some}
+use Rattle.std.specs.Prelude.{Bool, true, false, ◌&&◌, cond, ◌≡◌, List, ℕ, get_or, set, Float, Option, None, Some}
 use Rattle.std.proofs.Math.Bool.{and-false}
-use Rattle.std.proofs.Common.{sym, ap, ◌∙◌, length-set}
+use Rattle.std.proofs.Common.{sym, ap, ◌∙◌}
 use Rattle.std.specs.Float.{binary64}
 use Rattle.std.specs.Float.Ieee.{add, mul, lt, le}
 use Rattle.spec.specs.Floats.{zero_float, micro, whole_float}
-use Rattle.spec.specs.Draws.{Words, draw, unit_draw}
+use Rattle.spec.specs.Draws.{Words, unit_draw}
 use Rattle.spec.specs.Coarsen.{Choice}
-use Rattle.draws.specs.Cursor.{words_at}
-
-abbrev pub mate_if : Bool → ℕ → Option ℕ
-mate_if found u = cond found (Some u) None
 
 abbrev pub choice_of : Float → Option ℕ → List Float → Words → Choice
 choice_of best mate rating ws = record { best = best; mate = mate; rating = rating; words = ws }
@@ -28,13 +24,14 @@ looked vw maxw v u c =
       words = d.words;
     }
 
-abbrev pub mated_in : ℕ → Bool → ℕ → List ℕ → List ℕ
-mated_in v found u mates = cond found (set (set mates v u) u v) (set mates v v)
+abbrev pub mated_in : ℕ → Option ℕ → List ℕ → List ℕ
+mated_in v None mates = set mates v v
+mated_in v (Some u) mates = set (set mates v u) u v
 
 -- ---- one look, by the lists ----
 
-module _ (vw : List Float) (limit : Float) (words : List ℕ) (rating rating' : List Float) (v u at next : ℕ) (noise g best : Float) (mate : Option ℕ)
-    (en : noise ≡ (unit_draw (words_at words at)).value) (ew : words_at words next ≡ (draw (words_at words at)).words)
+module _ (vw : List Float) (limit : Float) (ws ws' : Words) (rating rating' : List Float) (v u : ℕ) (noise g best : Float) (mate : Option ℕ)
+    (en : noise ≡ (unit_draw ws).value) (ew : ws' ≡ (unit_draw ws).words)
     (eg : g ≡ get_or rating u zero_float) (er : rating' ≡ set rating u zero_float) where
   abbrev noisy : Float → Float → Float
   noisy x d = mul binary64 x (add binary64 (whole_float 1) (mul binary64 micro d))
@@ -46,28 +43,22 @@ module _ (vw : List Float) (limit : Float) (words : List ℕ) (rating rating' : 
   chosen x b l ws = choice_of (cond b x best) (cond b (Some u) mate) l ws
 
   looked_by : (b : Bool) → (lt best (noisy g noise) && fits) ≡ b
-      → chosen (noisy g noise) b rating' (words_at words next) ≡ looked vw limit v u (choice_of best mate rating (words_at words at))
+      → chosen (noisy g noise) b rating' ws' ≡ looked vw limit v u (choice_of best mate rating ws)
   looked_by b e =
-      ap (λ t. chosen (noisy g noise) t rating' (words_at words next)) (sym e)
+      ap (λ t. chosen (noisy g noise) t rating' ws') (sym e)
       ∙ (λ i. chosen (noisy (eg i) (en i)) (lt best (noisy (eg i) (en i)) && fits) (er i) (ew i))
 
   pub looked_better : (x y z : Float) → x ≡ noisy g noise → y ≡ get_or vw v zero_float → z ≡ get_or vw u zero_float → lt best x ≡ true → le (add binary64 y z) limit ≡ true
-      → choice_of x (Some u) rating' (words_at words next) ≡ looked vw limit v u (choice_of best mate rating (words_at words at))
+      → choice_of x (Some u) rating' ws' ≡ looked vw limit v u (choice_of best mate rating ws)
   looked_better x y z ex ey ez p q =
-      ap (λ x. choice_of x (Some u) rating' (words_at words next)) ex
+      ap (λ x. choice_of x (Some u) rating' ws') ex
       ∙ looked_by true (ap (λ t. t && fits) (ap (lt best) (sym ex) ∙ p) ∙ sym (λ i. le (add binary64 (ey i) (ez i)) limit) ∙ q)
 
   pub looked_light : (x : Float) → x ≡ noisy g noise → lt best x ≡ false
-      → choice_of best mate rating' (words_at words next) ≡ looked vw limit v u (choice_of best mate rating (words_at words at))
+      → choice_of best mate rating' ws' ≡ looked vw limit v u (choice_of best mate rating ws)
   looked_light x ex p = looked_by false (ap (λ t. t && fits) (ap (lt best) (sym ex) ∙ p))
 
   pub looked_heavy : (y z : Float) → y ≡ get_or vw v zero_float → z ≡ get_or vw u zero_float → le (add binary64 y z) limit ≡ false
-      → choice_of best mate rating' (words_at words next) ≡ looked vw limit v u (choice_of best mate rating (words_at words at))
+      → choice_of best mate rating' ws' ≡ looked vw limit v u (choice_of best mate rating ws)
   looked_heavy y z ey ez q =
       looked_by false (ap (λ t. lt best (noisy g noise) && t) (sym (λ i. le (add binary64 (ey i) (ez i)) limit) ∙ q) ∙ and-false (lt best (noisy g noise)))
-
--- ---- a pair, by the list of mates ----
-
-pub mated_length : (v u : ℕ) (found : Bool) (mates mates' : List ℕ) → mates' ≡ mated_in v found u mates → length mates' ≡ length mates
-mated_length v u true mates mates' e = ap length e ∙ length-set (set mates v u) u v ∙ length-set mates v u
-mated_length v u false mates mates' e = ap length e ∙ length-set mates v v

@@ -1,3 +1,4 @@
 pub mod Order
 pub mod Choices
 pub mod Meshed
+pub mod Graphs

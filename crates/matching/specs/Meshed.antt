@@ -1,5 +1,5 @@
 -- A hypergraph in slots, without sides: the nets of a vertex, and a matching by them. Assumes nothing.
-use Rattle.std.specs.Prelude.{Bool, false, ◌&&◌, ◌≡◌, refl, ℕ, ◌+◌, ◌-◌, ◌≤◌, ◌<◌, ltb, Float, get_or, take, None}
+use Rattle.std.specs.Prelude.{◌&&◌, ◌≡◌, refl, ℕ, ◌+◌, ◌-◌, ◌≤◌, ◌<◌, ltb, Float, get_or, take, None, Option, Some}
 use Rattle.std.proofs.Math.Bool.{cond}
 use Rattle.std.proofs.Math.Path.{sym, ap}
 use Rattle.std.proofs.Common.{◌∙◌, subst, arith, length-take-le, lt-ltb, le-ltb, eq-eqb, ne_eqb}
@@ -8,19 +8,17 @@ use Rattle.std.proofs.Math.ListN.{length, replicate}
 use Rattle.spec.specs.Lists.{memb, keep, range}
 use Rattle.spec.specs.Memory.{filled}
 use Rattle.spec.specs.Floats.{zero_float}
-use Rattle.spec.specs.Draws.{Drawn, drawn}
+use Rattle.spec.specs.Draws.{Words, Drawn, drawn}
 use Rattle.spec.specs.Hypergraph.{fold_over, Net, Hypergraph, nets_at}
 use Rattle.spec.specs.Coarsen.{Ratings, Choice, rated_by, ratings, looked_at, mated, matched, shuffled, matching}
-use Rattle.laws.specs.Booleans.{by_cases}
 use Rattle.laws.specs.ListLaws.{keep_ext_from, keep_none_from, range_length, keep-map}
 use Rattle.slots.specs.Slots.{held}
 use Rattle.slots.specs.Rising.{rising_of, memb_rising, keep-add}
-use Rattle.draws.specs.Cursor.{words_at}
 use Rattle.partition.specs.Layout.{net_in, graph_in}
 use Rattle.partition.specs.Folds.{fold_map}
 use Rattle.ratings.specs.Rated.{ratings_in, rated_net, rated_nets, rated_net_lem}
 use Rattle.matching.specs.Order.{Below, below_shuffled, below_range}
-use Rattle.matching.specs.Choices.{mate_if, choice_of, looked, mated_in}
+use Rattle.matching.specs.Choices.{choice_of, looked, mated_in}
 
 -- Slots nets on hold the pins of m nets; slots vertices on, the nets of n vertices.
 pub record Meshed (ws : List ℕ) (nets vertices m n : ℕ) : Type 0 where
@@ -71,64 +69,65 @@ module _ (ws : List ℕ) (nets vertices m n : ℕ) (weights : List ℕ) (vw : Li
       ∙ ap (λ (k : ℕ). rated_nets ws nets weights mates k v (rising_of ws 4 (vertices + v)) (start k)) e
 
   -- MATCHED BY THE SLOTS
-  pub matched_laid : (v : ℕ) (words mates mates' list' touched touched' : List ℕ) (rating' rating'' : List Float) (len count at at' u : ℕ) (found : Bool) (best : Float)
+  pub matched_laid : (v : ℕ) (words words' : Words) (mates mates' list' touched touched' : List ℕ) (rating' rating'' : List Float) (len count : ℕ) (mate : Option ℕ) (best : Float)
       → v < n → length vw ≡ n → get_or mates v 0 ≡ n
       → take len list' ≡ rising_of ws 4 (vertices + v)
       → rating' ≡ filled n zero_float
       → ratings_in rating'' touched' count ≡ rated_nets ws nets weights mates n v (take len list') (ratings_in rating' touched 0)
       → (rating''' : List Float)
-      → choice_of best (mate_if found u) rating''' (words_at words at') ≡ fold_over (looked vw maxw v) (take count touched') (choice_of zero_float (mate_if false 0) rating'' (words_at words at))
-      → mates' ≡ mated_in v found u mates
-      → drawn mates' (words_at words at') ≡ matched G maxw v (drawn mates (words_at words at))
+      → choice_of best mate rating''' words' ≡ fold_over (looked vw maxw v) (take count touched') (choice_of zero_float None rating'' words)
+      → mates' ≡ mated_in v mate mates
+      → drawn mates' words' ≡ matched G maxw v (drawn mates words)
   unfolding graph_in filled
-  matched_laid v words mates mates' list' touched touched' rating' rating'' len count at at' u found best b ev em el ef et rating''' ec ep =
+  matched_laid v words words' mates mates' list' touched touched' rating' rating'' len count mate best b ev em el ef et rating''' ec ep =
       let t : ratings_in rating'' touched' count ≡ ratings G maxw mates v =
       et ∙ ap (λ l. rated_nets ws nets weights mates n v l (ratings_in rating' touched 0)) el
       ∙ ap (λ l. rated_nets ws nets weights mates n v (rising_of ws 4 (vertices + v)) (ratings_in l touched 0)) ef
       ∙ sym (ratings_laid mates v b ev) in
-      let k : choice_of best (mate_if found u) rating''' (words_at words at') ≡ chosen (ratings G maxw mates v) =
+      let k : choice_of best mate rating''' words' ≡ chosen (ratings G maxw mates v) =
       ec ∙ ap chosen t in
-      ap (λ l. drawn l (words_at words at')) (ep ∙ mated_is)
+      ap (λ l. drawn l words') (ep ∙ mated_is mate)
       ∙ ap (λ (x : Choice). drawn (mated G maxw v x.mate mates) x.words) k
-      ∙ sym (ap (λ b. cond b (drawn (mated G maxw v (chosen (ratings G maxw mates v)).mate mates) (chosen (ratings G maxw mates v)).words) (drawn mates (words_at words at))) (eq-eqb (get_or mates v 0) (length vw) (em ∙ sym ev)))
+      ∙ sym (ap (λ b. cond b (drawn (mated G maxw v (chosen (ratings G maxw mates v)).mate mates) (chosen (ratings G maxw mates v)).words) (drawn mates words)) (eq-eqb (get_or mates v 0) (length vw) (em ∙ sym ev)))
     where
       chosen : Ratings → Choice
-      chosen r = fold_over (looked vw maxw v) r.touched (choice_of zero_float None r.rating (words_at words at))
+      chosen r = fold_over (looked vw maxw v) r.touched (choice_of zero_float None r.rating words)
 
-      mated_is : mated_in v found u mates ≡ mated G maxw v (mate_if found u) mates
-      mated_is = by_cases found (λ e. rw e) (λ e. rw e)
+      mated_is : (o : Option ℕ) → mated_in v o mates ≡ mated G maxw v o mates
+      mated_is None = refl
+      mated_is (Some u) = refl
 
-  pub matched_already : (v : ℕ) (words mates : List ℕ) (at : ℕ) → length vw ≡ n → (get_or mates v 0 ≡ n → ⊥) → drawn mates (words_at words at) ≡ matched G maxw v (drawn mates (words_at words at))
+  pub matched_already : (v : ℕ) (words : Words) (mates : List ℕ) → length vw ≡ n → (get_or mates v 0 ≡ n → ⊥) → drawn mates words ≡ matched G maxw v (drawn mates words)
   unfolding graph_in
-  matched_already v words mates at ev d =
-      sym (ap (λ b. cond b new (drawn mates (words_at words at))) (ne_eqb (get_or mates v 0) (length vw) (λ e. d (e ∙ ev))))
+  matched_already v words mates ev d =
+      sym (ap (λ b. cond b new (drawn mates words)) (ne_eqb (get_or mates v 0) (length vw) (λ e. d (e ∙ ev))))
     where
       new : Drawn (List ℕ)
       new = drawn (mated G maxw v choice_end.mate mates) choice_end.words
         where
           choice_end : Choice
-          choice_end = fold_over (looked_at G maxw v) (ratings G maxw mates v).touched (choice_of zero_float None (ratings G maxw mates v).rating (words_at words at))
+          choice_end = fold_over (looked_at G maxw v) (ratings G maxw mates v).touched (choice_of zero_float None (ratings G maxw mates v).rating words)
 
   -- MATCHED IN A DRAWN ORDER
-  pub all_matched : (words order order' order'' mates mates' mates'' : List ℕ) (at at' at'' : ℕ) → length vw ≡ n → length order ≡ n → length mates ≡ n
+  pub all_matched : (words words' words'' : Words) (order order' order'' mates mates' mates'' : List ℕ) → length vw ≡ n → length order ≡ n → length mates ≡ n
       → order' ≡ range (length order)
-      → drawn order'' (words_at words at') ≡ shuffled (length order' - 1) (drawn order' (words_at words at))
+      → drawn order'' words' ≡ shuffled (length order' - 1) (drawn order' words)
       → mates' ≡ filled (length mates) n
-      → drawn mates'' (words_at words at'') ≡ fold_over (matched G maxw) order'' (drawn mates' (words_at words at'))
-      → drawn mates'' (words_at words at'') ≡ matching G maxw (words_at words at)
+      → drawn mates'' words'' ≡ fold_over (matched G maxw) order'' (drawn mates' words')
+      → drawn mates'' words'' ≡ matching G maxw words
   unfolding graph_in filled
-  all_matched words order order' order'' mates mates' mates'' at at' at'' ev eo em e₁ e₂ e₃ e₄ =
+  all_matched words words' words'' order order' order'' mates mates' mates'' ev eo em e₁ e₂ e₃ e₄ =
       let l : length order' ≡ length vw = ap length e₁ ∙ range_length 0 (length order) ∙ eo ∙ sym ev in
-      let z : drawn order'' (words_at words at') ≡ shuffled (length vw - 1) (drawn (range (length vw)) (words_at words at)) =
-      e₂ ∙ (λ i. shuffled (l i - 1) (drawn order' (words_at words at))) ∙ ap (λ x. shuffled (length vw - 1) (drawn x (words_at words at))) (e₁ ∙ ap (λ (k : ℕ). range k) (eo ∙ sym ev)) in
+      let z : drawn order'' words' ≡ shuffled (length vw - 1) (drawn (range (length vw)) words) =
+      e₂ ∙ (λ i. shuffled (l i - 1) (drawn order' words)) ∙ ap (λ x. shuffled (length vw - 1) (drawn x words)) (e₁ ∙ ap (λ (k : ℕ). range k) (eo ∙ sym ev)) in
       let y : mates' ≡ replicate (length vw) (length vw) = e₃ ∙ ap (λ (k : ℕ). replicate k n) (em ∙ sym ev) ∙ ap (λ (k : ℕ). replicate (length vw) k) (sym ev) in
-      e₄ ∙ ap (λ x. fold_over (matched G maxw) order'' (drawn x (words_at words at'))) y
+      e₄ ∙ ap (λ x. fold_over (matched G maxw) order'' (drawn x words')) y
       ∙ ap (λ (d : Drawn (List ℕ)). fold_over (matched G maxw) d.value (drawn (replicate (length vw) (length vw)) d.words)) z
 
-  pub order_below : (words order order' order'' : List ℕ) (at at' : ℕ) → 0 < n → length order ≡ n
+  pub order_below : (words words' : Words) (order order' order'' : List ℕ) → 0 < n → length order ≡ n
       → order' ≡ range (length order)
-      → drawn order'' (words_at words at') ≡ shuffled (length order' - 1) (drawn order' (words_at words at))
+      → drawn order'' words' ≡ shuffled (length order' - 1) (drawn order' words)
       → Below n order''
-  order_below words order order' order'' at at' b eo e₁ e₂ =
+  order_below words words' order order' order'' b eo e₁ e₂ =
       subst (λ (d : Drawn (List ℕ)). Below n d.value) (sym e₂)
-      (below_shuffled n (length order' - 1) (drawn order' (words_at words at)) (subst (Below n) (sym (e₁ ∙ ap (λ (k : ℕ). range k) eo)) (below_range n b)))
+      (below_shuffled n (length order' - 1) (drawn order' words) (subst (Below n) (sym (e₁ ∙ ap (λ (k : ℕ). range k) eo)) (below_range n b)))

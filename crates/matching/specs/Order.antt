@@ -1,11 +1,12 @@
 -- The drawn order of the vertices, place by place. Assumes nothing.
 use Rattle.std.specs.Prelude.{◌≡◌, List, [], ◌∷◌, ◌++◌, ℕ, zero, suc, ◌+◌, ◌-◌, ◌≤◌, ◌<◌, length, get_or, set, take}
-use Rattle.std.proofs.Common.{sym, ap, ◌∙◌, arith, add-one, length-set, take-suc-set}
+use Rattle.std.proofs.Common.{sym, ap, ◌∙◌, arith, add-one, take-suc-set}
 use Rattle.std.proofs.Math.Seq.{take-length}
 use Rattle.spec.specs.Lists.{from, range}
-use Rattle.spec.specs.Draws.{Drawn, drawn, draw, index_draw}
+use Rattle.spec.specs.Draws.{Words, Drawn, drawn, draw, index_draw}
+use Rattle.std.specs.List.{swap}
+use Rattle.std.proofs.lemmas.List.{get_or_default}
 use Rattle.spec.specs.Coarsen.{swapped, shuffled}
-use Rattle.draws.specs.Cursor.{words_at}
 use Rattle.laws.specs.ListLaws.{from_last}
 
 -- ---- a list that counts up ----
@@ -30,17 +31,17 @@ drawn_swap i d =
     let w = index_draw (suc i) d.words in
     drawn (swapped i w.value d.value) w.words
 
-pub swap_is : (words l l₁ l₂ : List ℕ) (at i n j x y r : ℕ) → n ≡ i + 1 → j ≡ (index_draw n (words_at words at)).value → x ≡ get_or l i 0 → y ≡ get_or l j 0
-    → l₁ ≡ set l i y → l₂ ≡ set l₁ j x → words_at words r ≡ (draw (words_at words at)).words
-    → drawn l₂ (words_at words r) ≡ drawn_swap i (drawn l (words_at words at))
-swap_is words l l₁ l₂ at i n j x y r en ej ex ey e₁ e₂ ew =
-    (λ k. drawn (e₂ k) (ew k))
-    ∙ ap (λ t. drawn (set t j x) (draw (words_at words at)).words) e₁
-    ∙ (λ k. drawn (set (set l i (ey k)) j (ex k)) (draw (words_at words at)).words)
-    ∙ ap (λ (q : ℕ). drawn (swapped i q l) (draw (words_at words at)).words) (ej ∙ ap (λ (m : ℕ). (index_draw m (words_at words at)).value) (en ∙ add-one i))
-
-pub swap_length : (l l₁ l₂ : List ℕ) (i j x y : ℕ) → l₁ ≡ set l i y → l₂ ≡ set l₁ j x → length l₂ ≡ length l
-swap_length l l₁ l₂ i j x y e₁ e₂ = ap length e₂ ∙ length-set l₁ j x ∙ ap length e₁ ∙ length-set l i y
+pub swap_is : (words words' : Words) (l l' : List ℕ) (i n j : ℕ) → n ≡ i + 1 → j ≡ (index_draw n words).value → words' ≡ (index_draw n words).words
+    → i < length l → j < length l → l' ≡ swap l i j → drawn l' words' ≡ drawn_swap i (drawn l words)
+swap_is words words' l l' i n j en ej ew hi hj e =
+    (λ k. drawn (e k) (ew k))
+    ∙ ap (λ t. drawn t (draw words).words) (swap-swapped l i j hi hj)
+    ∙ ap (λ (q : ℕ). drawn (swapped i q l) (draw words).words) (ej ∙ ap (λ (m : ℕ). (index_draw m words).value) (en ∙ add-one i))
+  where
+    swap-swapped : (l : List ℕ) (i j : ℕ) → i < length l → j < length l → swap l i j ≡ swapped i j l
+    swap-swapped [] i j hi hj = absurd (omega arith)
+    swap-swapped (d ∷ ys) i j hi hj =
+        (λ k. set (set (d ∷ ys) i (get_or_default (d ∷ ys) j d 0 hj k)) j (get_or_default (d ∷ ys) i d 0 hi k))
 
 -- one swap more: i is the place above those still to be swapped
 pub shuffled_next : (i m : ℕ) (d s g : Drawn (List ℕ)) → 1 < i → m ≡ i - 1 → s ≡ shuffled (i - 1) d → g ≡ drawn_swap m d → s ≡ shuffled (m - 1) g

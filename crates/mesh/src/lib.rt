@@ -6,7 +6,9 @@ ghost use Rattle.mesh.specs.Crossed.{crossed_net, crossed};
 ghost use Rattle.mesh.specs.Compact.{kept_of, net_kept, compacted};
 ghost use Rattle.mesh.specs.Mesh.{Built};
 
-// Empties `n` slots from slot `base` on.
+use partition::Place;
+
+/// Empties `n` slots from slot `base` on.
 pub fn empty_all(words: &mut [u64], w: usize, base: usize, n: usize)
     requires { (w ≤ 16) × (base < 32768) × (n ≤ 256) }
     ensures { words.new ≡ emptied w base words.old n }
@@ -16,21 +18,13 @@ pub fn empty_all(words: &mut [u64], w: usize, base: usize, n: usize)
     }
 }
 
-// Puts index `x` into slot `base` + v for each of the `n` numbers v that stand at `at` and the places after it.
-pub fn put_into(
-    words: &mut [u64],
-    w: usize,
-    base: usize,
-    list: &[u16],
-    at: usize,
-    n: usize,
-    x: usize,
-)
-    requires { (w ≤ 16) × (base < 32768) × (at + n ≤ 4294967296) }
-    ensures { words.new ≡ entered w base list.now at x words.old n }
+/// Puts index `x` into slot `base` + v for each number v of a list.
+pub fn put_into(words: &mut [u64], w: usize, base: usize, list: &[u16], x: usize)
+    requires { (w ≤ 16) × (base < 32768) }
+    ensures { words.new ≡ entered w base list.now 0 x words.old (length list.now) }
 {
-    for k in 0..n {
-        slots::insert(words, w, base + cells::at16(list, at + k), x);
+    for &v in list {
+        slots::insert(words, w, base + usize::from(v), x);
     }
 }
 
@@ -41,7 +35,7 @@ fn cross_net(graph: &mut [u64], nets: usize, vertices: usize, e: usize)
 {
     let mut pins = [0u16; 128];
     let len = slots::members(graph, 2, nets + e, &mut pins, 0);
-    put_into(graph, 4, vertices, &pins, 0, len, e);
+    put_into(graph, 4, vertices, &pins[..len], e);
 }
 
 // The nets of each of `n` vertices, from the pins of `m` nets.
@@ -71,7 +65,7 @@ fn keep_net(
         return k;
     }
     slots::unite(graph, 2, nets + e, nets + e, nets + k);
-    cells::put8(kept, k, cells::get8(weights, e));
+    cells::put(kept, k, cells::get_or(weights, e, 0));
     k + 1
 }
 
@@ -87,21 +81,13 @@ fn compact(graph: &mut [u64], nets: usize, m: usize, weights: &[u8], kept: &mut 
     k
 }
 
-// The hypergraph of `n` vertices whose raw nets, `m` of them, stand in the nets' slots: those of two pins or more, with their weights, and
-// the nets of each vertex. Returns how many nets there are.
-pub fn mesh(
-    graph: &mut [u64],
-    nets: usize,
-    vertices: usize,
-    m: usize,
-    n: usize,
-    weights: &[u8],
-    kept: &mut [u8],
-) -> usize
-    requires { (vertices < 32768) × (m ≤ 256) × (n ≤ 128) × (m ≤ length kept.old) × (nets + 256 ≤ vertices * 2) × ((vertices + 128) * 4 ≤ length graph.old) × (nets < 32768) }
-    ensures { Built graph.old nets vertices weights.now m n graph.new kept.new result × (length kept.new ≡ length kept.old) }
+/// The hypergraph whose raw nets stand in the nets' slots of a place, with a weight for each: the nets of two pins or more, with their weights in `kept`, and
+/// the nets of each vertex. Returns how many nets there are.
+pub fn mesh(words: &mut [u64], place: &Place, weights: &[u8], kept: &mut [u8]) -> usize
+    requires { (place.now.vertices < 32768) × (place.now.net_count ≤ 256) × (place.now.vertex_count ≤ 128) × (place.now.net_count ≤ length kept.old) × (place.now.nets + 256 ≤ place.now.vertices * 2) × ((place.now.vertices + 128) * 4 ≤ length words.old) × (place.now.nets < 32768) }
+    ensures { Built words.old place.now.nets place.now.vertices weights.now place.now.net_count place.now.vertex_count words.new kept.new result }
 {
-    let r = compact(graph, nets, m, weights, kept);
-    cross(graph, nets, vertices, r, n);
-    r
+    let count = compact(words, place.nets, place.net_count, weights, kept);
+    cross(words, place.nets, place.vertices, count, place.vertex_count);
+    count
 }

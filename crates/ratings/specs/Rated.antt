@@ -15,8 +15,8 @@ use Rattle.slots.specs.Rising.{rising_of}
 abbrev pub ratings_in : List Float → List ℕ → ℕ → Ratings
 ratings_in rating touched k = record { rating = rating; touched = take k touched }
 
-abbrev ratings_of : List Float → List ℕ → Ratings
-ratings_of rating touched = record { rating = rating; touched = touched }
+abbrev pair_of : List Float → List ℕ → Ratings
+pair_of rating touched = record { rating = rating; touched = touched }
 
 -- a pin u of a net rated r
 abbrev pub rated_pin : Float → ℕ → Ratings → Ratings
@@ -63,13 +63,13 @@ module _ (rating rating' : List Float) (touched touched' : List ℕ) (count u : 
   rated_zero e f h =
       let t : take (count + 1) touched' ≡ take count touched ++ (u ∷ []) =
       ap (take (count + 1)) f ∙ ap (λ (k : ℕ). take k (set touched count u)) (add-one count) ∙ take-suc-set touched count u h in
-      (λ i. ratings_of (q i) (t i)) ∙ (λ i. ratings_of (set rating u (add binary64 (p i) r)) (take count touched ++ (u ∷ [])))
-      ∙ sym (ap (λ b. ratings_of (set rating u (add binary64 (get_or rating u zero_float) r)) (cond b (take count touched ++ (u ∷ [])) (take count touched))) (sym (ap (λ y. eq y zero_float) p) ∙ e))
+      (λ i. pair_of (q i) (t i)) ∙ (λ i. pair_of (set rating u (add binary64 (p i) r)) (take count touched ++ (u ∷ [])))
+      ∙ sym (ap (λ b. pair_of (set rating u (add binary64 (get_or rating u zero_float) r)) (cond b (take count touched ++ (u ∷ [])) (take count touched))) (sym (ap (λ y. eq y zero_float) p) ∙ e))
 
   pub rated_more : eq x zero_float ≡ false → ratings_in rating' touched count ≡ rated_pin r u (ratings_in rating touched count)
   rated_more e =
-      ap (λ l. ratings_of l (take count touched)) q ∙ (λ i. ratings_of (set rating u (add binary64 (p i) r)) (take count touched))
-      ∙ sym (ap (λ b. ratings_of (set rating u (add binary64 (get_or rating u zero_float) r)) (cond b (take count touched ++ (u ∷ [])) (take count touched))) (sym (ap (λ y. eq y zero_float) p) ∙ e))
+      ap (λ l. pair_of l (take count touched)) q ∙ (λ i. pair_of (set rating u (add binary64 (p i) r)) (take count touched))
+      ∙ sym (ap (λ b. pair_of (set rating u (add binary64 (get_or rating u zero_float) r)) (cond b (take count touched ++ (u ∷ [])) (take count touched))) (sym (ap (λ y. eq y zero_float) p) ∙ e))
 
 module _ (mates : List ℕ) (n v : ℕ) (r : Float) (u : ℕ) (t : Ratings) where
   pub open_self : u ≡ v → rated_open mates n v r u t ≡ t

@@ -1,21 +1,27 @@
 #![tactic(auto)]
 // How strongly the neighbours of a vertex are connected to it: the ratings that a matching goes by.
-ghost use Rattle.std.specs.Prelude.{◌≡◌, ◌+◌, ◌<◌, ◌≤◌, length, get_or, take};
+ghost use Rattle.std.specs.Prelude.{◌≡◌, ◌+◌, ◌*◌, ◌<◌, ◌≤◌, length, get_or, set};
+ghost use Rattle.std.specs.Float.{binary64};
+ghost use Rattle.std.specs.Float.Ieee.{add};
+ghost use Rattle.spec.specs.Floats.{zero_float};
 ghost use Rattle.slots.specs.Rising.{rising_of};
-ghost use Rattle.ratings.specs.Rated.{ratings_in, rated_pin, share, rated_open, rated_pins, rated_net, rated_nets};
+ghost use Rattle.ratings.specs.Lists.{IsSameLoan, ratings_of};
+ghost use Rattle.ratings.specs.Rated.{rated_pin, share, rated_open, rated_pins, rated_net, rated_nets};
 
-// Pin `u` of a net rated `r`: a vertex whose rating is 0 is listed, so one that is rated 0 is listed again. Returns how many are listed.
-fn rate(rating: &mut [f64], touched: &mut [u16], count: usize, r: f64, u: usize) -> usize
-    requires { (u < 65536) × (count < length touched.old) }
-    ensures { (ratings_in rating.new touched.new result ≡ rated_pin r u (ratings_in rating.old touched.old count)) × (result ≤ count + 1) × (length touched.new ≡ length touched.old) × (length rating.new ≡ length rating.old) }
-{
-    let x = cells::getf(rating, u);
-    cells::putf(rating, u, x + r);
-    if x == 0.0 {
-        cells::put16(touched, count, u as u16);
-        return count + 1;
-    }
-    count
+/// A vertex that is to be matched, and the mates so far: `none`, the number of vertices, stands for no mate yet.
+#[derive(Clone, Copy)]
+pub struct Single<'a> {
+    pub vertex: usize,
+    pub mates: &'a [u16],
+    pub none: usize,
+}
+
+/// The rating of each vertex, and the vertices that were rated, which stand in the first `count` places of a list.
+#[derive(Drop)]
+pub struct Ratings<'a> {
+    pub rating: &'a mut [f64],
+    pub touched: &'a mut [u16],
+    pub count: usize,
 }
 
 // What a net of weight `w` and `pins` pins is rated: its weight over the number of the other pins.
@@ -29,106 +35,89 @@ fn rate_of(w: u8, pins: usize) -> f64
     (w as f64) / ((pins - 1) as f64)
 }
 
-// The same if `u` may be the mate of `v`: another vertex, whose mate is `n`, none yet.
-fn rate_open(
-    mates: &[u16],
-    n: usize,
-    v: usize,
-    rating: &mut [f64],
-    touched: &mut [u16],
-    count: usize,
-    r: f64,
-    u: usize,
-) -> usize
-    requires { (u < 65536) × (count < length touched.old) }
-    ensures { (ratings_in rating.new touched.new result ≡ rated_open mates.now n v r u (ratings_in rating.old touched.old count)) × (result ≤ count + 1) × (length touched.new ≡ length touched.old) × (length rating.new ≡ length rating.old) }
+// Adds `r` to the rating of vertex `u`. Returns what it was before.
+fn raise(rating: &mut [f64], u: usize, r: f64) -> f64
+    ensures former { result ≡ get_or rating.old u zero_float }
+    ensures raised { rating.new ≡ set rating.old u (add binary64 result r) }
 {
-    if u == v {
-        return count;
-    }
-    if cells::at16(mates, u) == n {
-        return rate(rating, touched, count, r, u);
-    }
-    count
+    let x = cells::getf(rating, u);
+    cells::putf(rating, u, x + r);
+    x
 }
 
-// The first `len` pins of a list, of a net rated `r`.
-fn rate_pins(
-    mates: &[u16],
-    n: usize,
-    v: usize,
-    rating: &mut [f64],
-    touched: &mut [u16],
-    count: usize,
-    r: f64,
-    pins: &[u16],
-    len: usize,
-) -> usize
-    requires { (len ≤ length pins.now) × (count + len ≤ length touched.old) }
-    ensures { (ratings_in rating.new touched.new result ≡ rated_pins mates.now n v r (take len pins.now) (ratings_in rating.old touched.old count)) × (result ≤ count + len) × (length touched.new ≡ length touched.old) × (length rating.new ≡ length rating.old) }
-{
-    let mut at = count;
-    for k in 0..len {
-        at = rate_open(mates, n, v, rating, touched, at, r, cells::at16(pins, k));
+impl<'a> Ratings<'a> {
+    // Pin `u` of a net rated `r`: a vertex whose rating is 0 is listed, so one that is rated 0 is listed again.
+    fn rate(&mut self, r: f64, u: usize)
+        requires { (u < 65536) × (self.old.count < length self.old.touched.now) }
+        ensures lent { IsSameLoan self.old self.new }
+        ensures rated { ratings_of self.new ≡ rated_pin r u (ratings_of self.old) }
+        ensures few { self.new.count ≤ self.old.count + 1 }
+    {
+        let x = raise(self.rating, u, r);
+        if x == 0.0 {
+            cells::put16(self.touched, self.count, u as u16);
+            self.count += 1;
+        }
     }
-    at
-}
 
-// Net `e`, whose weight is in `weights`; nets of over 64 pins are passed over.
-fn rate_net(
-    words: &[u64],
-    nets: usize,
-    weights: &[u8],
-    mates: &[u16],
-    n: usize,
-    v: usize,
-    rating: &mut [f64],
-    touched: &mut [u16],
-    count: usize,
-    e: usize,
-) -> usize
-    requires { (nets < 65536) × (e < 65536) × (count + 64 ≤ length touched.old) }
-    ensures { (ratings_in rating.new touched.new result ≡ rated_net mates.now n v (get_or weights.now e 0) (rising_of words.now 2 (nets + e)) (ratings_in rating.old touched.old count)) × (result ≤ count + 64) × (length touched.new ≡ length touched.old) × (length rating.new ≡ length rating.old) }
-{
-    let mut pins = [0u16; 128];
-    let len = slots::members(words, 2, nets + e, &mut pins, 0);
-    if len <= 64 {
-        let r = rate_of(cells::get8(weights, e), len);
-        return rate_pins(mates, n, v, rating, touched, count, r, &pins, len);
+    // The same if `u` may be the mate: another vertex, that has no mate yet.
+    fn rate_open(&mut self, single: &Single, r: f64, u: usize)
+        requires { (u < 65536) × (self.old.count < length self.old.touched.now) }
+        ensures lent { IsSameLoan self.old self.new }
+        ensures rated { ratings_of self.new ≡ rated_open single.now.mates.now single.now.none single.now.vertex r u (ratings_of self.old) }
+        ensures few { self.new.count ≤ self.old.count + 1 }
+    {
+        if u == single.vertex {
+            return;
+        }
+        if cells::at16(single.mates, u) == single.none {
+            self.rate(r, u);
+        }
     }
-    count
-}
 
-// The first `len` nets of a list, at most 256: the ratings of the neighbours of `v`. Returns how many are listed.
-pub fn rate_nets(
-    words: &[u64],
-    nets: usize,
-    weights: &[u8],
-    mates: &[u16],
-    n: usize,
-    v: usize,
-    rating: &mut [f64],
-    touched: &mut [u16],
-    list: &[u16],
-    len: usize,
-) -> usize
-    requires { (nets < 65536) × (len ≤ 256) × (len ≤ length list.now) × (16384 ≤ length touched.old) }
-    ensures { (ratings_in rating.new touched.new result ≡ rated_nets words.now nets weights.now mates.now n v (take len list.now) (ratings_in rating.old touched.old 0)) × (result ≤ 16384) × (length touched.new ≡ length touched.old) × (length rating.new ≡ length rating.old) }
-{
-    let mut at: usize = 0;
-    for k in 0..len {
-        at = rate_net(
-            words,
-            nets,
-            weights,
-            mates,
-            n,
-            v,
-            rating,
-            touched,
-            at,
-            cells::at16(list, k),
-        );
+    // The pins of a net rated `r`.
+    fn rate_pins(&mut self, single: &Single, r: f64, pins: &[u16])
+        requires { self.old.count + length pins.now ≤ length self.old.touched.now }
+        ensures lent { IsSameLoan self.old self.new }
+        ensures rated { ratings_of self.new ≡ rated_pins single.now.mates.now single.now.none single.now.vertex r pins.now (ratings_of self.old) }
+        ensures few { self.new.count ≤ self.old.count + length pins.now }
+    {
+        for &u in pins {
+            self.rate_open(single, r, usize::from(u));
+        }
     }
-    at
+
+    // Net `e`, whose weight is in `weights`; nets of over 64 pins are passed over.
+    fn rate_net(&mut self, words: &[u64], nets: usize, weights: &[u8], single: &Single, e: usize)
+        requires { (nets < 65536) × (e < 65536) × (self.old.count + 64 ≤ length self.old.touched.now) }
+        ensures lent { IsSameLoan self.old self.new }
+        ensures rated { ratings_of self.new ≡ rated_net single.now.mates.now single.now.none single.now.vertex (get_or weights.now e 0) (rising_of words.now 2 (nets + e)) (ratings_of self.old) }
+        ensures few { self.new.count ≤ self.old.count + 64 }
+    {
+        let mut pins = [0u16; 128];
+        let len = slots::members(words, 2, nets + e, &mut pins, 0);
+        if len <= 64 {
+            let r = rate_of(cells::get8(weights, e), len);
+            self.rate_pins(single, r, &pins[..len]);
+        }
+    }
+
+    /// Rates the neighbours of a vertex along the nets of a list: each net stands in slot `nets` + e of `words`, its weight in `weights`.
+    pub fn rate_nets(
+        &mut self,
+        words: &[u64],
+        nets: usize,
+        weights: &[u8],
+        single: &Single,
+        list: &[u16],
+    )
+        requires { (nets < 65536) × (self.old.count + length list.now * 64 ≤ length self.old.touched.now) }
+        ensures lent { IsSameLoan self.old self.new }
+        ensures rated { ratings_of self.new ≡ rated_nets words.now nets weights.now single.now.mates.now single.now.none single.now.vertex list.now (ratings_of self.old) }
+        ensures few { self.new.count ≤ self.old.count + length list.now * 64 }
+    {
+        for &e in list {
+            self.rate_net(words, nets, weights, single, usize::from(e));
+        }
+    }
 }

@@ -8,4 +8,6 @@ use Rattle.growth.proofs.grown.Goals as goal
 
 pub returns : goal.returns
 unfolding of_bits
-returns c = let p = c.requires in let a = c.args in let o = c.grow_turns-g in grown_is a.graph.now a.nets a.m a.weights.now a.vw.now a.words.now a.part.now _ _ _ _ a.at c.after.result o.result.at c.index-next.result o.result.weight _ p.3 c.fill8.ensures (front_filled (length a.vw.now) 128 zero_float (omega (arith, p.4.few.1))) c.index-next.ensures.0 c.after.ensures o.ensures.0
+returns c =
+    let p = c.requires in let a = c.args in let g = a.graph.now in
+    grown_is g.words.now g.layout.nets g.layout.net_count g.layout.net_weights.now g.layout.vertex_weights.now a.draws.now c.index.new.self _ a.part.now _ _ _ _ c.index.result c.grow_turns.result.weight c.grow_turns.result.next p.1 c.fill.ensures (front_filled (length g.layout.vertex_weights.now) 128 zero_float (omega (arith, g.meshed.few.1))) c.index.ensures.value c.index.ensures.words c.grow_turns.ensures

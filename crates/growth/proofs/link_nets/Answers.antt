@@ -1,9 +1,11 @@
 use Rattle.growth.specs.Links.{linked_net}
 use Rattle.partition.specs.Folds.{fold_next}
-use native.Mathlib.Omega.{arith}
-use Prim.Native.Nat.{ℕ}
-use mathlib.Core.Path.{ap, ◌∙◌}
+use Rattle.std.proofs.Common.{rules, ap, ◌∙◌, ℕ}
 use Rattle.growth.proofs.link_nets.Goals as goal
 
-pub loop-k-preserved : goal.loop-k-preserved
-loop-k-preserved c = let a = c.args in let l = c.loop-k in let o = c.link_net in (omega (arith, c.loop-k-test.true), fold_next (linked_net a.graph.now a.nets a.weights.now) a.list.now a.links.now l.links _ l.k (omega (arith, c.requires.1, c.loop-k-test.true)) l.invariant.1 (o.ensures.0 ∙ ap (λ (e : ℕ). linked_net a.graph.now a.nets a.weights.now e l.links) c.at16.ensures.0), o.ensures.1 ∙ l.invariant.2, o.ensures.2 ∙ l.invariant.3)
+pub loop-e-preserved : goal.loop-e-preserved
+loop-e-preserved c =
+    let a = c.args in let l = c.loop-e in let g = a.graph.now in (
+      fold_next (linked_net g.words.now g.layout.nets g.layout.net_weights.now) a.list.now a.links.now l.links _ l.e-index c.loop-e-test.true l.invariant.0 (c.link_net.ensures ∙ ap (λ (e : ℕ). linked_net g.words.now g.layout.nets g.layout.net_weights.now e l.links) c.from.ensures),
+      search rules,
+    )

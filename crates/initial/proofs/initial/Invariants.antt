@@ -1,9 +1,7 @@
-use Prim.Native.Nat.{◌≤◌}
-use mathlib.Core.Path.{◌≡◌}
-use lib.ListN.{length}
 use Rattle.initial.specs.Least.{Best}
+use Rattle.std.proofs.Common.{◌≡◌, length}
 use Rattle.initial.proofs.initial.Given as goal
 
 abbrev pub invariant-loop-k : goal.invariant-loop-k
-invariant-loop-k l = (l.k ≤ 8) × Best l.weights l.vw l.nets l.vertices l.sides l.m l.maxw l.draws l.initial.graph l.at 8 l.graph l.part l.best.cut l.best.found l.best.at l.k
+invariant-loop-k l = Best l.layout.net_weights.now l.layout.vertex_weights.now l.layout.nets l.layout.vertices l.layout.sides l.layout.net_count l.most_weight l.initial.words l.initial.draws 8 l.words l.part l.best l.draws l.k
     × (length l.part ≡ length l.initial.part) × (length l.trial ≡ length l.initial.trial)

@@ -14,10 +14,11 @@ unfolding graph_in of_bits of_int round
 initial-requires c =
     let a = c.args in
     let s = c.requires.0 in
-    let e = span_length (a.level * 128) a.n a.vw.now (omega (arith, s.low, s.room, s.vertices_fit)) in (
-      front_as a.n _ (omega (arith, s.room)) e,
+    let y = a.levels.now in
+    let e = span_length (a.level * 128) a.size.vertices y.vertex_weights.now (omega (arith, s.low, s.room, s.vertices_fit)) in (
+      front_as a.size.vertices _ (omega (arith, s.room)) e,
       omega (arith, e, s.some_left),
-      stage_site a.graph.now (length a.weights.now) (length a.vw.now) a.places a.level a.m a.n _ s e,
+      stage_site a.words.now (length y.net_weights.now) (length y.vertex_weights.now) (length y.places.now) a.level a.size.nets a.size.vertices _ s e,
       ap (λ x. div binary64 x (whole_float 2)) c.total_weight-total.ensures,
-      front_as a.n _ c.requires.1 e,
+      front_as a.size.vertices _ c.requires.1 e,
     )

@@ -4,4 +4,4 @@ use lib.ListN.{length, get_or}
 use Rattle.levels.proofs.project.Given as goal
 
 abbrev pub invariant-loop-v : goal.invariant-loop-v
-invariant-loop-v l = (l.v ≤ l.v-end) × (l.v-end ≡ length l.initial.part) × (length l.part ≡ length l.initial.part) × ((u : ℕ) → u < l.v → get_or l.part u 0 ≡ get_or l.coarse (get_or l.places u 0) 0)
+invariant-loop-v l = (length l.part ≡ length l.initial.part) × ((u : ℕ) → u < l.v → get_or l.part u 0 ≡ get_or l.coarse (get_or l.places u 0) 0)

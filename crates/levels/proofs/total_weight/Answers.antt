@@ -1,6 +1,8 @@
 use Rattle.levels.specs.Spans.{sum_next}
-use native.Mathlib.Omega.{arith}
+use Rattle.std.proofs.Common.{refl}
+use Rattle.std.proofs.lemmas.List.{get_or_default}
+use Rattle.spec.specs.Floats.{zero_float}
 use Rattle.levels.proofs.total_weight.Goals as goal
 
-pub loop-v-preserved : goal.loop-v-preserved
-loop-v-preserved c = let l = c.loop-v in (omega (arith, c.loop-v-test.true), l.invariant.1, sum_next c.args.vw.now l.sum c.getf-sum.result l.v (omega (arith, c.loop-v-test.true, l.invariant.1)) l.invariant.2 c.getf-sum.ensures)
+pub loop-w-preserved : goal.loop-w-preserved
+loop-w-preserved c = let l = c.loop-w in sum_next c.args.vw.now l.sum _ l.w-index c.loop-w-test.true l.invariant (get_or_default c.args.vw.now l.w-index _ zero_float c.loop-w-test.true)

@@ -1,9 +1,6 @@
 use Rattle.matching.specs.Order.{counted_next}
-use lib.ListN.{take, length, length-set}
-use native.Mathlib.Omega.{arith}
-use Prim.Native.Nat.{◌+◌}
-use mathlib.Core.Path.{ap, ◌∙◌}
+use Rattle.std.proofs.Common.{length-set, arith, ◌∙◌}
 use Rattle.matching.proofs.count_up.Goals as goal
 
 pub loop-k-preserved : goal.loop-k-preserved
-loop-k-preserved c = let l = c.loop-k in (omega arith, l.invariant.1, ap length c.put16.ensures ∙ length-set l.order l.k l.k ∙ l.invariant.2, ap (take (l.k + 1)) c.put16.ensures ∙ counted_next l.order l.k (omega (arith, l.invariant.1, l.invariant.2, c.loop-k-test.true)) l.invariant.3)
+loop-k-preserved c = let l = c.loop-k in (length-set l.order l.k l.k ∙ l.invariant.0, counted_next l.order l.k (omega (arith, l.invariant.0, c.loop-k-test.true)) l.invariant.1)

@@ -1,13 +1,22 @@
-use Rattle.matching.specs.Choices.{looked_better, looked_light, mate_if}
+use Rattle.matching.specs.Choices.{choice_of, looked, looked_better, looked_light}
+use Rattle.std.specs.Prelude.{Some}
+use Rattle.std.proofs.Common.{ℕ, ◌≡◌, subst, refl}
+use Rattle.std.specs.Float.{binary64}
+use Rattle.std.specs.Float.Ieee.{add, mul}
+use Rattle.spec.specs.Floats.{micro, whole_float}
 use lib.Ieee.{of_bits, of_int, round}
-use mathlib.Core.Path.{refl, ap, ◌∙◌}
-use lib.ListN.{length, length-set}
 use Rattle.matching.proofs.look.Goals as goal
 
 pub returns-then-getf-limit : goal.returns-then-getf-limit
 unfolding of_bits of_int round
-returns-then-getf-limit c = let a = c.args in (looked_better a.vw.now a.limit a.words.now a.rating.now _ a.v a.u a.best.at c.after-next.result c.unit-noise.result c.getf.result a.best.rating (mate_if a.best.found a.best.mate) c.unit-noise.ensures c.after-next.ensures c.getf.ensures c.putf.ensures _ c.getf-then-best-x.result c.getf-then-best-x-2.result refl c.getf-then-best-x.ensures c.getf-then-best-x-2.ensures c.if-best-x.true c.if-getf-limit.true, c.requires.0, ap length c.putf.ensures ∙ length-set a.rating.now a.u _)
+returns-then-getf-limit c =
+    let a = c.args in let b = a.best in
+    subst (λ (k : ℕ). choice_of (mul binary64 c.getf.result (add binary64 (whole_float 1) (mul binary64 micro c.unit-noise.result))) (Some k) c.putf.new.floats c.unit-noise.new.self ≡ looked a.vw.now a.limit a.v k (choice_of b.rating b.mate a.rating.now a.draws.now)) c.from-place.ensures
+    (looked_better a.vw.now a.limit a.draws.now _ a.rating.now _ a.v c.from-place.result c.unit-noise.result c.getf.result b.rating b.mate c.unit-noise.ensures.value c.unit-noise.ensures.words c.getf.ensures c.putf.ensures _ c.getf-then-best-x.result c.getf-then-best-x-2.result refl c.getf-then-best-x.ensures c.getf-then-best-x-2.ensures c.if-best-x.true c.if-getf-limit.true)
 
 pub returns-else-best-x : goal.returns-else-best-x
 unfolding of_bits of_int round
-returns-else-best-x c = let a = c.args in (looked_light a.vw.now a.limit a.words.now a.rating.now _ a.v a.u a.best.at c.after-next.result c.unit-noise.result c.getf.result a.best.rating (mate_if a.best.found a.best.mate) c.unit-noise.ensures c.after-next.ensures c.getf.ensures c.putf.ensures _ refl c.if-best-x.false, c.requires.1, ap length c.putf.ensures ∙ length-set a.rating.now a.u _)
+returns-else-best-x c =
+    let a = c.args in let b = a.best in
+    subst (λ (k : ℕ). choice_of b.rating b.mate c.putf.new.floats c.unit-noise.new.self ≡ looked a.vw.now a.limit a.v k (choice_of b.rating b.mate a.rating.now a.draws.now)) c.from-place.ensures
+    (looked_light a.vw.now a.limit a.draws.now _ a.rating.now _ a.v c.from-place.result c.unit-noise.result c.getf.result b.rating b.mate c.unit-noise.ensures.value c.unit-noise.ensures.words c.getf.ensures c.putf.ensures _ refl c.if-best-x.false)

@@ -1,13 +1,11 @@
 use Rattle.matching.specs.Meshed.{all_matched, order_below, front_long}
-use Rattle.laws.specs.ListLaws.{range_length}
 use native.Mathlib.Omega.{arith}
-use Prim.Native.Nat.{ℕ}
-use mathlib.Core.Path.{refl, ap, ◌∙◌}
+use mathlib.Core.Path.{refl}
 use lib.ListN.{length, take, replicate}
 use Rattle.matching.proofs.match_all.Goals as goal
 
 pub match_in_order-requires : goal.match_in_order-requires
-match_in_order-requires c = let p = c.requires in let a = c.args in (p.0, p.1, p.2, omega arith, p.3, c.shuffle-cursor.ensures.1 ∙ ap length c.count_up.ensures ∙ range_length 0 (length {A = ℕ} (take (length a.vw.now) (replicate 128 0))) ∙ front_long (length a.vw.now) p.3.few.1, order_below a.graph.now a.nets a.vertices a.m (length a.vw.now) a.weights.now a.vw.now a.limit p.3 a.words.now (take (length a.vw.now) (replicate 128 0)) _ _ a.at c.shuffle-cursor.result p.2 (front_long (length a.vw.now) p.3.few.1) c.count_up.ensures c.shuffle-cursor.ensures.0)
+match_in_order-requires c = let p = c.requires in let a = c.args in let g = a.graph.now in (omega arith, order_below g.words.now g.layout.nets g.layout.vertices g.layout.net_count (length g.layout.vertex_weights.now) g.layout.net_weights.now g.layout.vertex_weights.now a.limit g.meshed a.draws.now _ (take (length g.layout.vertex_weights.now) (replicate 128 0)) _ _ p.0 (front_long (length g.layout.vertex_weights.now) g.meshed.few.1) c.count_up.ensures c.shuffle.ensures)
 
 pub returns : goal.returns
-returns c = let p = c.requires in let a = c.args in all_matched a.graph.now a.nets a.vertices a.m (length a.vw.now) a.weights.now a.vw.now a.limit p.3 a.words.now (take (length a.vw.now) (replicate 128 0)) _ _ a.mates.now _ _ a.at c.shuffle-cursor.result c.match_in_order.result refl (front_long (length a.vw.now) p.3.few.1) p.4 c.count_up.ensures c.shuffle-cursor.ensures.0 c.fill16.ensures c.match_in_order.ensures.0
+returns c = let p = c.requires in let a = c.args in let g = a.graph.now in all_matched g.words.now g.layout.nets g.layout.vertices g.layout.net_count (length g.layout.vertex_weights.now) g.layout.net_weights.now g.layout.vertex_weights.now a.limit g.meshed a.draws.now _ _ (take (length g.layout.vertex_weights.now) (replicate 128 0)) _ _ a.mates.now _ _ refl (front_long (length g.layout.vertex_weights.now) g.meshed.few.1) p.1 c.count_up.ensures c.shuffle.ensures c.fill.ensures c.match_in_order.ensures

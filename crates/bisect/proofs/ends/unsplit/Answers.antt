@@ -1,6 +1,9 @@
-use Rattle.bisect.specs.Cases.{is_greedy}
-use mathlib.Core.Path.{sym, ◌∙◌}
+use Rattle.bisect.specs.Cases.{is_dry, is_greedy}
+use Rattle.std.proofs.Common.{refl, sym, ◌∙◌}
 use Rattle.bisect.proofs.ends.unsplit.Goals as goal
 
-pub returns-clause-unsplit : goal.returns-clause-unsplit
-returns-clause-unsplit c = λ N a s. is_greedy (sym c.is_exhausted.ensures ∙ c.if-is_exhausted.false) (c.greedy_nodes-top.ensures N a s)
+pub returns-then-is_exhausted : goal.returns-then-is_exhausted
+returns-then-is_exhausted c = λ N a s. is_dry refl (sym c.is_exhausted.ensures ∙ c.if-is_exhausted.true)
+
+pub returns : goal.returns
+returns c = λ N a s. is_greedy (sym c.is_exhausted.ensures ∙ c.if-is_exhausted.false) (c.small_end.ensures N a s)

@@ -1,9 +1,7 @@
 use Rattle.bisect.specs.Raw.{leaf_put_at}
 use Rattle.cells.specs.Loop.{turns}
-use Prim.Native.Nat.{◌≤◌}
-use mathlib.Core.Path.{◌≡◌}
-use lib.ListN.{length}
+use Rattle.std.proofs.Common.{◌≡◌}
 use Rattle.bisect.proofs.hypergraph.put_leaves.Given as goal
 
 abbrev pub invariant-loop-v : goal.invariant-loop-v
-invariant-loop-v l = (l.v ≤ l.v-end) × (l.v-end ≡ length l.leaves) × (l.graph ≡ turns (leaf_put_at l.nets l.counts l.legs l.leaves) l.initial.graph l.v)
+invariant-loop-v l = l.words ≡ turns (leaf_put_at l.nets l.network.leg_counts.now l.network.legs.now l.leaves) l.initial.words l.v

@@ -1,0 +1,6 @@
+use Rattle.mesh.specs.Entries.{entered}
+use Rattle.std.proofs.Common.{◌≡◌, ◌*◌}
+use Rattle.bisect.proofs.hypergraph.put_leaf.Given as goal
+
+abbrev pub invariant-loop-k : goal.invariant-loop-k
+invariant-loop-k l = l.words ≡ entered 2 l.nets l.network.legs.now (l.l * 32) l.v l.initial.words l.k

@@ -1,8 +1,0 @@
-use Prim.Native.Nat.{◌≤◌, min}
-use mathlib.Core.Path.{◌≡◌}
-use lib.ListN.{length}
-use Rattle.spec.specs.Memory.{copied}
-use Rattle.levels.proofs.copyf.Given as goal
-
-abbrev pub invariant-loop-k : goal.invariant-loop-k
-invariant-loop-k l = (l.k ≤ l.k-end) × (l.k-end ≡ min l.n (min (length l.initial.to) (length l.list))) × (length l.to ≡ length l.initial.to) × (l.to ≡ copied l.initial.to l.list l.k)
