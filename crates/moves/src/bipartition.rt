@@ -25,11 +25,11 @@ impl<'a> Bipartition<'a> {
     {
         let sides = layout.sides;
         let part = &mut *self.part;
-        let s = cells::at8(part, v);
-        let t = cells::less(1, s);
-        let x = cells::getf(layout.vertex_weights, v);
-        let a = cells::getf(&self.loads, s);
-        let b = cells::getf(&self.loads, t);
+        let s = usize::from(cells::get_or(part, v, 0));
+        let t = 1usize.saturating_sub(s);
+        let x = cells::get_or(layout.vertex_weights, v, 0.0);
+        let a = cells::get_or(&self.loads, s, 0.0);
+        let b = cells::get_or(&self.loads, t, 0.0);
         cells::put(&mut self.loads, s, a - x);
         cells::put(&mut self.loads, t, b + x);
         cells::put(part, v, t as u8);
@@ -42,9 +42,9 @@ impl<'a> Bipartition<'a> {
     pub fn fits(&self, layout: &Layout, most_weight: f64, v: usize) -> bool
         ensures { Fits layout.now.vertex_weights.now most_weight v (sides_at self.now) result }
     {
-        let s = cells::at8(self.part, v);
-        let w = cells::getf(&self.loads, cells::less(1, s));
-        !(most_weight < w + cells::getf(layout.vertex_weights, v))
+        let s = usize::from(cells::get_or(self.part, v, 0));
+        let w = cells::get_or(&self.loads, 1usize.saturating_sub(s), 0.0);
+        !(most_weight < w + cells::get_or(layout.vertex_weights, v, 0.0))
     }
 
     /// Takes back the moves after the largest sum, the last one first.
@@ -53,9 +53,9 @@ impl<'a> Bipartition<'a> {
         ensures lent { IsSameLoan self.old self.new }
         ensures rolled { Rolled self.old.words.now self.new.words.now layout.now.sides layout.now.vertex_weights.now pass.now.moves pass.now.count (pass.now.count - pass.now.peak) (sides_at self.old) (sides_at self.new) }
     {
-        let last = cells::less(pass.count, pass.peak);
+        let last = pass.count.saturating_sub(pass.peak);
         for i in 0..last {
-            let v = cells::at16(&pass.moves, pass.count - 1 - i);
+            let v = usize::from(cells::get_or(&pass.moves, pass.count - 1 - i, 0));
             self.move_vertex(layout, v);
         }
     }

@@ -35,6 +35,6 @@ impl Pass {
         requires { n ≤ 128 }
         ensures { result ≡ ltb (50 + n / 4) (self.now.count - self.now.peak) }
     {
-        50 + n / 4 < cells::less(self.count, self.peak)
+        50 + n / 4 < self.count.saturating_sub(self.peak)
     }
 }

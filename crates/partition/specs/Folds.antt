@@ -37,16 +37,12 @@ range_next f s g r k p e =
 -- ---- folds over the members of a slot, word by word ----
 
 module _ {S : Type 0} (f : ℕ → S → S) where
-  -- from a word's lowest set digit to the next
-  pub fold_place : (base rest t : ℕ) (g r z : S) → 0 < rest → rest < 2 ^ 64 → t ≡ count_trailing_zeros 64 rest → r ≡ f (base + t) g
-      → fold_over f (places base 64 rest) g ≡ z → fold_over f (places base 64 (bit_and rest (rest - 1))) r ≡ z
-  fold_place base rest t g r z pos lt e q h =
-      ap (fold_over f (places base 64 (bit_and rest (rest - 1)))) (q ∙ ap (λ (k : ℕ). f (base + k) g) e)
-      ∙ sym (ap (λ l. fold_over f l g) (places_step base 64 rest pos lt))
-      ∙ h
+  -- one member more of those that are left, and none left
+  pub fold_turn : (l m : List ℕ) (i : ℕ) (g r z : S) → l ≡ i ∷ m → r ≡ f i g → fold_over f l g ≡ z → fold_over f m r ≡ z
+  fold_turn l m i g r z e q h = ap (fold_over f m) q ∙ sym (ap (λ k. fold_over f k g) e) ∙ h
 
-  pub fold_places : (base rest : ℕ) (g z : S) → rest ≡ 0 → fold_over f (places base 64 rest) g ≡ z → g ≡ z
-  fold_places base rest g z e h = sym (ap (λ (k : ℕ). fold_over f (places base 64 k) g) e ∙ ap (λ l. fold_over f l g) (places_none base 64)) ∙ h
+  pub fold_stop : (l : List ℕ) (g z : S) → l ≡ [] → fold_over f l g ≡ z → g ≡ z
+  fold_stop l g z e h = sym (ap (λ k. fold_over f k g) e) ∙ h
 
   -- one word more
   pub fold_word : (ws : List ℕ) (W s k x : ℕ) (z g r : S) → g ≡ fold_over f (keep (held ws W s) (range (k * 64))) z → x ≡ get_or ws (s * W + k) 0

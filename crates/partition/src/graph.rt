@@ -1,6 +1,7 @@
 ghost use Rattle.partition.specs.Layout.{Placed};
 
 use crate::place::Place;
+use bits::Digits;
 
 /// A hypergraph and a partition of its vertices, in slots of lent words, with the weight of each net.
 #[derive(Clone, Copy)]
@@ -27,7 +28,7 @@ impl<'a> Hypergraph<'a> {
         let nets = self.place.nets;
         let x = crate::few(self.words, nets + e, here);
         let y = crate::few(self.words, nets + e, there);
-        crate::gain_net(x, y, cells::get8(self.weights, e), g)
+        crate::gain_net(x, y, cells::get_or(self.weights, e, 0), g)
     }
 
     /// The gain `g` with the nets `base` + i for each set digit i of `x`.
@@ -35,12 +36,9 @@ impl<'a> Hypergraph<'a> {
         requires { (here < 65536) × (there < 65536) × (base ≤ 192) }
         ensures { result ≡ fold_over (gain_step self.now.words.now self.now.place.nets here there self.now.weights.now) (places base 64 x) g }
     {
-        let mut rest = x;
         let mut sum = g;
-        while rest != 0 {
-            let e = base + bits::low(rest);
+        for e in Digits::above(base, x) {
             sum = self.gain_step(here, there, e, sum);
-            rest = rest & (rest - 1);
         }
         sum
     }
@@ -53,7 +51,7 @@ impl<'a> Hypergraph<'a> {
         let p = s * 4;
         let mut g = 0.0;
         for k in 0..4 {
-            let x = cells::get64(self.words, p + k);
+            let x = cells::get_or(self.words, p + k, 0);
             g = self.gain_word(here, there, k * 64, x, g);
         }
         g

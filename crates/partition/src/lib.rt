@@ -21,7 +21,7 @@ pub use graph::Hypergraph;
 pub use layout::Layout;
 pub use place::Place;
 
-// How many members slots `a` and `b` have in common.
+/// How many members slots `a` and `b` have in common.
 pub fn common(words: &[u64], w: usize, a: usize, b: usize) -> usize
     requires { (w ≤ 16) × (a < 1048576) × (b < 1048576) }
     ensures { result ≡ length (common_of words.now w a b) }
@@ -30,14 +30,14 @@ pub fn common(words: &[u64], w: usize, a: usize, b: usize) -> usize
     let q = b * w;
     let mut n: usize = 0;
     for k in 0..w {
-        let x = cells::get64(words, p + k);
-        let y = cells::get64(words, q + k);
+        let x = cells::get_or(words, p + k, 0);
+        let y = cells::get_or(words, q + k, 0);
         n += bits::count_ones(x & y);
     }
     n
 }
 
-// How many digits of `x` are set, where 2 stands for two or more.
+/// How many digits of `x` are set, where 2 stands for two or more.
 fn few_ones(x: u64) -> usize
     ensures { (result ≡ capped (ones x)) × (result ≤ 2) }
 {
@@ -50,19 +50,19 @@ fn few_ones(x: u64) -> usize
     2
 }
 
-// Have slots `a` and `b` of two words no member in common, just one, or more: 0, 1, or above.
+/// Have slots `a` and `b` of two words no member in common, just one, or more: 0, 1, or above.
 fn few(words: &[u64], a: usize, b: usize) -> usize
     requires { (a < 1048576) × (b < 1048576) }
     ensures { Few result (length (common_of words.now 2 a b)) }
 {
     let p = a * 2;
     let q = b * 2;
-    let x = few_ones(cells::get64(words, p) & cells::get64(words, q));
-    let y = few_ones(cells::get64(words, p + 1) & cells::get64(words, q + 1));
+    let x = few_ones(cells::get_or(words, p, 0) & cells::get_or(words, q, 0));
+    let y = few_ones(cells::get_or(words, p + 1, 0) & cells::get_or(words, q + 1, 0));
     x + y
 }
 
-// The gain with one net of weight `w`, that has `here` pins on the vertex's side and `there` on the other.
+/// The gain with one net of weight `w`, that has `here` pins on the vertex's side and `there` on the other.
 fn gain_net(here: usize, there: usize, w: u8, g: f64) -> f64
     ensures { result ≡ gain_net here there (whole_float w) g }
 {
@@ -79,7 +79,7 @@ fn gain_net(here: usize, there: usize, w: u8, g: f64) -> f64
     g
 }
 
-// The weight of the nets that are cut, in a hypergraph of `m` nets and `n` vertices.
+/// The weight of the nets that are cut, in a hypergraph of `m` nets and `n` vertices.
 pub fn cut(
     words: &[u64],
     nets: usize,

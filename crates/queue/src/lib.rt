@@ -8,6 +8,7 @@ ghost use Rattle.queue.specs.Enters.{Entered, AllEntered};
 ghost use Rattle.queue.specs.Open.{open_in};
 ghost use Rattle.queue.specs.Queues.{queue_in, no_words, first_of};
 
+use bits::Digits;
 use draws::Draws;
 use partition::Hypergraph;
 
@@ -48,12 +49,9 @@ fn offer_word(entries: &[Entry], base: usize, x: u64, best: Option<usize>) -> Op
     ensures first { first_of (queue_in entries.now no_words) result ≡ fold_over (offered (queue_in entries.now no_words)) (places base 64 x) (first_of (queue_in entries.now no_words) best) }
     ensures below { IfSome result (λ b. b < length entries.now) }
 {
-    let mut rest = x;
     let mut first = best;
-    while rest != 0 {
-        let v = base + bits::low(rest);
+    for v in Digits::above(base, x) {
         first = offer(entries, v, first);
-        rest = rest & (rest - 1);
     }
     first
 }
@@ -64,8 +62,8 @@ fn open_word(words: &[u64], sides: usize, k: usize) -> u64
     ensures { Tests (open_in words.now sides) (k * 64) 64 result }
 {
     let at = sides * 2 + k;
-    let x = cells::get64(words, at) | cells::get64(words, at + 2);
-    x ^ (x & cells::get64(words, at + 4))
+    let x = cells::get_or(words, at, 0) | cells::get_or(words, at + 2, 0);
+    x ^ (x & cells::get_or(words, at + 4, 0))
 }
 
 /// The vertex whose entry comes first of all. Slots `sides` and `sides + 1` hold the sides, and the next one the vertices that have moved, which do not wait.

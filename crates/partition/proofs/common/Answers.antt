@@ -8,12 +8,12 @@ pub loop-k-preserved : goal.loop-k-preserved
 loop-k-preserved c =
     let d = c.args in
     let l = c.loop-k in
-    let x = c.get64-x.result in
-    let y = c.get64-y.result in
+    let x = c.get_or-x.result in
+    let y = c.get_or-y.result in
     let b : bit_and x y ≤ y = and_le_r x y in (
       omega arith,
       common_next d.words.now d.w d.a d.b l.k l.n x y c.count_ones-n.result l.invariant.1
-          c.get64-x.ensures c.get64-y.ensures (omega arith) c.count_ones-n.ensures.0,
+          c.get_or-x.ensures c.get_or-y.ensures (omega arith) c.count_ones-n.ensures.0,
       omega (arith, c.count_ones-n.ensures.1, l.invariant.2),
     )
 

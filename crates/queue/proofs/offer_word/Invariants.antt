@@ -1,15 +1,13 @@
-use Rattle.std.proofs.Common.{◌≡◌, ◌<◌, ◌≤◌, length, IfSome}
+use Rattle.std.proofs.Common.{◌≡◌, ◌<◌, length, IfSome}
 use Rattle.spec.specs.Hypergraph.{fold_over}
 use Rattle.spec.specs.Fm.{offered}
 use Rattle.bits.specs.Lowest.{places}
 use Rattle.queue.specs.Queues.{queue_in, no_words, first_of}
 use Rattle.queue.proofs.offer_word.Given as goal
 
-abbrev pub invariant-loop-rest : goal.invariant-loop-rest
-invariant-loop-rest l =
+abbrev pub invariant-loop-v : goal.invariant-loop-v
+invariant-loop-v l =
     let q = queue_in l.entries no_words in
-    IfSome l.first (λ b. b < length l.entries)
-    × (fold_over (offered q) (places l.base 64 l.rest) (first_of q l.first) ≡ fold_over (offered q) (places l.base 64 l.x) (first_of q l.fn.best)) × (l.rest ≤ l.x)
-
-abbrev pub decreases-loop-rest : goal.decreases-loop-rest
-decreases-loop-rest l = l.rest
+    (goal.iterator-loop-v).can_next l.v-iterator
+    × IfSome l.first (λ b. b < length l.entries)
+    × (fold_over (offered q) (places l.v-iterator.base 64 l.v-iterator.rest) (first_of q l.first) ≡ fold_over (offered q) (places l.base 64 l.x) (first_of q l.fn.best))

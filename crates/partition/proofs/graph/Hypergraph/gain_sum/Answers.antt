@@ -8,8 +8,8 @@ pub loop-k-preserved : goal.loop-k-preserved
 loop-k-preserved c = let a = c.args in
     let l = c.loop-k in (
       omega arith,
-      fold_word (gain_step a.self.now.words.now a.self.now.place.nets a.here a.there a.self.now.weights.now) a.self.now.words.now 4 a.s l.k c.get64-x.result zero_float l.g c.gain_word-g.result
-          l.invariant.1 c.get64-x.ensures c.gain_word-g.ensures,
+      fold_word (gain_step a.self.now.words.now a.self.now.place.nets a.here a.there a.self.now.weights.now) a.self.now.words.now 4 a.s l.k c.get_or-x.result zero_float l.g c.gain_word-g.result
+          l.invariant.1 c.get_or-x.ensures c.gain_word-g.ensures,
     )
 
 pub returns : goal.returns
