@@ -68,10 +68,11 @@ pub numbers_none : (s : Text) (l : List ℕ) → Puts s (spaced (take 0 l)) s
 unfolding spaced
 numbers_none s l = puts_none s
 
-pub numbers_more : {s t u : Text} (l : List ℕ) (i : ℕ) → i < length l → Puts s (spaced (take i l)) t → Puts t (spaced (get_or l i 0 ∷ [])) u
+pub numbers_more : {s t u : Text} (l : List ℕ) (i x : ℕ) → i < length l → get_or l i 0 ≡ x → Puts s (spaced (take i l)) t → Puts t (spaced (x ∷ [])) u
     → Puts s (spaced (take (i + 1) l)) u
-numbers_more l i h p q =
-    puts_as (ap spaced (sym (ap (λ (k : ℕ). take k l) (add-one i) ∙ take-suc l i 0 h))) (put_numbers (take i l) (get_or l i 0 ∷ []) p q)
+numbers_more l i x h e p q =
+    puts_as (ap spaced (sym (ap (λ (k : ℕ). take k l) (add-one i) ∙ take-suc l i 0 h ∙ ap (λ (y : ℕ). take i l ++ (y ∷ [])) e)))
+    (put_numbers (take i l) (x ∷ []) p q)
 
 -- ---- indices that pass a test ----
 

@@ -38,7 +38,7 @@ impl<'a> Text<'a> {
     {
         let at = self.len;
         let buffer = &mut *self.buffer;
-        cells::place8(buffer, at, word);
+        cells::place(buffer, at, word);
         self.len = at + word.len();
     }
 

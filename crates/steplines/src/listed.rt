@@ -61,11 +61,11 @@ impl<'a> Listed<'a> {
         let steps = self.steps;
         let at = k * 5;
         [
-            cells::get16(steps, at),
-            cells::get16(steps, at + 1),
-            cells::get16(steps, at + 2),
-            cells::get16(steps, at + 3),
-            cells::get16(steps, at + 4),
+            cells::get_or(steps, at, 0),
+            cells::get_or(steps, at + 1, 0),
+            cells::get_or(steps, at + 2, 0),
+            cells::get_or(steps, at + 3, 0),
+            cells::get_or(steps, at + 4, 0),
         ]
     }
 

@@ -1,4 +1,4 @@
-use Rattle.steplines.specs.Lines.{member_in, member_out}
+use Rattle.steplines.specs.Lines.{member_out}
 use mathlib.Core.Path.{sym, ◌∙◌}
 use Rattle.steplines.proofs.listed.Listed.put_member.Goals as goal
 
