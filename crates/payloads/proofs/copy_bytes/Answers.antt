@@ -1,3 +1,4 @@
+use borrow.Author.Rules.{rules}
 use Rattle.cells.specs.Cells.{copied_none, copied_next, copied_end, copied_all}
 use native.Mathlib.Omega.{arith}
 use mathlib.Core.Path.{refl, ◌∙◌}
@@ -9,7 +10,7 @@ loop-k-init c = (omega arith, c.min-k-end.ensures, refl, copied_none _ _)
 
 pub loop-k-preserved : goal.loop-k-preserved
 loop-k-preserved c = let v = c.loop-k.invariant in
-    (omega arith, v.1, simp length-set v.2, copied_next _ _ _ _ (omega arith) v.3)
+    (omega arith, v.1, simp length-set v.2, (search rules))
 
 pub returns : goal.returns
 returns c = let v = c.loop-k.invariant in
