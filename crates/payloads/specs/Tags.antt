@@ -1,5 +1,5 @@
 -- The tags of fields by their numbers. Assumes nothing.
-use Rattle.std.specs.Prelude.{◌≡◌, ℕ, Result, Ok, Err, ◌<◌, ◌≤◌, ◌⊎◌}
+use Rattle.std.specs.Prelude.{◌≡◌, ℕ, Result, Ok, Err}
 use Rattle.spec.specs.declared.Refusal.{Refusal}
 use Rattle.spec.specs.declared.Refusal.TheVariants.{WrongTag}
 use Rattle.payloads.specs.declared.tags.Tag.{Tag}

@@ -7,7 +7,7 @@ ghost use Rattle.payloads.specs.Payload.{verdict, weights_refusal, leaf_refusal,
 
 pub mod tags; // tags.rt: the tags of the fields
 
-use network::Network;
+use network::{Network, scan};
 use spec::Refusal;
 
 // Indices of a network of m, byte by byte: refused at the first that is not below m, or that stands before. Both loops are left at the first.
@@ -37,7 +37,7 @@ pub fn check_weights(bytes: &[u8]) -> Result<(), Refusal>
     if bytes.len() > Network::MAX_INDICES {
         return Err(Refusal::TooLarge);
     }
-    if bytes.iter().any(|weight| *weight > Network::MAX_WEIGHT) {
+    if scan::above(bytes, Network::MAX_WEIGHT) {
         return Err(Refusal::Overweight);
     }
     Ok(())
@@ -73,7 +73,7 @@ pub fn check_flags(bytes: &[u8], m: usize) -> Result<(), Refusal>
     if bytes.len() > m {
         return Err(Refusal::InvalidFlags);
     }
-    if bytes.iter().any(|flag| *flag > 1) {
+    if scan::above(bytes, 1) {
         return Err(Refusal::InvalidFlags);
     }
     Ok(())

@@ -6,10 +6,10 @@ pub returns-then-bytes-m : goal.returns-then-bytes-m
 unfolding flags_refusal
 returns-then-bytes-m c = rw (lt-ltb _ _ c.if-bytes-m.true)
 
-pub returns-then-any : goal.returns-then-any
+pub returns-then-above : goal.returns-then-above
 unfolding flags_refusal
-returns-then-any c = rw (le-ltb _ _ c.if-bytes-m.false, ← c.any.ensures, c.if-any.true)
+returns-then-above c = rw (le-ltb _ _ c.if-bytes-m.false, ← c.above.ensures, c.if-above.true)
 
 pub returns : goal.returns
 unfolding flags_refusal
-returns c = rw (le-ltb _ _ c.if-bytes-m.false, ← c.any.ensures, c.if-any.false)
+returns c = rw (le-ltb _ _ c.if-bytes-m.false, ← c.above.ensures, c.if-above.false)

@@ -6,10 +6,10 @@ pub returns-then-bytes-gt-MAX_INDICES : goal.returns-then-bytes-gt-MAX_INDICES
 unfolding weights_refusal
 returns-then-bytes-gt-MAX_INDICES c = rw (lt-ltb _ _ c.if-bytes-gt-MAX_INDICES.true)
 
-pub returns-then-any : goal.returns-then-any
+pub returns-then-above : goal.returns-then-above
 unfolding weights_refusal
-returns-then-any c = rw (le-ltb _ _ c.if-bytes-gt-MAX_INDICES.false, ← c.any.ensures, c.if-any.true)
+returns-then-above c = rw (le-ltb _ _ c.if-bytes-gt-MAX_INDICES.false, ← c.above.ensures, c.if-above.true)
 
 pub returns : goal.returns
 unfolding weights_refusal
-returns c = rw (le-ltb _ _ c.if-bytes-gt-MAX_INDICES.false, ← c.any.ensures, c.if-any.false)
+returns c = rw (le-ltb _ _ c.if-bytes-gt-MAX_INDICES.false, ← c.above.ensures, c.if-above.false)
