@@ -39,6 +39,9 @@ impl Due {
     pub fn may_end(self) -> bool
         ensures { result ≡ may_end (due_of self) }
     {
-        !matches!(self, Due::Weights | Due::Leaves)
+        match self {
+            Due::Weights | Due::Leaves => false,
+            Due::Tree | Due::Ask | Due::End => true,
+        }
     }
 }
