@@ -1,18 +1,17 @@
 -- The writer's answer, and what it puts where nothing is refused. Assumes nothing.
 use Rattle.std.specs.Prelude.{◌≡◌, refl, Bool, true, false, not, ◌||◌, cond, List, [], ◌∷◌, ◌++◌, ℕ, ◌+◌, ◌%◌, ◌≤◌, ◌<◌, eqb, ltb, length, Option, None, Some, Result, Ok, Err}
-use Rattle.std.proofs.Common.{sym, ap, ◌∙◌, arith, length-append, lt-ltb, le-ltb}
+use Rattle.std.proofs.Common.{sym, ap, ◌∙◌, arith, lt-ltb, le-ltb}
 use Rattle.std.proofs.Math.Path.{subst}
 use Rattle.std.proofs.lemmas.Bool.{eqb-false}
 use borrow.Author.Tests.{ltb-false}
 use Rattle.spec.specs.declared.Refusal.{Refusal}
 use Rattle.spec.specs.declared.Refusal.TheVariants.{ShortBuffer, InvalidTree}
-use Rattle.spec.specs.Refusal.{Check, check, first, decide}
+use Rattle.spec.specs.Refusal.{Check, first}
 use Rattle.spec.specs.Lists.{anyb}
 use Rattle.spec.specs.Network.{Network, leaf_count, index_count, network_checks, refusal_of}
 use Rattle.spec.specs.Tree.{valid, pairs_of}
 use Rattle.spec.specs.Calls.{wrong_tree, lent, length_check}
 use Rattle.spec.specs.File.{Ask, plain, flagged, target, Contents, tree_field, ask_field, file_of, tree_checks, flags_checks, write_checks, write_of, buffer_after}
-use Rattle.spec.specs.FileClaims.{Bytes}
 use Rattle.laws.specs.Booleans.{or_none}
 use Rattle.laws.specs.FileLists.{valid_length}
 use Rattle.laws.specs.FileBytes.{tree_bytes}

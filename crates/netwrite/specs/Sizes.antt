@@ -1,5 +1,5 @@
 -- How many bytes the file of some contents takes. Assumes nothing.
-use Rattle.std.specs.Prelude.{◌≡◌, refl, List, ◌++◌, ℕ, ◌+◌, ◌-◌, ◌*◌, ◌≤◌, ◌<◌, get_or, Option, None, Some, MatchOption}
+use Rattle.std.specs.Prelude.{◌≡◌, List, ◌++◌, ℕ, ◌+◌, ◌*◌, ◌≤◌, ◌<◌, get_or, Option, None, Some, MatchOption}
 use Rattle.std.proofs.Common.{sym, ap, ◌∙◌, append_assoc}
 use native.Mathlib.Omega.{arith}
 use Rattle.std.proofs.Math.ListN.{length, length-append}
@@ -8,7 +8,7 @@ use Rattle.spec.specs.File.{Contents, field, leaf_fields, tree_field, ask_field,
 use Rattle.laws.specs.LayoutLaws.{firsts_length}
 use Rattle.network.specs.Checks.{leaves_of}
 use Rattle.network.specs.Lists.{Holds}
-use Rattle.network.specs.Views.{net_in, in_facts}
+use Rattle.network.specs.Views.{in_facts}
 use Rattle.network.specs.declared.accepted.Accepted.{Accepted}
 use Rattle.putfields.specs.Leaves.{leaf_bytes, leaf_bytes_none, leaf_bytes_more, leaf_fields_length}
 use Rattle.netwrite.specs.Contents.{network_fields}

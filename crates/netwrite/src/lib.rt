@@ -16,10 +16,9 @@ ghost use Rattle.netwrite.specs.Writes.{AskFits, KidsFit};
 
 mod parts; // parts.rt: what a network file is written from
 
-pub use parts::Parts;
-
 use fields::Asked;
 use network::Accepted;
+pub use parts::Parts;
 use payloads::tags::Tag;
 use spec::Refusal;
 

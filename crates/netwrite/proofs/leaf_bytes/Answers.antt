@@ -1,5 +1,5 @@
 use borrow.Author.Rules.{rules}
-use Rattle.netwrite.specs.Sizes.{Summed, summed_none, summed_next}
+use Rattle.netwrite.specs.Sizes.{summed_none, summed_next}
 use Rattle.putfields.specs.Leaves.{leaf_bytes}
 use native.Mathlib.Omega.{arith}
 use mathlib.Core.Path.{◌≡◌, ap, ◌∙◌}
