@@ -15,7 +15,7 @@ pub fn mark(i: usize) -> u8 {
 }
 
 /// Puts the mark of its place at every place of a list.
-pub fn fill<T, F: Fn(usize) -> T>(list: &mut [T], mark: F)
+pub fn fill<T: Drop, F: Fn(usize) -> T>(list: &mut [T], mark: F)
     requires { F.IsAlwaysCallable mark }
 {
     for (i, place) in list.iter_mut().enumerate() {
