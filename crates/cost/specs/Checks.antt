@@ -1,33 +1,32 @@
 -- Pricing's checks one after the other, and what each answer leaves. Assumes nothing.
-use Rattle.std.specs.Prelude.{Bool, true, false, not, ◌≡◌, refl, ℕ, ◌+◌, ◌-◌, ◌*◌, ◌≤◌, ◌<◌, ltb, length, take, drop, None, Result, Err, Ok}
+use Rattle.std.specs.Prelude.{Bool, true, false, not, ◌≡◌, refl, ℕ, ◌+◌, ◌-◌, ◌*◌, ◌≤◌, ◌<◌, ltb, length, take, drop, Option, None, Some, Result, Err, Ok}
 use Rattle.std.proofs.Math.Bool.{or-false}
 use mathlib.Core.List.{List, [], ◌∷◌}
 use Rattle.spec.specs.declared.Refusal.{Refusal}
-use Rattle.spec.specs.declared.Refusal.TheVariants.{InvalidTree, InvalidFlags}
+use Rattle.spec.specs.declared.Refusal.TheVariants.{ShortBuffer, InvalidTree, InvalidFlags}
 use Rattle.std.proofs.Math.Path.{sym, ap, subst}
 use Rattle.std.proofs.Common.{◌∙◌, arith, take_at}
 use borrow.Author.Tests.{lt-ltb, le-ltb, ltb-false}
 use Rattle.spec.specs.Lists.{anyb}
 use Rattle.spec.specs.Memory.{over, cleared}
-use Rattle.spec.specs.Refusal.{number_of, code_of, Check, check, checked}
-use Rattle.spec.specs.Network.{Network, leaf_count, index_count, refusal_of}
+use Rattle.spec.specs.Refusal.{number_of, code_of, Check, check, decide, checked}
+use Rattle.spec.specs.Network.{Network, leaf_count, index_count, network_checks, refusal_of}
 use Rattle.spec.specs.Tree.{pairs_of, step_order}
-use Rattle.spec.specs.Price as price
 use Rattle.spec.specs.Price.{price_of}
 use Rattle.spec.specs.Calls as calls
-use Rattle.spec.specs.Calls.{lent, plain_words, set_words, step_numbers, wrong_tree, tree_check, flags_check, flag_at, node_places, step_places, length_check, price_call, workspace_after}
+use Rattle.spec.specs.Calls.{lent, plain_words, set_words, step_numbers, wrong_tree, tree_check, flags_check, flag_at, node_places, step_places, length_check, price_call, touches, workspace_after}
 use Rattle.laws.specs.Booleans.{clash, or_none}
-use Rattle.laws.specs.Results.{not_done}
+use Rattle.laws.specs.Results.{not_done, refused_same}
 use Rattle.laws.specs.FileLists.{over_front}
 use Rattle.network.specs.Checks.{Lent, Fitting, lent_fitting, Rows}
-use Rattle.network.specs.Codes.{Facts}
+use Rattle.network.specs.Codes.{Facts, positive}
 use Rattle.nodesets.specs.Lists.{Ordered, ordered_steps}
 use Rattle.walk.specs.Wrong.{not_wrong}
-use Rattle.walk.specs.Entry.{Untouched, by_network, past_network, by_length, past_length, holds_first, passes_first, same_words as same_workspace}
+use Rattle.walk.specs.Entry.{first_some, by_network, past_network, past_length, holds_first, passes_first}
+use Rattle.pricing.specs.declared.list.PriceList.{PriceList}
+use Rattle.pricing.specs.Lists.{HasRoom}
 use Rattle.pricing.specs.Promise.{Priceable, Room, Pricing}
-use Rattle.pricing.specs.declared.Prices.{Prices}
-use Rattle.cost.specs.declared.Priced.{Priced}
-use Rattle.cost.specs.declared.Priced.TheVariants.{Refused, Done}
+use Rattle.spec.specs.declared.Prices.{Prices}
 use Rattle.cost.specs.Answers.{room, Answered, TreeCost, too_few, wrong_flags, rest_call}
 
 -- the lent lists have the stated lengths
@@ -112,7 +111,7 @@ module _ (N : Network) (flags kids : List ℕ) where
         ∙ passes_first (flags_check N flags) [] (Ok (price_of N (flag_at flags) (pairs_of kids))) (rw qm h)
 
   module _ (words sets sizes works steps : ℕ) where
-    abbrev call : Result price.Prices Refusal
+    abbrev call : Result Prices Refusal
     call = price_call N words (room sets sizes works steps) flags kids
 
     abbrev lents : List calls.Lent
@@ -127,16 +126,22 @@ module _ (N : Network) (flags kids : List ℕ) where
     abbrev rest : List Check
     rest = tree_check N kids ∷ flags_check N flags ∷ []
 
-    pub call_refused : (k : ℕ) → k ≡ code_of (refusal_of N) → (k ≡ 0 → ⊥) → Untouched k call
+    -- the network's own refusal comes first, and touches nothing
+    pub call_refused : (r : Refusal) → refusal_of N ≡ Some r → (call ≡ Err r) × (touches r ≡ false)
     unfolding price_call
-    call_refused k e z = by_network N (length_check lents ∷ rest) (Ok (price_of N (flag_at flags) (pairs_of kids))) k e z
+    call_refused r e =
+        let x : Result Prices Refusal = Ok (price_of N (flag_at flags) (pairs_of kids)) in
+        let is : call ≡ Err r = ap (λ (o : Option Refusal). decide o x) (first_some (network_checks false N) (length_check lents ∷ rest) r e) in
+        let u = by_network N (length_check lents ∷ rest) x (number_of r) (sym (ap code_of e)) (λ z. omega (arith, positive r)) in
+        let q : u.refusal ≡ r = refused_same {A = Prices} u.refusal r (sym u.is ∙ is) in
+        (is, ap touches (sym q) ∙ u.quiet)
 
     module _ (n : ℕ) (q : leaf_count N ≡ n) (ok : refusal_of N ≡ None) where
-      pub call_few : too_few n words sets sizes works steps ≡ true → Untouched 7 call
+      pub call_few : too_few n words sets sizes works steps ≡ true → call ≡ Err ShortBuffer
       unfolding price_call too_few
       call_few h =
-          subst (Untouched 7) (sym (past_network N (length_check lents ∷ rest) (Ok (price_of N (flag_at flags) (pairs_of kids))) ok))
-          (by_length lents rest (Ok (price_of N (flag_at flags) (pairs_of kids))) (rw q h))
+          past_network N (length_check lents ∷ rest) (Ok (price_of N (flag_at flags) (pairs_of kids))) ok
+          ∙ holds_first (length_check lents) rest (Ok (price_of N (flag_at flags) (pairs_of kids))) (rw q h)
 
       pub call_rest : too_few n words sets sizes works steps ≡ false → call ≡ rest_call N flags kids
       unfolding price_call too_few rest_call
@@ -155,12 +160,11 @@ tree_right b false e f = refl
 
 -- ---- what an answer leaves ----
 
-module _ (N : Network) (flags kids sets₀ sizes₀ works₀ steps₀ : List ℕ) (c : Result price.Prices Refusal) where
-  pub answered_refused : (r : Refusal) (k : ℕ) → c ≡ Err r → k ≡ number_of r
-      → Answered N flags kids c sets₀ sizes₀ works₀ steps₀ sets₀ sizes₀ works₀ steps₀ (Refused k)
-  answered_refused r k e q =
+module _ (N : Network) (flags kids sets₀ sizes₀ works₀ steps₀ : List ℕ) (c : Result Prices Refusal) where
+  pub answered_refused : (r : Refusal) → c ≡ Err r → Answered N flags kids c sets₀ sizes₀ works₀ steps₀ sets₀ sizes₀ works₀ steps₀ (Err r)
+  answered_refused r e =
       record {
-        answer = rw (e, q);
+        answer = sym e;
         steps_are = rw e;
         sets_are = rw e;
         sizes_are = rw e;
@@ -170,10 +174,10 @@ module _ (N : Network) (flags kids sets₀ sizes₀ works₀ steps₀ : List ℕ
 
   pub answered_done : (sets sizes works steps : List ℕ) (x : Prices) → c ≡ Ok (price_of N (flag_at flags) (pairs_of kids))
       → Pricing 4 N (flag_at flags) (pairs_of kids) sets₀ sizes₀ works₀ steps₀ sets sizes works steps x
-      → Answered N flags kids c sets₀ sizes₀ works₀ steps₀ sets sizes works steps (Done x)
+      → Answered N flags kids c sets₀ sizes₀ works₀ steps₀ sets sizes works steps (Ok x)
   answered_done sets sizes works steps x e p =
       record {
-        answer = rw e (ap Done p.answer);
+        answer = ap Ok p.answer ∙ sym e;
         steps_are = rw e p.list.steps_are;
         sets_are = rw e p.list.sets_are;
         sizes_are = rw e p.list.sizes_are;
@@ -224,6 +228,16 @@ enough few l e o =
       for_steps = omega (arith, l.for_steps, s.steps);
     }
 
+-- where the lists are long enough for an accepted network, they have room for its price list
+pub list_room : (N : Network) (n words steps : ℕ) (p : PriceList) → n ≡ leaf_count N
+    → LongEnough n words (length p.sets.now) (length p.sizes.now) (length p.works.now) steps → HasRoom 4 (node_places N) p
+list_room N n words steps p leaves l =
+    record {
+      for_sets = rw (← leaves) l.for_sets;
+      for_sizes = rw (← leaves) l.for_sizes;
+      for_works = rw (← leaves) l.for_works;
+    }
+
 -- the front of a list that the step order was written to
 pub order_front : (old new s : List ℕ) (k : ℕ) → new ≡ over old s → length s ≡ k → k ≤ length old → take k new ≡ s
 order_front old new s k e q h =
@@ -239,27 +253,27 @@ pub part_words : {n words words' sets sizes works steps : ℕ} → plain_words �
 part_words e l =
     record { for_words = e; for_sets = l.for_sets; for_sizes = l.for_sizes; for_works = l.for_works; for_steps = l.for_steps }
 
-after_either : (x y : Bool) (p : price.Prices) (ws : List ℕ)
+after_either : (x y : Bool) (p : Prices) (ws : List ℕ)
     → cleared ws plain_words ≡ workspace_after plain_words (checked (check x InvalidTree ∷ check y InvalidFlags ∷ []) (Ok p)) ws
 after_either true y p ws = refl
 after_either false true p ws = refl
 after_either false false p ws = refl
 
 module _ (N : Network) (flags kids ws₀ sets₀ sizes₀ works₀ steps₀ : List ℕ) where
-  abbrev whole : Result price.Prices Refusal
+  abbrev whole : Result Prices Refusal
   whole = price_call N (length ws₀) (room (length sets₀) (length sizes₀) (length works₀) (length steps₀)) flags kids
 
   -- a call that is refused with nothing touched
-  pub untouched_cost : {k : ℕ} → Untouched k whole
-      → TreeCost N flags kids ws₀ sets₀ sizes₀ works₀ steps₀ ws₀ sets₀ sizes₀ works₀ steps₀ (Refused k)
-  untouched_cost {k} u =
+  pub untouched_cost : (r : Refusal) → whole ≡ Err r → touches r ≡ false
+      → TreeCost N flags kids ws₀ sets₀ sizes₀ works₀ steps₀ ws₀ sets₀ sizes₀ works₀ steps₀ (Err r)
+  untouched_cost r e q =
       record {
-        answered = answered_refused N flags kids sets₀ sizes₀ works₀ steps₀ whole u.refusal k u.is (sym u.number);
-        workspace = same_workspace u plain_words ws₀;
+        answered = answered_refused N flags kids sets₀ sizes₀ works₀ steps₀ whole r e;
+        workspace = rw (e, q);
       }
 
   -- a call that the checks of the tree and of the flags decide
-  pub rest_cost : (ws sets sizes works steps : List ℕ) (r : Priced) → whole ≡ rest_call N flags kids → ws ≡ cleared ws₀ plain_words
+  pub rest_cost : (ws sets sizes works steps : List ℕ) (r : Result Prices Refusal) → whole ≡ rest_call N flags kids → ws ≡ cleared ws₀ plain_words
       → Answered N flags kids (rest_call N flags kids) sets₀ sizes₀ works₀ steps₀ sets sizes works steps r
       → TreeCost N flags kids ws₀ sets₀ sizes₀ works₀ steps₀ ws sets sizes works steps r
   unfolding rest_call

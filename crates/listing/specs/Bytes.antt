@@ -1,6 +1,9 @@
 -- Numbers as bytes, one after the other. Assumes nothing.
-use Rattle.std.specs.Prelude.{◌≡◌, refl, List, [], ◌∷◌, ◌++◌, ℕ, ◌+◌, ◌*◌, ◌<◌, length, get_or, take}
-use Rattle.std.proofs.Common.{sym, ap, ◌∙◌, arith, add-one, take-suc, length-take-le}
+use Rattle.std.specs.Prelude.{◌≡◌, refl, List, [], ◌∷◌, ◌++◌, ℕ, zero, suc, ◌+◌, ◌*◌, ◌/◌, ◌%◌, ◌^◌, ◌<◌, length, get_or, take}
+use Rattle.std.proofs.Common.{sym, ap, ap₂, mul_comm, w16, w64, ◌∙◌, arith, add-one, take-suc, length-take-le}
+use Rattle.std.specs.Int.{byte_at, bytes_high_first, to_be_bytes}
+use native.Mathlib.Numerals.{unary_clauses}
+use Rattle.std.proofs.Math.Nat.{div-div-eq-div-mul}
 use Rattle.std.proofs.Math.Seq.{take-length}
 use Rattle.spec.specs.Memory.{placed}
 use Rattle.spec.specs.Host.{bytes_of, two_each}
@@ -37,3 +40,23 @@ each_all d l at k h e = e ∙ ap (λ (n : ℕ). placed d at (two_each (take n l)
 -- a byte, and then what follows it
 pub mark_next : {a b : List ℕ} (d l : List ℕ) (at m : ℕ) → a ≡ placed d at (m ∷ []) → b ≡ placed a (at + 1) l → b ≡ placed d at (m ∷ l)
 mark_next d l at m p q = q ∙ ap (λ (a : List ℕ). placed a (at + 1) l) p ∙ placed_next d (m ∷ []) l at
+
+-- ---- std's bytes of a number, high byte first ----
+
+byte_up : (k n : ℕ) → byte_at (suc k) n ≡ byte_at k (n / 256)
+byte_up zero n = refl
+byte_up (suc k) n = ap (λ (x : ℕ). x % 256) (ap (λ (y : ℕ). n / y) (let e : 256 ^ suc (suc k) ≡ 256 * 256 ^ suc k = simp unary_clauses (mul_comm (256 ^ k * 256) 256) in e) ∙ sym (div-div-eq-div-mul n 256 (256 ^ suc k)))
+
+high_first : (k n : ℕ) → bytes_high_first (suc k) n ≡ bytes_high_first k (n / 256) ++ (n % 256 ∷ [])
+high_first zero n = refl
+high_first (suc k) n = ap₂ ◌∷◌ (byte_up k n) (high_first k n)
+
+be_bytes : (k n : ℕ) → bytes_high_first k n ≡ bytes_of k n
+be_bytes zero n = refl
+be_bytes (suc k) n = high_first k n ∙ ap (λ (l : List ℕ). l ++ (n % 256 ∷ [])) (be_bytes k (n / 256))
+
+pub two_be : (n : ℕ) → to_be_bytes w16 n ≡ bytes_of 2 n
+two_be n = be_bytes 2 n
+
+pub eight_be : (n : ℕ) → to_be_bytes w64 n ≡ bytes_of 8 n
+eight_be n = be_bytes 8 n

@@ -12,9 +12,10 @@ use Rattle.spec.specs.Price.{Step, listing, flat_steps, price_of}
 use Rattle.spec.specs.declared.Prices.{Prices}
 use Rattle.spec.specs.declared.Refusal.{Refusal}
 use Rattle.spec.specs.declared.Refusal.TheVariants.{ShortBuffer}
-use Rattle.spec.specs.Refusal.{number_of}
+use Rattle.spec.specs.Refusal.{number_of, code_of}
 use Rattle.spec.specs.Calls.{plain_words, step_places, PriceRoom, price_checks, price_call, priced_steps, flag_at}
-use Rattle.spec.specs.Host.{two_each, head_bytes, listing_bytes, listing_length, full_room, listing_call, Answered}
+use Rattle.spec.specs.FileClaims.{refusal_in}
+use Rattle.spec.specs.Host.{two_each, head_bytes, listing_bytes, listing_length, full_room, listing_call, host_after, Answered}
 use Rattle.laws.specs.Results.{done_same, checked_done}
 use Rattle.laws.specs.FileFields.{fails_passes, fails_tree}
 use Rattle.laws.specs.FileLists.{over_front}
@@ -23,11 +24,8 @@ use Rattle.cells.specs.Cells.{placed_next}
 use Rattle.network.specs.Record.{net_of}
 use Rattle.network.specs.Layouts.{leaf_count_lem}
 use Rattle.network.specs.declared.Network.{Network as Record}
-use Rattle.pricing.specs.declared.Prices.{Prices as HandedPrices}
 use Rattle.pricing.specs.Handed.{flat_length}
-use Rattle.cost.specs.declared.Priced.TheVariants.{Refused, Done}
-use Rattle.cost.specs.Answers.{answer_of, room}
-use Rattle.cost.specs.Back.{prices_from, of_refused, of_done}
+use Rattle.cost.specs.Answers.{told, TreeCost}
 use Rattle.listing.specs.Head.{head_length}
 
 -- the lists that pricing fills have the places of the largest network
@@ -98,43 +96,55 @@ module _ (N : Network) (flags kids : List ℕ) where
 pub answered_refused : {x : Result (List ℕ) Refusal} {n : ℕ} (r : Refusal) (out : List ℕ) → x ≡ Err r → n ≡ number_of r → Answered x n out out
 answered_refused r out e q = rw e (q, refl)
 
-answered_done : {x : Result (List ℕ) Refusal} {after : List ℕ} (bytes out : List ℕ) → x ≡ Ok bytes → after ≡ over out bytes → Answered x 0 out after
-answered_done bytes out e q = rw e (refl, q)
+-- what a caller is told, and the buffer
+abbrev pub Tells : Result (List ℕ) Refusal → Result (Unit {0}) Refusal → List ℕ → List ℕ → Type 0
+Tells c r out after = (r ≡ told c) × (after ≡ host_after c out)
+
+-- the same with the number
+told_number : (c : Result (List ℕ) Refusal) → code_of (refusal_in (told c)) ≡ code_of (refusal_in c)
+told_number (Err r) = refl
+told_number (Ok x) = refl
+
+pub tells_number : (c : Result (List ℕ) Refusal) (r : Result (Unit {0}) Refusal) (out after : List ℕ) {k : ℕ} → Tells c r out after
+    → k ≡ code_of (refusal_in r) → Answered c k out after
+tells_number c r out after t e = (e ∙ ap (λ x. code_of (refusal_in x)) t.0 ∙ told_number c, t.1)
+
+tells_refused : {c : Result (List ℕ) Refusal} (r : Refusal) (out : List ℕ) → c ≡ Err r → Tells c (Err r) out out
+tells_refused r out e = rw e (refl, refl)
+
+tells_done : {c : Result (List ℕ) Refusal} {after : List ℕ} (bytes out : List ℕ) → c ≡ Ok bytes → after ≡ over out bytes → Tells c (Ok tt) out after
+tells_done bytes out e q = rw e (refl, q)
 
 module _ (R : Record) (flags kids out : List ℕ) where
-  pub answer_short : {n : ℕ} → n ≡ R.leaf_count - 1 → length out < 16 + n * 10
-      → Answered (listing_call (length out) (net_of R) flags kids) 7 out out
-  answer_short e h =
-      answered_refused ShortBuffer out (no_room (net_of R) flags kids (length out) (omega (arith, leaf_count_lem R))) refl
+  pub tells_short : {n : ℕ} → n ≡ R.leaf_count - 1 → length out < 16 + n * 10
+      → Tells (listing_call (length out) (net_of R) flags kids) (Err ShortBuffer) out out
+  tells_short e h =
+      tells_refused ShortBuffer out (no_room (net_of R) flags kids (length out) (omega (arith, leaf_count_lem R)))
 
-  -- with the lists that pricing fills; c is its call
-  module _ {ws sets sizes works steps : List ℕ} (full : FullRoom ws sets sizes works steps) {c : Result Prices Refusal}
-      (own : c ≡ price_call (net_of R) (length ws) (room (length sets) (length sizes) (length works) (length steps)) flags kids) where
-    same_call : c ≡ price_call (net_of R) plain_words full_room flags kids
-    same_call = cc
+  -- with the lists that pricing fills
+  module _ {ws sets sizes works steps ws' sets' sizes' works' steps' : List ℕ} (full : FullRoom ws sets sizes works steps) {x : Result Prices Refusal}
+      (cost : TreeCost (net_of R) flags kids ws sets sizes works steps ws' sets' sizes' works' steps' x) where
+    its : x ≡ price_call (net_of R) plain_words full_room flags kids
+    its = let e = cost.answered.answer in cc
 
     module _ {n : ℕ} (e : n ≡ R.leaf_count - 1) (h : 16 + n * 10 ≤ length out) where
       enough : listing_length (net_of R) ≤ length out
       enough = omega (arith, leaf_count_lem R)
 
-      pub answer_refused : {k : ℕ} → Refused k ≡ answer_of c → Answered (listing_call (length out) (net_of R) flags kids) k out out
-      answer_refused q =
-          let (r, x, k) = of_refused c q in
-          answered_refused r out (not_priced (net_of R) flags kids (length out) enough r (sym same_call ∙ x)) k
+      pub tells_priced_not : {r : Refusal} → x ≡ Err r → Tells (listing_call (length out) (net_of R) flags kids) (Err r) out out
+      tells_priced_not {r} q = tells_refused r out (not_priced (net_of R) flags kids (length out) enough r (sym its ∙ q))
 
-      pub answer_done : {p : HandedPrices} {t after : List ℕ} → R.leaf_count ≤ 128 → Done p ≡ answer_of c
-          → t ≡ priced_steps (net_of R) flags kids c steps
-          → after ≡ placed (placed out 0 (head_bytes n (prices_from p))) 16 (two_each (take (n * 5) t))
-          → Answered (listing_call (length out) (net_of R) flags kids) 0 out after
-      answer_done {p} {t} {after} few q s a =
+      pub tells_priced : {p : Prices} {after : List ℕ} → R.leaf_count ≤ 128 → x ≡ Ok p
+          → after ≡ placed (placed out 0 (head_bytes n p)) 16 (two_each (take (n * 5) steps'))
+          → Tells (listing_call (length out) (net_of R) flags kids) (Ok tt) out after
+      tells_priced {p} {after} few q a =
           let N : Network = net_of R in
-          let x : c ≡ Ok (prices_from p) = of_done c q in
-          let y : price_call N plain_words full_room flags kids ≡ Ok (prices_from p) = sym same_call ∙ x in
+          let y : price_call N plain_words full_room flags kids ≡ Ok p = sym its ∙ q in
           let m : n ≡ step_places N = omega (arith, leaf_count_lem R) in
-          answered_done (listing_bytes N (flag_at flags) (pairs_of kids)) out
-          (is_priced N flags kids (length out) enough (prices_from p) y)
-          (listing_placed N flags kids plain_words full_room (prices_from p) y out steps t
+          tells_done (listing_bytes N (flag_at flags) (pairs_of kids)) out
+          (is_priced N flags kids (length out) enough p y)
+          (listing_placed N flags kids plain_words full_room p y out steps steps'
           (omega (arith, leaf_count_lem R, full.step_numbers))
-          (s ∙ ap (λ z. priced_steps N flags kids z steps) x)
+          (cost.answered.steps_are ∙ ap (λ z. priced_steps N flags kids z steps) (sym cost.answered.answer ∙ q))
           refl
-          (a ∙ ap (λ k. placed (placed out 0 (head_bytes k (prices_from p))) 16 (two_each (take (k * 5) t))) m))
+          (a ∙ ap (λ k. placed (placed out 0 (head_bytes k p)) 16 (two_each (take (k * 5) steps'))) m))

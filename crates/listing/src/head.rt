@@ -2,14 +2,13 @@
 ghost use Rattle.std.specs.Prelude.{◌≡◌, ◌≤◌};
 ghost use Rattle.spec.specs.Memory.{placed};
 ghost use Rattle.spec.specs.Host.{total_bytes, widest_bytes, head_bytes};
-ghost use Rattle.cost.specs.Back.{total_from, widest_from, prices_from};
 
 use crate::bytes;
-use pricing::{Prices, Total, Widest};
+use spec::{Prices, Total};
 
 fn put_total(out: &mut [u8], at: usize, total: Total)
     requires { at ≤ 65536 }
-    ensures { out.new ≡ placed out.old at (total_bytes (total_from total)) }
+    ensures { out.new ≡ placed out.old at (total_bytes total) }
 {
     match total {
         Total::Exact(x) => bytes::put_marked_eight(out, at, 0, x),
@@ -17,23 +16,22 @@ fn put_total(out: &mut [u8], at: usize, total: Total)
     }
 }
 
-fn put_widest(out: &mut [u8], at: usize, widest: Widest)
+fn put_widest(out: &mut [u8], at: usize, widest: Option<u16>)
     requires { at ≤ 65536 }
-    ensures { out.new ≡ placed out.old at (widest_bytes (widest_from widest)) }
+    ensures { out.new ≡ placed out.old at (widest_bytes widest) }
 {
     match widest {
-        Widest::NoLeaves => bytes::put_marked_two(out, at, 0, 0),
-        Widest::Bits(x) => bytes::put_marked_two(out, at, 1, x),
+        None => bytes::put_marked_two(out, at, 0, 0),
+        Some(x) => bytes::put_marked_two(out, at, 1, x),
     }
 }
 
-pub fn put_head(out: &mut [u8], steps: u16, prices: Prices)
-    ensures { out.new ≡ placed out.old 0 (head_bytes steps (prices_from prices)) }
+/// Writes the head: `steps` steps, and what pricing answered.
+pub fn put_head(out: &mut [u8], steps: u16, prices: &Prices)
+    ensures { out.new ≡ placed out.old 0 (head_bytes steps prices.now) }
 {
-    let total = prices.total;
-    let widest = prices.widest;
     bytes::put_two(out, 0, steps);
-    put_total(out, 2, total);
-    put_widest(out, 11, widest);
+    put_total(out, 2, prices.total);
+    put_widest(out, 11, prices.widest);
     bytes::put_two(out, 14, prices.slice_bits);
 }

@@ -5,21 +5,22 @@ ghost use Rattle.spec.specs.Memory.{placed};
 ghost use Rattle.spec.specs.Host.{two_each, head_bytes, listing_call, host_call, Answered};
 ghost use Rattle.network.specs.Record.{net_of};
 ghost use Rattle.netfile.specs.Answers.{places_of, flag_count};
-ghost use Rattle.cost.specs.Back.{prices_from};
-ghost use Rattle.listing.specs.Listing.{FullRoom};
+ghost use Rattle.spec.specs.Refusal.{code_of};
+ghost use Rattle.spec.specs.FileClaims.{refusal_in};
+ghost use Rattle.listing.specs.Listing.{FullRoom, Tells};
 
 pub mod bytes; // bytes.rt: numbers as bytes, high byte first
 pub mod head; // head.rt: the listing's head
 
-use cost::Priced;
 use netfile::{Answer, Found};
 use network::{Network, refusal};
-use pricing::Prices;
+use pricing::list::PriceList;
+use spec::{Prices, Refusal};
 
 // Writes the head, and ten bytes for each of n steps.
-fn put_listing(out: &mut [u8], n: usize, prices: Prices, steps: &[u16])
+fn put_listing(out: &mut [u8], n: usize, prices: &Prices, steps: &[u16])
     requires { (n ≤ 127) × (n * 5 ≤ length steps.now) }
-    ensures { out.new ≡ placed (placed out.old 0 (head_bytes n (prices_from prices))) 16 (two_each (take (n * 5) steps.now)) }
+    ensures { out.new ≡ placed (placed out.old 0 (head_bytes n prices.now)) 16 (two_each (take (n * 5) steps.now)) }
 {
     let end = n * 5;
     head::put_head(out, n as u16, prices);
@@ -28,52 +29,56 @@ fn put_listing(out: &mut [u8], n: usize, prices: Prices, steps: &[u16])
 
 // With the lists that pricing fills.
 fn list_with(
-    network: Network,
+    network: &Network,
     flags: &[u8],
-    tree: &[u16],
+    kids: &[u16],
     ws: &mut [u64],
-    sets: &mut [u64],
-    sizes: &mut [u16],
-    works: &mut [u16],
+    list: &mut PriceList,
     steps: &mut [u16],
     out: &mut [u8],
-) -> u8
-    requires { (network.leaf_count ≤ 128) × FullRoom ws.old sets.old sizes.old works.old steps.old }
-    ensures { Answered (listing_call (length out.old) (net_of network) flags.now tree.now) result out.old out.new }
+) -> Result<(), Refusal>
+    requires leaves { network.now.leaf_count ≤ 128 }
+    requires room { FullRoom ws.old list.old.sets.now list.old.sizes.now list.old.works.now steps.old }
+    ensures { Tells (listing_call (length out.old) (net_of network.now) flags.now kids.now) result out.old out.new }
 {
-    let n = cells::less(network.leaf_count, 1);
+    let n = network.leaf_count.saturating_sub(1);
     if out.len() < 16 + n * 10 {
-        return refusal::SHORT_BUFFER;
+        return Err(Refusal::ShortBuffer);
     }
-    let priced = cost::tree_cost(network, flags, tree, ws, sets, sizes, works, steps);
-    match priced {
-        Priced::Refused(number) => number,
-        Priced::Done(prices) => {
-            put_listing(out, n, prices, steps);
-            refusal::NONE
-        }
-    }
+    let prices = cost::tree_cost(network, flags, kids, ws, list, steps)?;
+    put_listing(out, n, &prices, steps);
+    Ok(())
 }
 
-// With lists of its own.
-pub fn list(network: Network, flags: &[u8], tree: &[u16], out: &mut [u8]) -> u8
-    requires { network.leaf_count ≤ 128 }
-    ensures { Answered (listing_call (length out.old) (net_of network) flags.now tree.now) result out.old out.new }
+/// Prices the tree `kids` of a network with the given flags, with lists of its own, and writes the listing to the front of `out`: a head of 16 bytes,
+/// and ten bytes a step. `ShortBuffer` for `out` comes first, then pricing's refusals.
+pub fn list(network: &Network, flags: &[u8], kids: &[u16], out: &mut [u8]) -> Result<(), Refusal>
+    requires { network.now.leaf_count ≤ 128 }
+    ensures { Tells (listing_call (length out.old) (net_of network.now) flags.now kids.now) result out.old out.new }
 {
     let mut ws = [0u64; 4096];
     let mut sets = [0u64; 1020];
     let mut sizes = [0u16; 255];
     let mut works = [0u16; 255];
     let mut steps = [0u16; 635];
-    list_with(
-        network, flags, tree, &mut ws, &mut sets, &mut sizes, &mut works, &mut steps, out,
-    )
+    let mut list = PriceList {
+        sets: &mut sets,
+        sizes: &mut sizes,
+        works: &mut works,
+    };
+    list_with(network, flags, kids, &mut ws, &mut list, &mut steps, out)
 }
 
 // Lists a network with the tree and the flags that were found.
-fn price_found(network: Network, found: Found, tree: &[u16], flags: &[u8], out: &mut [u8]) -> u8
-    requires { (network.leaf_count ≤ 128) × (places_of found.tree ≤ length tree.now) × (flag_count found.ask ≤ length flags.now) }
-    ensures { Answered (listing_call (length out.old) (net_of network) (take (flag_count found.ask) flags.now) (take (places_of found.tree) tree.now)) result out.old out.new }
+fn price_found(
+    network: &Network,
+    found: Found,
+    tree: &[u16],
+    flags: &[u8],
+    out: &mut [u8],
+) -> Result<(), Refusal>
+    requires { (network.now.leaf_count ≤ 128) × (places_of found.tree ≤ length tree.now) × (flag_count found.ask ≤ length flags.now) }
+    ensures { Tells (listing_call (length out.old) (net_of network.now) (take (flag_count found.ask) flags.now) (take (places_of found.tree) tree.now)) result out.old out.new }
 {
     let found_tree = found.tree;
     let found_ask = found.ask;
@@ -82,7 +87,17 @@ fn price_found(network: Network, found: Found, tree: &[u16], flags: &[u8], out: 
     list(network, &flags[..count], &tree[..places], out)
 }
 
-// Reads the file, and lists its network with its own tree and flags.
+// The number of an answer's refusal, 0 where there is none.
+fn number(answer: Result<(), Refusal>) -> u8
+    ensures { result ≡ code_of (refusal_in answer) }
+{
+    match answer {
+        Ok(()) => refusal::NONE,
+        Err(refused) => refused.number(),
+    }
+}
+
+/// Reads the file, and lists its network with its own tree and flags.
 pub fn price(file: &[u8], out: &mut [u8]) -> u8
     ensures { Answered (host_call (length out.old) file.now) result out.old out.new }
 {
@@ -94,7 +109,7 @@ pub fn price(file: &[u8], out: &mut [u8]) -> u8
         Answer::Refused(number) => number,
         Answer::Done(found) => {
             let network = reading.network;
-            price_found(network, found, &tree, &flags, out)
+            number(price_found(&network, found, &tree, &flags, out))
         }
     }
 }

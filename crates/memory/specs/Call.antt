@@ -1,21 +1,20 @@
 -- The call on a network in memory, beside pricing's. Assumes nothing.
-use Rattle.std.specs.Prelude.{◌≡◌, refl, Bool, true, ◌||◌, ℕ, ◌*◌, ◌≤◌, ◌<◌, ltb, Option, None, Some, Result, Err, Ok}
+use Rattle.std.specs.Prelude.{◌≡◌, refl, ℕ, ◌*◌, ◌≤◌, ◌<◌, Option, None, Some, Result, Err, Ok}
 use Rattle.std.proofs.Math.Path.{sym, ap}
-use Rattle.std.proofs.Common.{◌∙◌, arith, le-ltb, lt-ltb}
+use Rattle.std.proofs.Common.{◌∙◌, le-ltb, lt-ltb}
 use Rattle.std.proofs.Math.Bool.{false}
 use mathlib.Core.List.{List, [], ◌∷◌, ◌++◌}
 use Rattle.spec.specs.declared.Refusal.{Refusal}
-use Rattle.spec.specs.declared.Refusal.TheVariants.{ShortBuffer, TooLarge, Overweight, OutOfRange, Repeated}
+use Rattle.spec.specs.declared.Refusal.TheVariants.{ShortBuffer}
 use Rattle.spec.specs.declared.Prices.{Prices}
-use Rattle.spec.specs.Lists.{anyb}
-use Rattle.spec.specs.Refusal.{Check, check, first, decide, checked}
-use Rattle.spec.specs.Network.{Network, index_count, max_weight, repeats, any_out_of_range, network_checks, refusal_of}
+use Rattle.spec.specs.Refusal.{Check, decide, checked}
+use Rattle.spec.specs.Network.{Network, network_checks, refusal_of}
 use Rattle.spec.specs.Price.{price_of}
 use Rattle.spec.specs.Tree.{pairs_of}
 use Rattle.spec.specs.Calls.{PriceRoom, lent, length_check, tree_check, flags_check, plain_words, set_words, step_numbers, step_places, node_places, price_call, flag_at, touches}
 use Rattle.spec.specs.Host.{memory_call}
 use Rattle.laws.specs.Booleans.{by_cases}
-use Rattle.network.specs.Codes.{large}
+use Rattle.walk.specs.Entry.{network_quiet}
 
 pub checked-append : {A : Type 0} (a b : List Check) (r : Result A Refusal) → checked (a ++ b) r ≡ checked a (checked b r)
 checked-append [] b r = refl
@@ -64,16 +63,5 @@ module _ (places : ℕ) (N : Network) (words : ℕ) (room : PriceRoom) (flags ki
       ∙ sym split
 
 -- a network's own refusals leave the workspace as it is
-first_touches : (a b c d : Bool) (k : Refusal) → first (check a TooLarge ∷ check b Overweight ∷ check c OutOfRange ∷ check d Repeated ∷ []) ≡ Some k
-    → touches k ≡ false
-first_touches true b c d k e = let w : TooLarge ≡ k = cc in ap touches (sym w)
-first_touches false true c d k e = let w : Overweight ≡ k = cc in ap touches (sym w)
-first_touches false false true d k e = let w : OutOfRange ≡ k = cc in ap touches (sym w)
-first_touches false false false true k e = let w : Repeated ≡ k = cc in ap touches (sym w)
-first_touches false false false false k e = absurd (let w : ◌≡◌ {A = ℕ} 0 1 = cc in omega arith)
-
 pub untouched : (N : Network) (k : Refusal) → refusal_of N ≡ Some k → touches k ≡ false
-untouched N k e =
-    first_touches (large N) (anyb (λ w. ltb max_weight w) N.weights)
-    (anyb (any_out_of_range (index_count N)) N.leaves || any_out_of_range (index_count N) N.outputs)
-    (anyb repeats N.leaves || repeats N.outputs) k e
+untouched N k e = network_quiet N k e

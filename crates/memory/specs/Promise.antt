@@ -1,5 +1,5 @@
 -- What pricing a network in memory promises: the number, the answer, and each lent list. Assumes nothing.
-use Rattle.std.specs.Prelude.{◌≡◌, refl, Bool, true, false, cond, List, ℕ, ◌≤◌, ◌<◌, length, Option, None, Some, Result, Err, Ok}
+use Rattle.std.specs.Prelude.{◌≡◌, refl, Bool, true, false, cond, List, ℕ, ◌≤◌, ◌<◌, length, None, Some, Result, Err, Ok}
 use Rattle.std.proofs.Common.{sym, ap, ◌∙◌, subst}
 use Rattle.spec.specs.declared.Refusal.{Refusal}
 use Rattle.spec.specs.declared.Refusal.TheVariants.{ShortBuffer, TooLarge}
@@ -14,13 +14,8 @@ use Rattle.spec.specs.Host.{lent_network, price_numbers, memory_call, answer_aft
 use Rattle.laws.specs.Results.{not_done}
 use Rattle.network.specs.Codes.{large_of, refused_large, large_layout}
 use Rattle.pricing.specs.Promise.{ListingSound}
-use Rattle.pricing.specs.declared.Prices.{Prices as HandedPrices}
-use Rattle.cost.specs.declared.Priced.{Priced}
-use Rattle.cost.specs.declared.Priced.TheVariants.{Refused, Done}
-use Rattle.cost.specs.Answers.{room, priced_sets, TreeCost}
-use Rattle.cost.specs.Back.{prices_from, of_refused, of_done}
+use Rattle.cost.specs.Answers.{told, room, priced_sets, TreeCost}
 use Rattle.memory.specs.Call.{as_priced, as_refused, as_short, untouched}
-use Rattle.memory.specs.Numbers.{or_short}
 
 -- every list follows the call c, and the listing that is handed out is sound
 pub record Follows (N : Network) (flags kids : List ℕ) (c : Result Prices Refusal) (ws₀ sets₀ sizes₀ works₀ steps₀ answer₀ ws sets sizes works steps answer : List ℕ) (r : ℕ) : Type 0 where
@@ -61,21 +56,26 @@ module _ (N : Network) (flags kids ws₀ sets₀ sizes₀ works₀ steps₀ answ
     sound = λ p h. not_done k p (sym e ∙ h);
   }
 
-  short_cases : (o : Option Refusal) {r : ℕ} → refusal_of N ≡ o → length answer₀ < 4 → r ≡ or_short o
-      → MemoryCost N flags kids ws₀ sets₀ sizes₀ works₀ steps₀ answer₀ ws₀ sets₀ sizes₀ works₀ steps₀ answer₀ r
-  short_cases None e h q = stays ShortBuffer (as_short (length answer₀) N (length ws₀) _ flags kids e h) refl q
-  short_cases (Some k) e h q = stays k (as_refused (length answer₀) N (length ws₀) _ flags kids k e) (untouched N k e) q
+  pub cost_network : (k : Refusal) → refusal_of N ≡ Some k
+      → MemoryCost N flags kids ws₀ sets₀ sizes₀ works₀ steps₀ answer₀ ws₀ sets₀ sizes₀ works₀ steps₀ answer₀ (number_of k)
+  cost_network k e = stays k (as_refused (length answer₀) N (length ws₀) _ flags kids k e) (untouched N k e) refl
 
-  pub cost_short : {r : ℕ} → length answer₀ < 4 → r ≡ or_short (refusal_of N)
-      → MemoryCost N flags kids ws₀ sets₀ sizes₀ works₀ steps₀ answer₀ ws₀ sets₀ sizes₀ works₀ steps₀ answer₀ r
-  cost_short = short_cases (refusal_of N) refl
+  pub told_network : (k : Refusal) → refusal_of N ≡ Some k → Err k ≡ told own
+  told_network k e = sym (ap told (as_refused (length answer₀) N (length ws₀) _ flags kids k e))
+
+  pub cost_short : refusal_of N ≡ None → length answer₀ < 4
+      → MemoryCost N flags kids ws₀ sets₀ sizes₀ works₀ steps₀ answer₀ ws₀ sets₀ sizes₀ works₀ steps₀ answer₀ (number_of ShortBuffer)
+  cost_short e h = stays ShortBuffer (as_short (length answer₀) N (length ws₀) _ flags kids e h) refl refl
+
+  pub told_short : refusal_of N ≡ None → length answer₀ < 4 → Err ShortBuffer ≡ told own
+  told_short e h = sym (ap told (as_short (length answer₀) N (length ws₀) _ flags kids e h))
 
   -- with room for the answer the lists are pricing's
   module _ (h : 4 ≤ length answer₀) where
     same : own ≡ pricing
     same = as_priced (length answer₀) N (length ws₀) _ flags kids h
 
-    follows : {ws sets sizes works steps answer : List ℕ} {x : Priced} {r : ℕ}
+    follows : {ws sets sizes works steps answer : List ℕ} {x : Result Prices Refusal} {r : ℕ}
         → TreeCost N flags kids ws₀ sets₀ sizes₀ works₀ steps₀ ws sets sizes works steps x
         → r ≡ code_of (refusal_in own) → answer ≡ answer_after own answer₀
         → MemoryCost N flags kids ws₀ sets₀ sizes₀ works₀ steps₀ answer₀ ws sets sizes works steps answer r
@@ -90,20 +90,24 @@ module _ (N : Network) (flags kids ws₀ sets₀ sizes₀ works₀ steps₀ answ
       sound = λ p e. t.answered.sound p (sym same ∙ e);
     }
 
-    pub cost_refused : {ws sets sizes works steps : List ℕ} {x : Priced} {k : ℕ} → x ≡ Refused k
+    pub cost_refused : {ws sets sizes works steps : List ℕ} {x : Result Prices Refusal} {k : Refusal} → x ≡ Err k
         → TreeCost N flags kids ws₀ sets₀ sizes₀ works₀ steps₀ ws sets sizes works steps x
-        → MemoryCost N flags kids ws₀ sets₀ sizes₀ works₀ steps₀ answer₀ ws sets sizes works steps answer₀ k
-    cost_refused e t =
-        let (r, y, q) = of_refused pricing (sym e ∙ t.answered.answer) in
-        follows t (q ∙ sym (ap (λ c. code_of (refusal_in c)) (same ∙ y))) (sym (ap (λ c. answer_after c answer₀) (same ∙ y)))
+        → MemoryCost N flags kids ws₀ sets₀ sizes₀ works₀ steps₀ answer₀ ws sets sizes works steps answer₀ (number_of k)
+    cost_refused {k = k} e t =
+        let y : pricing ≡ Err k = sym t.answered.answer ∙ e in
+        follows t (sym (ap (λ c. code_of (refusal_in c)) (same ∙ y))) (sym (ap (λ c. answer_after c answer₀) (same ∙ y)))
 
-    pub cost_done : {ws sets sizes works steps answer : List ℕ} {x : Priced} {p : HandedPrices} → x ≡ Done p
+    pub cost_done : {ws sets sizes works steps answer : List ℕ} {x : Result Prices Refusal} {p : Prices} → x ≡ Ok p
         → TreeCost N flags kids ws₀ sets₀ sizes₀ works₀ steps₀ ws sets sizes works steps x
-        → answer ≡ over answer₀ (price_numbers (prices_from p))
+        → answer ≡ over answer₀ (price_numbers p)
         → MemoryCost N flags kids ws₀ sets₀ sizes₀ works₀ steps₀ answer₀ ws sets sizes works steps answer 0
     cost_done {p = p} e t a =
-        let y : pricing ≡ Ok (prices_from p) = of_done pricing (sym e ∙ t.answered.answer) in
+        let y : pricing ≡ Ok p = sym t.answered.answer ∙ e in
         follows t (sym (ap (λ c. code_of (refusal_in c)) (same ∙ y))) (a ∙ sym (ap (λ c. answer_after c answer₀) (same ∙ y)))
+
+    pub told_priced : {ws sets sizes works steps : List ℕ} {x : Result Prices Refusal}
+        → TreeCost N flags kids ws₀ sets₀ sizes₀ works₀ steps₀ ws sets sizes works steps x → told x ≡ told own
+    told_priced t = ap told (t.answered.answer ∙ sym same)
 
 -- of two networks that are one
 pub cost_same : {M N : Network} {flags kids ws₀ sets₀ sizes₀ works₀ steps₀ answer₀ ws sets sizes works steps answer : List ℕ} {r : ℕ} → M ≡ N

@@ -3,17 +3,20 @@
 ghost use Rattle.std.specs.Prelude.{◌≡◌, true, false, ◌*◌, ◌≤◌, length, get_or};
 ghost use Rattle.spec.specs.Memory.{over};
 ghost use Rattle.spec.specs.Network.{refusal_of, max_leaves, max_legs};
-ghost use Rattle.spec.specs.Host.{lent_network, total_numbers, widest_number, price_numbers};
+ghost use Rattle.spec.specs.Host.{lent_network, total_numbers, widest_number, price_numbers, memory_call};
 ghost use Rattle.network.specs.Record.{net_of};
-ghost use Rattle.network.specs.Checks.{Fitting};
 ghost use Rattle.network.specs.Codes.{large_of};
-ghost use Rattle.cost.specs.Back.{total_from, widest_from, prices_from};
+ghost use Rattle.spec.specs.Refusal.{code_of};
+ghost use Rattle.spec.specs.FileClaims.{refusal_in};
+ghost use Rattle.network.specs.Lists.{HasRows};
+ghost use Rattle.pricing.specs.Lists.{IsSameLoan};
+ghost use Rattle.cost.specs.Answers.{told, room};
 ghost use Rattle.memory.specs.Numbers.{or_short};
 ghost use Rattle.memory.specs.Promise.{MemoryCost};
 
-use cost::Priced;
-use network::{Network, checks, refusal, scan};
-use pricing::{Prices, Total, Widest};
+use network::{Accepted, Network, refusal, scan};
+use pricing::list::PriceList;
+use spec::{Prices, Refusal, Total};
 
 // Is a count above its limit.
 pub fn too_large(m: usize, o: usize, counts: &[u8]) -> bool
@@ -40,10 +43,10 @@ pub fn record_of(weights: &[u8], counts: &[u8], legs: &[u16], outputs: &[u16]) -
     let mut own_counts = [0u8; 128];
     let mut own_legs = [0u16; 4096];
     let mut own_outputs = [0u16; 32];
-    cells::copy8(&mut own_weights, weights, weights.len());
-    cells::copy8(&mut own_counts, counts, counts.len());
-    cells::copy16(&mut own_legs, legs, legs.len());
-    cells::copy16(&mut own_outputs, outputs, outputs.len());
+    cells::copy(&mut own_weights, weights, weights.len());
+    cells::copy(&mut own_counts, counts, counts.len());
+    cells::copy(&mut own_legs, legs, legs.len());
+    cells::copy(&mut own_outputs, outputs, outputs.len());
     Network {
         index_count: weights.len(),
         leaf_count: counts.len(),
@@ -57,7 +60,7 @@ pub fn record_of(weights: &[u8], counts: &[u8], legs: &[u16], outputs: &[u16]) -
 
 // 0 for an exact total, 1 for one that is beyond.
 fn total_kind(total: Total) -> u64
-    ensures { result ≡ get_or (total_numbers (total_from total)) 0 0 }
+    ensures { result ≡ get_or (total_numbers total) 0 0 }
 {
     match total {
         Total::Exact(_) => 0,
@@ -66,25 +69,26 @@ fn total_kind(total: Total) -> u64
 }
 
 // 0 without leaves, else one more than the size bits.
-fn widest_number(widest: Widest) -> u64
-    ensures { result ≡ widest_number (widest_from widest) }
+fn widest_number(widest: Option<u16>) -> u64
+    ensures { result ≡ widest_number widest }
 {
     match widest {
-        Widest::NoLeaves => 0,
-        Widest::Bits(x) => x as u64 + 1,
+        None => 0,
+        Some(bits) => u64::from(bits) + 1,
     }
 }
 
 // Writes the four numbers.
-fn put_answer(answer: &mut [u64], prices: Prices)
-    ensures { answer.new ≡ over answer.old (price_numbers (prices_from prices)) }
+fn put_answer(answer: &mut [u64], prices: &Prices)
+    ensures { answer.new ≡ over answer.old (price_numbers prices.now) }
 {
-    let total = prices.total;
-    let widest = prices.widest;
-    cells::put64(answer, 0, total_kind(total));
-    cells::put64(answer, 1, cost::exact(total));
-    cells::put64(answer, 2, widest_number(widest));
-    cells::put64(answer, 3, prices.slice_bits as u64);
+    let numbers = [
+        total_kind(prices.total),
+        cost::exact(prices.total),
+        widest_number(prices.widest),
+        u64::from(prices.slice_bits),
+    ];
+    cells::copy(answer, &numbers, 4);
 }
 
 // The number of the network's refusal; 7 where there is none.
@@ -98,72 +102,33 @@ pub fn number_or_short(network: Network) -> u8
     number
 }
 
-// The same of lists that are as long as their counts.
-fn lists_number_or_short(weights: &[u8], counts: &[u8], legs: &[u16], outputs: &[u16]) -> u8
-    requires { Fitting (length weights.now) (length counts.now) (length outputs.now) weights.now counts.now legs.now outputs.now }
-    ensures { result ≡ or_short (refusal_of (lent_network weights.now counts.now legs.now outputs.now)) }
-{
-    let number = checks::number_in(
-        weights.len(),
-        counts.len(),
-        outputs.len(),
-        weights,
-        counts,
-        legs,
-        outputs,
-    );
-    if number == refusal::NONE {
-        return refusal::SHORT_BUFFER;
-    }
-    number
-}
-
 // Prices a tree of the network, whose list of legs has all its places.
 fn price_lists(
     weights: &[u8],
-    counts: &[u8],
+    leg_counts: &[u8],
     legs: &[u16],
     outputs: &[u16],
     flags: &[u8],
-    tree: &[u16],
+    kids: &[u16],
     ws: &mut [u64],
-    sets: &mut [u64],
-    sizes: &mut [u16],
-    works: &mut [u16],
+    list: &mut PriceList,
     steps: &mut [u16],
     answer: &mut [u64],
-) -> u8
-    requires { Fitting (length weights.now) (length counts.now) (length outputs.now) weights.now counts.now legs.now outputs.now }
-    ensures { MemoryCost (lent_network weights.now counts.now legs.now outputs.now) flags.now tree.now
-        ws.old sets.old sizes.old works.old steps.old answer.old
-        ws.new sets.new sizes.new works.new steps.new answer.new result }
+) -> Result<(), Refusal>
+    requires { HasRows leg_counts.now legs.now }
+    ensures lent { IsSameLoan list.old list.new }
+    ensures answer { result ≡ told (memory_call (length answer.old) (lent_network weights.now leg_counts.now legs.now outputs.now) (length ws.old) (room (length list.old.sets.now) (length list.old.sizes.now) (length list.old.works.now) (length steps.old)) flags.now kids.now) }
+    ensures lists { MemoryCost (lent_network weights.now leg_counts.now legs.now outputs.now) flags.now kids.now
+        ws.old list.old.sets.now list.old.sizes.now list.old.works.now steps.old answer.old
+        ws.new list.new.sets.now list.new.sizes.now list.new.works.now steps.new answer.new (code_of (refusal_in result)) }
 {
+    let network = Accepted::of_lists(weights, leg_counts, legs, outputs)?;
     if answer.len() < 4 {
-        return lists_number_or_short(weights, counts, legs, outputs);
+        return Err(Refusal::ShortBuffer);
     }
-    let priced = cost::cost_of(
-        weights.len(),
-        counts.len(),
-        outputs.len(),
-        weights,
-        counts,
-        legs,
-        outputs,
-        flags,
-        tree,
-        ws,
-        sets,
-        sizes,
-        works,
-        steps,
-    );
-    match priced {
-        Priced::Refused(number) => number,
-        Priced::Done(prices) => {
-            put_answer(answer, prices);
-            refusal::NONE
-        }
-    }
+    let prices = cost::cost_of(&network, flags, kids, ws, list, steps)?;
+    put_answer(answer, &prices);
+    Ok(())
 }
 
 // Is the list of legs too short for the places of `n` leaves.
@@ -176,7 +141,40 @@ fn short_of_legs(n: usize, legs: usize) -> bool
     legs < n * Network::MAX_LEGS
 }
 
-// Prices a tree of the network, into lists that are lent. A list of legs that ends early is copied, with 0 after its end.
+/// Prices the tree `kids` of a network in lists that are lent whole, with the given flags: the price list and the listing as `cost::tree_cost`,
+/// and four numbers to the front of `answer`: 0 and the total or 1 and 0, 0 without leaves or one more than the widest table's bits, the slice
+/// bits. A list of legs that ends early reads as 0 past its end. Refusals: the network's own, `ShortBuffer` for `answer`, then pricing's.
+pub fn price(
+    weights: &[u8],
+    leg_counts: &[u8],
+    legs: &[u16],
+    outputs: &[u16],
+    flags: &[u8],
+    kids: &[u16],
+    ws: &mut [u64],
+    list: &mut PriceList,
+    steps: &mut [u16],
+    answer: &mut [u64],
+) -> Result<(), Refusal>
+    ensures lent { IsSameLoan list.old list.new }
+    ensures answer { result ≡ told (memory_call (length answer.old) (lent_network weights.now leg_counts.now legs.now outputs.now) (length ws.old) (room (length list.old.sets.now) (length list.old.sizes.now) (length list.old.works.now) (length steps.old)) flags.now kids.now) }
+    ensures lists { MemoryCost (lent_network weights.now leg_counts.now legs.now outputs.now) flags.now kids.now
+        ws.old list.old.sets.now list.old.sizes.now list.old.works.now steps.old answer.old
+        ws.new list.new.sets.now list.new.sizes.now list.new.works.now steps.new answer.new (code_of (refusal_in result)) }
+{
+    if short_of_legs(leg_counts.len(), legs.len()) {
+        let mut own_legs = [0u16; 4096];
+        cells::copy(&mut own_legs, legs, legs.len());
+        return price_lists(
+            weights, leg_counts, &own_legs, outputs, flags, kids, ws, list, steps, answer,
+        );
+    }
+    price_lists(
+        weights, leg_counts, legs, outputs, flags, kids, ws, list, steps, answer,
+    )
+}
+
+// The same with the lists of the price list apart, answered by number. It stands until the host calls `price`.
 pub fn tree_cost(
     weights: &[u8],
     leg_counts: &[u8],
@@ -195,15 +193,12 @@ pub fn tree_cost(
         ws.old sets.old sizes.old works.old steps.old answer.old
         ws.new sets.new sizes.new works.new steps.new answer.new result }
 {
-    if short_of_legs(leg_counts.len(), legs.len()) {
-        let mut own_legs = [0u16; 4096];
-        cells::copy16(&mut own_legs, legs, legs.len());
-        return price_lists(
-            weights, leg_counts, &own_legs, outputs, flags, tree, ws, sets, sizes, works, steps,
-            answer,
-        );
+    let mut list = PriceList { sets, sizes, works };
+    let answered = price(
+        weights, leg_counts, legs, outputs, flags, tree, ws, &mut list, steps, answer,
+    );
+    match answered {
+        Ok(()) => refusal::NONE,
+        Err(refused) => refused.number(),
     }
-    price_lists(
-        weights, leg_counts, legs, outputs, flags, tree, ws, sets, sizes, works, steps, answer,
-    )
 }

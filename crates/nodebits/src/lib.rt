@@ -1,29 +1,17 @@
 #![tactic(auto)]
 // Size bits and work bits of each node, from the nodes' sets: a step's work is its children's sizes less what they share, and its size
 // is its work less what it drops.
-ghost use Rattle.std.specs.Prelude.{◌≡◌, true, not, ◌&&◌, cond, [], map, ℕ, ◌+◌, ◌*◌, ◌<◌, ◌≤◌, eqb, length, get_or, drop};
+ghost use Rattle.std.specs.Prelude.{◌≡◌, true, not, ◌&&◌, cond, [], map, ℕ, ◌+◌, ◌*◌, ◌<◌, ◌≤◌, eqb, length, get_or};
 ghost use Rattle.spec.specs.Lists.{range, sum_of};
 ghost use Rattle.spec.specs.Layout.{firsts};
 ghost use Rattle.spec.specs.Memory.{over, filled};
 ghost use Rattle.slots.specs.Slots.{held};
 ghost use Rattle.slots.specs.Weigh.{open_weight, Light, weighed, either, word_weight};
-ghost use Rattle.network.specs.Checks.{Rows};
 ghost use Rattle.nodesets.specs.Passes.{nodes};
 ghost use Rattle.nodebits.specs.Bits.{Effective, StepKnown, InnerKnown, Known, size_of, work_of, leaf_size, node_work};
 ghost use Rattle.nodebits.specs.Stepped.{Stepped};
 
-// A number as an index.
-fn index8(x: u8) -> usize
-    ensures { (result ≡ x) × (result < 256) }
-{
-    x as usize
-}
-
-fn index16(x: u16) -> usize
-    ensures { (result ≡ x) × (result < 65536) }
-{
-    x as usize
-}
+use network::{Accepted, scan};
 
 // The weight, or 0 where it is flagged.
 fn unless(flag: u8, weight: u8) -> u8
@@ -36,7 +24,8 @@ fn unless(flag: u8, weight: u8) -> u8
 fn clear_flagged(effective: &mut [u8], flags: &[u8])
     ensures { (j : ℕ) → get_or effective.new j 0 ≡ open_weight effective.old flags.now j }
 {
-    for j in 0..cells::min(effective.len(), flags.len()) {
+    // by index: a zip with a list that is written says only its length
+    for j in 0..effective.len().min(flags.len()) {
         effective[j] = unless(flags[j], effective[j]);
     }
 }
@@ -46,37 +35,31 @@ pub fn effective_weights(effective: &mut [u8], m: usize, weights: &[u8], flags: 
     requires { (m ≤ length weights.now) × (m ≤ length effective.old) }
     ensures { Effective (firsts m weights.now) flags.now effective.new }
 {
-    cells::fill8(effective, 0);
-    cells::copy8(effective, weights, m);
+    cells::fill(effective, 0);
+    cells::copy(effective, weights, m);
     clear_flagged(effective, flags);
 }
 
-// The summed weights of the indices that stand at `base` and the places after it, `n` in all.
-fn leaf_size(effective: &[u8], legs: &[u16], base: usize, n: usize) -> usize
-    requires { (base + n ≤ length legs.now) × (n ≤ 32) × Light effective.now }
-    ensures { (result ≡ sum_of (open_weight effective.now []) (firsts n (drop base legs.now))) × (result ≤ 256) }
+// The summed weights of a leaf's indices.
+fn leaf_size(effective: &[u8], leaf: &[u16]) -> usize
+    requires { (length leaf.now ≤ 32) × Light effective.now }
+    ensures { (result ≡ sum_of (open_weight effective.now []) leaf.now) × (result ≤ 256) }
 {
     let mut sum: usize = 0;
-    for k in 0..n {
-        sum += cells::at8(effective, index16(legs[base + k]));
+    for &leg in leaf {
+        sum += usize::from(cells::get_or(effective, usize::from(leg), 0));
     }
     sum
 }
 
 // Writes each leaf's size bits, and its work bits, which are 0.
-fn leaf_bits(
-    sizes: &mut [u16],
-    works: &mut [u16],
-    n: usize,
-    counts: &[u8],
-    legs: &[u16],
-    effective: &[u8],
-)
-    requires { Rows n counts.now legs.now × Light effective.now × (n ≤ length sizes.old) × (n ≤ length works.old) }
-    ensures { (sizes.new ≡ over sizes.old (map (leaf_size effective.now counts.now legs.now) (range n))) × (works.new ≡ over works.old (filled n 0)) }
+fn leaf_bits(sizes: &mut [u16], works: &mut [u16], network: &Accepted, effective: &[u8])
+    requires { Light effective.now × (length network.now.leg_counts.now ≤ length sizes.old) × (length network.now.leg_counts.now ≤ length works.old) }
+    ensures { (sizes.new ≡ over sizes.old (map (leaf_size effective.now network.now.leg_counts.now network.now.legs.now) (range (length network.now.leg_counts.now)))) × (works.new ≡ over works.old (filled (length network.now.leg_counts.now) 0)) }
 {
-    for i in 0..n {
-        let size = leaf_size(effective, legs, i * 32, index8(counts[i]));
+    // by number: a leaf's number is its place in both lists
+    for i in 0..network.leg_counts.len() {
+        let size = leaf_size(effective, scan::leaf(network.leg_counts, network.legs, i));
         sizes[i] = size as u16;
         works[i] = 0;
     }
@@ -90,7 +73,7 @@ fn weigh_word(x: u64, base: usize, effective: &[u8]) -> usize
     let mut rest = x;
     let mut sum: usize = 0;
     while rest != 0 {
-        sum += index8(effective[base + bits::low(rest)]);
+        sum += usize::from(effective[base + bits::low(rest)]);
         rest = rest & (rest - 1);
     }
     sum
@@ -112,6 +95,7 @@ fn overlap(sets: &[u64], w: usize, l: usize, r: usize, v: usize, effective: &[u8
     let t = v * w;
     let mut shared: usize = 0;
     let mut dropped: usize = 0;
+    // word by word, in three slots of one list at once
     for k in 0..w {
         let x = sets[p + k];
         let y = sets[q + k];
@@ -145,7 +129,7 @@ fn step_bits(
     ensures { (result.work ≡ work_of effective.now sets.now w l r) × (result.size ≡ size_of effective.now sets.now w v) }
 {
     let o = overlap(sets, w, l, r, v, effective);
-    let work = index16(left) + index16(right) - o.shared;
+    let work = usize::from(left) + usize::from(right) - o.shared;
     StepBits {
         work: work as u16,
         size: (work - o.dropped) as u16,
@@ -166,8 +150,8 @@ fn inner_bits(
     requires { InnerKnown w n kids.now order.now sets.now effective.now × (nodes n kids.now ≤ length sizes.old) × (nodes n kids.now ≤ length works.old) × ((i : ℕ) → i < n → get_or sizes.old i 0 ≡ size_of effective.now sets.now w i) }
     ensures { Stepped w n kids.now order.now sets.now effective.now sizes.old works.old (length order.now) sizes.new works.new }
 {
-    for k in 0..order.len() {
-        let v = index16(order[k]);
+    for &node in order {
+        let v = usize::from(node);
         let l = nodesets::left(kids, n, v);
         let r = nodesets::right(kids, n, v);
         let b = step_bits(sets, w, l, r, v, effective, sizes[l], sizes[r]);
@@ -182,16 +166,15 @@ pub fn node_bits(
     works: &mut [u16],
     sets: &[u64],
     w: usize,
-    n: usize,
-    counts: &[u8],
-    legs: &[u16],
+    network: &Accepted,
     kids: &[u16],
     order: &[u16],
     effective: &[u8],
 )
-    requires { Known w n counts.now legs.now kids.now order.now sets.now effective.now × (nodes n kids.now ≤ length sizes.old) × (nodes n kids.now ≤ length works.old) }
-    ensures { (sizes.new ≡ over sizes.old (map (size_of effective.now sets.now w) (range (nodes n kids.now)))) × (works.new ≡ over works.old (map (node_work effective.now sets.now kids.now w n) (range (nodes n kids.now)))) }
+    requires { Known w (length network.now.leg_counts.now) network.now.leg_counts.now network.now.legs.now kids.now order.now sets.now effective.now × (nodes (length network.now.leg_counts.now) kids.now ≤ length sizes.old) × (nodes (length network.now.leg_counts.now) kids.now ≤ length works.old) }
+    ensures { (sizes.new ≡ over sizes.old (map (size_of effective.now sets.now w) (range (nodes (length network.now.leg_counts.now) kids.now)))) × (works.new ≡ over works.old (map (node_work effective.now sets.now kids.now w (length network.now.leg_counts.now)) (range (nodes (length network.now.leg_counts.now) kids.now)))) }
 {
-    leaf_bits(sizes, works, n, counts, legs, effective);
+    let n = network.leg_counts.len();
+    leaf_bits(sizes, works, network, effective);
     inner_bits(sizes, works, sets, w, n, kids, order, effective);
 }

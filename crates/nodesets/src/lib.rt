@@ -1,41 +1,46 @@
 #![tactic(auto)]
 // Each node's set of indices, in slots of lent words: up, in step order, what leaves below a node name; down, what is wanted outside it.
 ghost use Rattle.std.specs.Prelude.{◌≡◌, ◌+◌, ◌*◌, ◌<◌, ◌≤◌, length};
+ghost use Rattle.spec.specs.Lists.{memb};
+ghost use Rattle.spec.specs.Tree.{pairs_of};
+ghost use Rattle.spec.specs.Price.{list_at};
+ghost use Rattle.network.specs.Views.{net_in};
 ghost use Rattle.laws.specs.FlatLaws.{left_of, right_of};
 ghost use Rattle.slots.specs.Writes.{leaf_has};
 ghost use Rattle.nodesets.specs.Passes.{nodes, with_sets, joined, widened, cut, ups, downs, cuts};
 ghost use Rattle.nodesets.specs.Steps.{Steps};
-ghost use Rattle.nodesets.specs.Lists.{Ordered, SetsAre};
+ghost use Rattle.nodesets.specs.Lists.{Ordered};
 
-// The children of inner node `v`, of `n` leaves.
+use network::Accepted;
+
+/// The left child of inner node `v`, of `n` leaves.
+#[inline]
 pub fn left(kids: &[u16], n: usize, v: usize) -> usize
     requires { (n ≤ v) × (v < nodes n kids.now) }
     ensures { (result ≡ left_of kids.now n v) × (result < 65536) }
 {
-    index16(kids[(v - n) * 2])
+    usize::from(kids[(v - n) * 2])
 }
 
+/// The right child of inner node `v`, of `n` leaves.
+#[inline]
 pub fn right(kids: &[u16], n: usize, v: usize) -> usize
     requires { (n ≤ v) × (v < nodes n kids.now) }
     ensures { (result ≡ right_of kids.now n v) × (result < 65536) }
 {
-    index16(kids[(v - n) * 2 + 1])
-}
-
-fn index16(x: u16) -> usize
-    ensures { (result ≡ x) × (result < 65536) }
-{
-    x as usize
+    usize::from(kids[(v - n) * 2 + 1])
 }
 
 // Makes slot i the set of leaf i's indices.
-fn leaf_sets(sets: &mut [u64], w: usize, n: usize, counts: &[u8], legs: &[u16])
-    requires { (w ≤ 16) × (n ≤ 65536) }
-    ensures { sets.new ≡ with_sets sets.old w (leaf_has counts.now legs.now) n }
+fn leaf_sets(sets: &mut [u64], w: usize, network: &Accepted)
+    requires { w ≤ 16 }
+    ensures { sets.new ≡ with_sets sets.old w (leaf_has network.now.leg_counts.now network.now.legs.now) (length network.now.leg_counts.now) }
 {
-    for i in 0..n {
+    // by number: a leaf's number is its slot's
+    for i in 0..network.leg_counts.len() {
+        let count = usize::from(network.leg_counts[i]);
         slots::empty(sets, w, i);
-        slots::put_all(sets, w, i, legs, i * 32, cells::at8(counts, i));
+        slots::put_all(sets, w, i, network.legs, i * 32, count);
     }
 }
 
@@ -47,6 +52,7 @@ fn join(sets: &mut [u64], w: usize, a: usize, b: usize, c: usize)
     let p = a * w;
     let q = b * w;
     let r = c * w;
+    // word by word at proved places of one list, where `slots::unite` compares at each read
     for k in 0..w {
         sets[r + k] = sets[p + k] | sets[q + k];
     }
@@ -57,8 +63,8 @@ fn join_up(sets: &mut [u64], w: usize, n: usize, kids: &[u16], order: &[u16])
     requires { Steps n kids.now order.now × (nodes n kids.now * w ≤ length sets.old) }
     ensures { sets.new ≡ ups w (left_of kids.now n) (right_of kids.now n) order.now sets.old (length order.now) }
 {
-    for k in 0..order.len() {
-        let v = index16(order[k]);
+    for &node in order {
+        let v = usize::from(node);
         let l = left(kids, n, v);
         let r = right(kids, n, v);
         join(sets, w, l, r, v);
@@ -73,6 +79,7 @@ fn widen(outside: &mut [u64], w: usize, a: usize, c: usize, sets: &[u64], b: usi
     let p = a * w;
     let q = b * w;
     let r = c * w;
+    // word by word: a zip with a list that is written says only its length
     for k in 0..w {
         outside[r + k] = outside[p + k] | sets[q + k];
     }
@@ -83,8 +90,8 @@ fn want_down(outside: &mut [u64], sets: &[u64], w: usize, n: usize, kids: &[u16]
     requires { Steps n kids.now order.now × (nodes n kids.now * w ≤ length outside.old) × (nodes n kids.now * w ≤ length sets.now) }
     ensures { outside.new ≡ downs w (left_of kids.now n) (right_of kids.now n) order.now sets.now outside.old (length order.now) }
 {
-    for k in 0..order.len() {
-        let v = index16(order[order.len() - (k + 1)]);
+    for &node in order.iter().rev() {
+        let v = usize::from(node);
         let l = left(kids, n, v);
         let r = right(kids, n, v);
         widen(outside, w, v, l, sets, r);
@@ -98,6 +105,7 @@ fn trim(sets: &mut [u64], outside: &[u64], w: usize, s: usize)
     ensures { sets.new ≡ cut w sets.old outside.now s }
 {
     let p = s * w;
+    // word by word: a zip with a list that is written says only its length
     for k in 0..w {
         sets[p + k] = sets[p + k] & outside[p + k];
     }
@@ -108,31 +116,31 @@ fn trim_all(sets: &mut [u64], outside: &[u64], w: usize, n: usize, kids: &[u16],
     requires { Steps n kids.now order.now × (nodes n kids.now * w ≤ length sets.old) × (nodes n kids.now * w ≤ length outside.now) }
     ensures { sets.new ≡ cuts w order.now outside.now sets.old (length order.now) }
 {
-    for k in 0..order.len() {
-        trim(sets, outside, w, index16(order[k]));
+    for &node in order {
+        trim(sets, outside, w, usize::from(node));
     }
 }
 
-// Makes slot v of `sets` the set of the indices that node v lists, for every node v; `outside` is worked in.
+/// Makes slot v of `sets` the set of the indices that node v lists, for every node v of a network's tree; `outside` is worked in.
 pub fn node_sets(
     sets: &mut [u64],
     outside: &mut [u64],
     w: usize,
-    n: usize,
-    o: usize,
-    counts: &[u8],
-    legs: &[u16],
-    outputs: &[u16],
+    network: &Accepted,
     kids: &[u16],
     order: &[u16],
 )
-    requires { (w ≤ 16) × (n ≤ 65536) × (o ≤ 65536) × Ordered n kids.now order.now × (nodes n kids.now * w ≤ length sets.old) × (nodes n kids.now * w ≤ length outside.old) }
-    ensures { SetsAre w n o counts.now legs.now outputs.now kids.now sets.old sets.new }
+    requires narrow { w ≤ 16 }
+    requires ordered { Ordered (length network.now.leg_counts.now) kids.now order.now }
+    requires sets { nodes (length network.now.leg_counts.now) kids.now * w ≤ length sets.old }
+    requires outside { nodes (length network.now.leg_counts.now) kids.now * w ≤ length outside.old }
+    ensures { sets.new ≡ with_sets sets.old w (λ v j. memb j (list_at (net_in network.now) (pairs_of kids.now) v)) (nodes (length network.now.leg_counts.now) kids.now) }
 {
-    let top = cells::less(n + kids.len() / 2, 1);
-    leaf_sets(sets, w, n, counts, legs);
+    let n = network.leg_counts.len();
+    let top = (n + kids.len() / 2).saturating_sub(1);
+    leaf_sets(sets, w, network);
     slots::empty(outside, w, top);
-    slots::put_all(outside, w, top, outputs, 0, o);
+    slots::put_all(outside, w, top, network.outputs, 0, network.outputs.len());
     join_up(sets, w, n, kids, order);
     want_down(outside, sets, w, n, kids, order);
     trim_all(sets, outside, w, n, kids, order);

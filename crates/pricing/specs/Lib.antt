@@ -8,3 +8,5 @@ pub mod Promise
 pub mod Whole
 pub mod Handed
 pub mod Final
+pub mod Lists
+pub mod Accept

@@ -14,8 +14,7 @@ use Rattle.network.specs.Checks.{Rows}
 use Rattle.slots.specs.Slots.{held}
 use Rattle.nodesets.specs.Passes.{nodes, with_sets}
 use Rattle.nodesets.specs.Lists.{Ordered}
-use Rattle.pricing.specs.declared.Prices.{Prices}
-use Rattle.pricing.specs.Answers.{prices_of}
+use Rattle.spec.specs.declared.Prices.{Prices}
 
 -- an accepted network, a valid tree and its step order, in lent lists; W words a set
 pub record Priceable (W m n o : ℕ) (weights counts rows outputs kids order : List ℕ) : Type 0 where
@@ -59,7 +58,13 @@ ListingSound W N flag a sets steps =
     2 ≤ leaf_count N → Sliceable N flag → (tables : ℕ → List ℕ → ℤ_semiring.Car)
     → RunsToDirectSum ℤ_semiring N tables flag a (handed_out W (index_count N) (step_places N) sets steps)
 
--- each lent list has the price list at its front, and what stood there after it
+-- each lent list has the price list at its front, and what stood there after it: the lists by node
+pub record Filled (W : ℕ) (N : Network) (flag : ℕ → Bool) (a : List Pair) (sets₀ sizes₀ works₀ sets sizes works : List ℕ) : Type 0 where
+  pub sets_are : sets ≡ with_sets sets₀ W (λ v j. memb j (list_at N a v)) (node_places N)
+  pub sizes_are : sizes ≡ over sizes₀ (map (size_at N flag a) (range (node_places N)))
+  pub works_are : works ≡ over works₀ (map (work_at N flag a) (range (node_places N)))
+
+-- and with the listing
 pub record PriceList (W : ℕ) (N : Network) (flag : ℕ → Bool) (a : List Pair) (sets₀ sizes₀ works₀ steps₀ sets sizes works steps : List ℕ) : Type 0 where
   pub sets_are : sets ≡ with_sets sets₀ W (λ v j. memb j (list_at N a v)) (node_places N)
   pub sizes_are : sizes ≡ over sizes₀ (map (size_at N flag a) (range (node_places N)))
@@ -68,5 +73,5 @@ pub record PriceList (W : ℕ) (N : Network) (flag : ℕ → Bool) (a : List Pai
 
 pub record Pricing (W : ℕ) (N : Network) (flag : ℕ → Bool) (a : List Pair) (sets₀ sizes₀ works₀ steps₀ sets sizes works steps : List ℕ) (r : Prices) : Type 0 where
   pub list : PriceList W N flag a sets₀ sizes₀ works₀ steps₀ sets sizes works steps
-  pub answer : r ≡ prices_of (price_of N flag a)
+  pub answer : r ≡ price_of N flag a
   pub sound : ListingSound W N flag a sets steps

@@ -1,6 +1,9 @@
 -- The loops over nodes and flags: total, widest, slice bits. Assumes nothing.
-use Rattle.std.specs.Prelude.{not, cond, ◌≡◌, refl, List, [], ◌∷◌, ◌++◌, ℕ, zero, suc, ◌+◌, ◌-◌, ◌*◌, ◌%◌, ◌^◌, ◌≤◌, ◌<◌, min, max, eqb, length, get_or}
-use Rattle.std.proofs.Common.{sym, ◌∙◌, ap, ap₂, arith, pow_mono, eq-eqb, ne_eqb, lt-ltb, le-ltb}
+use Rattle.std.specs.Prelude.{not, cond, ◌≡◌, refl, List, [], ◌∷◌, ◌++◌, ℕ, zero, suc, ◌+◌, ◌-◌, ◌*◌, ◌%◌, ◌^◌, ◌≤◌, ◌<◌, min, max, eqb, length, get_or, take, drop, Some, fold}
+use Rattle.std.specs.List.{reduce}
+use Rattle.std.proofs.lemmas.List.{get_or-take, get_or-drop, length-drop}
+use lib.Seq.{length-take-le}
+use Rattle.std.proofs.Common.{◌∙◌, ap, arith, pow_mono, ne_eqb, lt-ltb, le-ltb}
 use Rattle.std.proofs.Math.Decide.{dec_le}
 use Rattle.std.proofs.Math.ListN.{get_or-eq_default}
 use Rattle.spec.specs.declared.Total.TheVariants.{Exact, Beyond}
@@ -8,11 +11,10 @@ use Rattle.spec.specs.Lists.{from, range, sum_of}
 use Rattle.spec.specs.Layout.{firsts}
 use Rattle.spec.specs.Price.{up_to, largest}
 use Rattle.laws.specs.ListLaws.{sum_append}
-use Rattle.laws.specs.LayoutLaws.{firsts_length, firsts_at, firsts_none, firsts_more}
+use Rattle.laws.specs.LayoutLaws.{firsts_is, firsts_at}
 use Rattle.bits.specs.Bit.{one_shl}
 use Rattle.slots.specs.Weigh.{Light}
-use Rattle.pricing.specs.declared.Widest.TheVariants.{NoLeaves, Bits}
-use Rattle.pricing.specs.Answers.{total_of, widest_of, widest_in}
+use Rattle.pricing.specs.Answers.{widest_in}
 
 -- ---- a stretch of numbers in two parts ----
 
@@ -40,6 +42,15 @@ sum_grows g b k c h =
 unfoldable pub work_sum : List ℕ → ℕ → ℕ → ℕ
 work_sum works n c = sum_of (λ v. 2 ^ get_or works v 0) (from n c)
 
+-- the c places from n on, and place k of them
+pub part_length : (works : List ℕ) (n c : ℕ) → n + c ≤ length works → length (take (n + c - n) (drop n works)) ≡ c
+part_length works n c h =
+    let e : n + c - n ≡ c = omega arith in
+    rw e (length-take-le c (drop n works) (omega (arith, length-drop n works)))
+
+pub part_at : (works : List ℕ) (n c k b : ℕ) → k < c → b ≡ get_or (take (n + c - n) (drop n works)) k 0 → b ≡ get_or works (n + k) 0
+part_at works n c k b h e = e ∙ get_or-take (n + c - n) (drop n works) k 0 (omega arith) ∙ get_or-drop n works k 0
+
 pub sum_none : (works : List ℕ) (n : ℕ) → 0 ≡ work_sum works n 0
 unfolding work_sum
 sum_none works n = refl
@@ -55,19 +66,19 @@ sum_next works n k sum b h e l =
     omega (arith, h, z, sum_more (λ v. 2 ^ get_or works v 0) n k)
 
 -- the sum is beyond once a part of it is
-pub beyond_at : (works : List ℕ) (n k c x : ℕ) → k ≤ c → x ≡ work_sum works n k → 9007199254740992 ≤ x → Beyond ≡ total_of (up_to (work_sum works n c))
+pub beyond_at : (works : List ℕ) (n k c x : ℕ) → k ≤ c → x ≡ work_sum works n k → 9007199254740992 ≤ x → Beyond ≡ up_to (work_sum works n c)
 unfolding work_sum
 beyond_at works n k c x h e b =
     rw (le-ltb (sum_of (λ v. 2 ^ get_or works v 0) (from n c)) (2 ^ 53) (omega (arith, e, sum_grows (λ v. 2 ^ get_or works v 0) n k c h)))
 
-pub beyond_step : (works : List ℕ) (n k c b : ℕ) → k < c → b ≡ get_or works (n + k) 0 → 53 ≤ b → Beyond ≡ total_of (up_to (work_sum works n c))
+pub beyond_step : (works : List ℕ) (n k c b : ℕ) → k < c → b ≡ get_or works (n + k) 0 → 53 ≤ b → Beyond ≡ up_to (work_sum works n c)
 unfolding work_sum
 beyond_step works n k c b h e l =
     let m : 2 ^ 53 ≤ 2 ^ b = pow_mono l in
     let q : 2 ^ b ≡ 2 ^ get_or works (n + k) 0 = ap (λ (x : ℕ). 2 ^ x) e in
     beyond_at works n (k + 1) c (work_sum works n (k + 1)) (omega arith) refl (omega (arith, m, q, sum_more (λ v. 2 ^ get_or works v 0) n k))
 
-pub exact_at : (works : List ℕ) (n k c x : ℕ) → k ≡ c → x ≡ work_sum works n k → x < 9007199254740992 → Exact x ≡ total_of (up_to (work_sum works n c))
+pub exact_at : (works : List ℕ) (n k c x : ℕ) → k ≡ c → x ≡ work_sum works n k → x < 9007199254740992 → Exact x ≡ up_to (work_sum works n c)
 exact_at works n k c x h e b = rw (← h, ← e, lt-ltb x (2 ^ 53) (omega arith))
 
 -- ---- widest ----
@@ -76,18 +87,16 @@ pub largest-append : (k l : List ℕ) → largest (k ++ l) ≡ max (largest k) (
 largest-append [] l = omega arith
 largest-append (x ∷ k) l = omega (arith, largest-append k l)
 
-pub largest_none : (l : List ℕ) → 0 ≡ largest (firsts 0 l)
-largest_none l = sym (ap largest (firsts_none l))
+fold_largest : (x : ℕ) (l : List ℕ) → fold max x l ≡ max x (largest l)
+fold_largest x [] = omega arith
+fold_largest x (y ∷ l) = omega (arith, fold_largest (max x y) l)
 
-pub largest_next : (l : List ℕ) (k most x r : ℕ) → most ≡ largest (firsts k l) → x ≡ get_or l k 0 → r ≡ max most x → r ≡ largest (firsts (k + 1) l)
-largest_next l k most x r h e f =
-    f ∙ ap₂ max h e ∙ omega (arith, ap largest (firsts_more k l), largest-append (firsts k l) (get_or l k 0 ∷ []))
+pub reduce_widest : (l : List ℕ) → reduce max l ≡ widest_in l
+reduce_widest [] = refl
+reduce_widest (x ∷ l) = rw (ne_eqb (length (x ∷ l)) 0 (λ e. absurd (omega arith))) (ap Some (fold_largest x l))
 
-pub no_leaves : (l : List ℕ) (m : ℕ) → m ≡ 0 → NoLeaves ≡ widest_of (widest_in (firsts m l))
-no_leaves l m e = let z : length (firsts m l) ≡ 0 = firsts_length m l ∙ e in rw (eq-eqb (length (firsts m l)) 0 z)
-
-pub some_leaves : (l : List ℕ) (m x : ℕ) → (m ≡ 0 → ⊥) → x ≡ largest (firsts m l) → Bits x ≡ widest_of (widest_in (firsts m l))
-some_leaves l m x g e = rw (ne_eqb (length (firsts m l)) 0 (λ z. g (sym (firsts_length m l) ∙ z)), e)
+pub firsts_front : (m : ℕ) (l : List ℕ) → m ≤ length l → take m l ≡ firsts m l
+firsts_front m l h = firsts_is m l (take m l) (length-take-le m l h) (λ i b. get_or-take m l i 0 b)
 
 -- ---- slice bits ----
 

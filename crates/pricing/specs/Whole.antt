@@ -4,7 +4,7 @@ use Rattle.std.proofs.Math.Bool.{true}
 use Rattle.std.proofs.Math.Path.{refl, sym, ap, ap₂}
 use Rattle.std.proofs.Common.{◌∙◌, subst, arith, le-ltb, eq-eqb, ne_eqb}
 use mathlib.Core.List.{List, [], ◌∷◌, map, map-append, map-map}
-use Prim.Native.Nat.{ℕ, ◌+◌, ◌*◌, ◌^◌, ◌≤◌, ◌<◌, max}
+use Prim.Native.Nat.{ℕ, ◌+◌, ◌-◌, ◌*◌, ◌^◌, ◌≤◌, ◌<◌, max}
 use Rattle.std.proofs.Math.Decide.{ℕ_discrete}
 use Rattle.std.proofs.Math.ListN.{get_or}
 use Rattle.spec.specs.Lists.{memb, from, range, sum_of}
@@ -20,7 +20,7 @@ use Rattle.laws.specs.ListLaws.{memb_head, from_memb, sum_map, sum_same_from}
 use Rattle.laws.specs.Counts.{sum_same}
 use Rattle.laws.specs.OrderLaws.{largest_same}
 use Rattle.laws.specs.LayoutLaws.{firsts_length}
-use Rattle.laws.specs.FlatLaws.{left_of, right_of}
+use Rattle.laws.specs.FlatLaws.{pairs_length, pair_left, pair_right, left_of, right_of}
 use Rattle.slots.specs.Slots.{held}
 use Rattle.slots.specs.Weigh.{open_weight, either}
 use Rattle.nodesets.specs.Passes.{nodes}
@@ -32,20 +32,40 @@ use Rattle.nodebits.specs.Stepped.{over_front}
 use Rattle.pricing.specs.Answers.{widest_in}
 use Rattle.pricing.specs.Sums.{work_sum, from-add, largest-append}
 use Rattle.pricing.specs.Lines.{lines}
-use Rattle.pricing.specs.Nodes.{nested, size_is, leaf_is, works_is, left_of_lem, right_of_lem}
+use Rattle.pricing.specs.Nodes.{nested, size_is, leaf_is, works_is}
 use Rattle.pricing.specs.Tables.{node_counts, map_same_from, leaves_are}
 
--- each node's slot and weights are the price list's; x is the number of leaves
-pub record NodesRight (N : Network) (x W : ℕ) (kids order sets flags effective : List ℕ) : Type 0 where
+-- the step order's nodes and their children are the listing's; x is the number of leaves
+pub record InOrder (N : Network) (x : ℕ) (kids order flags : List ℕ) : Type 0 where
   pub leaf_count_lem : leaf_count N ≡ x
+  pub steps : Steps x kids order
+  pub lefts : (v : ℕ) → memb v order ≡ true → (children_at N (pairs_of kids) v).left ≡ left_of kids x v
+  pub rights : (v : ℕ) → memb v order ≡ true → (children_at N (pairs_of kids) v).right ≡ right_of kids x v
+  pub listed : listing N (flag_at flags) (pairs_of kids) ≡ map (step_at N (flag_at flags) (pairs_of kids)) order
+
+ordered_core : (N : Network) (kids order flags : List ℕ) → Ordered (leaf_count N) kids order → InOrder N (leaf_count N) kids order flags
+unfolding listing step_order
+ordered_core N kids order flags o =
+    let s = ordered_steps o in
+    record {
+      leaf_count_lem = refl;
+      steps = s;
+      lefts = λ v m. pair_left kids (v - leaf_count N) (omega (arith, pairs_length kids, s.inner v m));
+      rights = λ v m. pair_right kids (v - leaf_count N) (omega (arith, pairs_length kids, s.inner v m));
+      listed = ap (map (step_at N (flag_at flags) (pairs_of kids))) (sym o.in_order);
+    }
+
+pub in_order : (N : Network) (kids order flags : List ℕ) (x : ℕ) → leaf_count N ≡ x → Ordered x kids order → InOrder N x kids order flags
+in_order N kids order flags x e o =
+    subst (λ (y : ℕ). Ordered y kids order → InOrder N y kids order flags) e (ordered_core N kids order flags) o
+
+-- each node's slot and weights are the price list's
+pub record NodesRight (N : Network) (x W : ℕ) (kids order sets flags effective : List ℕ) : Type 0 where
   pub steps : Steps x kids order
   pub nests : (v j : ℕ) → memb v order ≡ true → j < W * 64 → held sets W v j ≡ true → either sets W (left_of kids x v) (right_of kids x v) j ≡ true
   pub leaves : (i : ℕ) → i < x → size_of effective sets W i ≡ sum_of (open_weight effective []) (legs N i)
   pub sizes : (v : ℕ) → v < nodes x kids → size_of effective sets W v ≡ size_at N (flag_at flags) (pairs_of kids) v
   pub works : (v : ℕ) → v < nodes x kids → node_work effective sets kids W x v ≡ work_at N (flag_at flags) (pairs_of kids) v
-  pub lefts : (v : ℕ) → memb v order ≡ true → (children_at N (pairs_of kids) v).left ≡ left_of kids x v
-  pub rights : (v : ℕ) → memb v order ≡ true → (children_at N (pairs_of kids) v).right ≡ right_of kids x v
-  pub listed : listing N (flag_at flags) (pairs_of kids) ≡ map (step_at N (flag_at flags) (pairs_of kids)) order
 
 abbrev pub Holds : Network → ℕ → ℕ → List ℕ → List ℕ → Type 0
 Holds N x W kids sets = (v j : ℕ) → v < nodes x kids → j < W * 64 → held sets W v j ≡ memb j (list_at N (pairs_of kids) v)
@@ -53,20 +73,15 @@ Holds N x W kids sets = (v j : ℕ) → v < nodes x kids → j < W * 64 → held
 module _ (N : Network) (W : ℕ) (kids order sets flags effective : List ℕ) (acc : Accepted N) (fits : index_count N ≤ W * 64)
     (eff : Effective N.weights flags effective) where
   core : Ordered (leaf_count N) kids order → Holds N (leaf_count N) W kids sets → NodesRight N (leaf_count N) W kids order sets flags effective
-  unfolding listing step_order
   core o h =
       let s = ordered_steps o in
       let i = ordered_inners o in
       record {
-        leaf_count_lem = refl;
         steps = s;
         nests = nested N kids order sets W s i acc fits h;
         leaves = leaf_is N kids order sets W s i acc fits h flags effective eff;
         sizes = size_is N kids order sets W s i acc fits h flags effective eff;
         works = works_is N kids order sets W s i acc fits h flags effective eff;
-        lefts = λ v m. left_of_lem N kids order sets W s i acc fits h flags effective eff v (s.inner v m).0 (s.inner v m).1;
-        rights = λ v m. right_of_lem N kids order sets W s i acc fits h flags effective eff v (s.inner v m).0 (s.inner v m).1;
-        listed = ap (map (step_at N (flag_at flags) (pairs_of kids))) (sym o.in_order);
       }
 
   pub nodes_right : (x : ℕ) → leaf_count N ≡ x → Ordered x kids order → Holds N x W kids sets → NodesRight N x W kids order sets flags effective
@@ -76,9 +91,21 @@ module _ (N : Network) (W : ℕ) (kids order sets flags effective : List ℕ) (a
 -- ---- what the loops found ----
 
 module _ {N : Network} {x W : ℕ} {kids order sets flags effective : List ℕ} (r : NodesRight N x W kids order sets flags effective)
+    (old new : List ℕ) where
+  pub sizes_are : new ≡ over old (map (size_of effective sets W) (range (nodes x kids)))
+      → new ≡ over old (map (size_at N (flag_at flags) (pairs_of kids)) (range (nodes x kids)))
+  sizes_are e = e ∙ ap (over old) (map_same_from _ _ 0 (nodes x kids) (λ v b h. r.sizes v (omega arith)))
+
+  pub works_are : new ≡ over old (map (node_work effective sets kids W x) (range (nodes x kids)))
+      → new ≡ over old (map (work_at N (flag_at flags) (pairs_of kids)) (range (nodes x kids)))
+  works_are e = e ∙ ap (over old) (map_same_from _ _ 0 (nodes x kids) (λ v b h. r.works v (omega arith)))
+
+-- ---- what the filled lists hold ----
+
+module _ {N : Network} {x : ℕ} {kids order flags : List ℕ} (r : InOrder N x kids order flags)
     (sizes₀ works₀ sizes works : List ℕ) (fits_sizes : nodes x kids ≤ length sizes₀) (fits_works : nodes x kids ≤ length works₀)
-    (es : sizes ≡ over sizes₀ (map (size_of effective sets W) (range (nodes x kids))))
-    (ew : works ≡ over works₀ (map (node_work effective sets kids W x) (range (nodes x kids)))) where
+    (es : sizes ≡ over sizes₀ (map (size_at N (flag_at flags) (pairs_of kids)) (range (nodes x kids))))
+    (ew : works ≡ over works₀ (map (work_at N (flag_at flags) (pairs_of kids)) (range (nodes x kids)))) where
   abbrev a : List Pair
   a = pairs_of kids
 
@@ -95,18 +122,12 @@ module _ {N : Network} {x W : ℕ} {kids order sets flags effective : List ℕ} 
   nodes_are = omega (arith, r.steps.numbers, r.steps.steps)
 
   size_at_lem : (v : ℕ) → v < m → get_or sizes v 0 ≡ size_at N flag a v
-  size_at_lem v h = over_front sizes₀ sizes (size_of effective sets W) m fits_sizes es v h ∙ r.sizes v h
+  size_at_lem v h = over_front sizes₀ sizes (size_at N flag a) m fits_sizes es v h
 
   work_at_lem : (v : ℕ) → x ≤ v → v < m → get_or works v 0 ≡ (step_at N flag a v).work_bits
   work_at_lem v b h =
-      over_front works₀ works (node_work effective sets kids W x) m fits_works ew v h ∙ r.works v h
+      over_front works₀ works (work_at N flag a) m fits_works ew v h
       ∙ rw (le-ltb v (leaf_count N) (omega (arith, r.leaf_count_lem)))
-
-  pub sizes_are : sizes ≡ over sizes₀ (map (size_at N flag a) (range m))
-  sizes_are = es ∙ ap (over sizes₀) (map_same_from _ _ 0 m (λ v b h. r.sizes v (omega arith)))
-
-  pub works_are : works ≡ over works₀ (map (work_at N flag a) (range m))
-  works_are = ew ∙ ap (over works₀) (map_same_from _ _ 0 m (λ v b h. r.works v (omega arith)))
 
   -- the listing
   lines_are : (l : List ℕ) → ((v : ℕ) → memb v l ≡ true → memb v order ≡ true)

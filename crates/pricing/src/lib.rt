@@ -1,68 +1,35 @@
 #![tactic(auto)]
 // Pricing on lent lists: each node's set, size bits and work bits, the listing, total, widest and slice bits.
-ghost use Rattle.std.specs.Prelude.{◌≡◌, not, cond, ◌∷◌, [], eqb, ◌+◌, ◌*◌, ◌<◌, ◌≤◌, max, length};
+ghost use Rattle.std.specs.Prelude.{◌≡◌, not, cond, ◌∷◌, [], eqb, ◌+◌, ◌*◌, ◌<◌, ◌≤◌, length};
 ghost use Rattle.std.proofs.lemmas.List.Edits.{sets};
 ghost use Rattle.spec.specs.Lists.{range, sum_of};
-ghost use Rattle.spec.specs.Layout.{firsts, network_of};
-ghost use Rattle.spec.specs.Tree.{pairs_of};
-ghost use Rattle.spec.specs.Calls.{flag_at};
+ghost use Rattle.spec.specs.Layout.{firsts};
 ghost use Rattle.spec.specs.Memory.{over};
-ghost use Rattle.spec.specs.Price.{up_to, largest};
+ghost use Rattle.spec.specs.Price.{up_to};
 ghost use Rattle.slots.specs.Weigh.{Light};
 ghost use Rattle.laws.specs.FlatLaws.{left_of, right_of};
 ghost use Rattle.nodesets.specs.Passes.{nodes};
 ghost use Rattle.nodesets.specs.Steps.{Steps};
-ghost use Rattle.pricing.specs.Answers.{total_of, widest_of, widest_in};
+ghost use Rattle.pricing.specs.Answers.{widest_in};
 ghost use Rattle.pricing.specs.Sums.{work_sum, slice_share};
 ghost use Rattle.pricing.specs.Lines.{lines};
-ghost use Rattle.pricing.specs.Promise.{Priceable, Room, Pricing};
 
-// The sum of 2 to the work bits, or beyond from 2^53 on.
-#[derive(Clone, Copy)]
-pub enum Total {
-    Exact(u64),
-    Beyond,
-}
+pub mod list; // list.rt: the price list
 
-// The size bits of the widest table.
-#[derive(Clone, Copy)]
-pub enum Widest {
-    NoLeaves,
-    Bits(u16),
-}
+use list::PriceList;
+use spec::Total;
 
-#[derive(Clone, Copy)]
-pub struct Prices {
-    pub total: Total,
-    pub widest: Widest,
-    pub slice_bits: u16,
-}
-
-// A number as an index.
-fn index8(x: u8) -> usize
-    ensures { (result ≡ x) × (result < 256) }
-{
-    x as usize
-}
-
-fn index16(x: u16) -> usize
-    ensures { (result ≡ x) × (result < 65536) }
-{
-    x as usize
-}
-
-// The total of the `c` inner nodes from number `n` on.
+/// The total of the `c` inner nodes from number `n` on: the sum of 2 to their work bits, or beyond from 2^53 on.
 pub fn total_of(works: &[u16], n: usize, c: usize) -> Total
     requires { n + c ≤ length works.now }
-    ensures { result ≡ total_of (up_to (work_sum works.now n c)) }
+    ensures { result ≡ up_to (work_sum works.now n c) }
 {
     let mut sum: u64 = 0;
-    for k in 0..c {
-        let b = index16(works[n + k]);
-        if 53 <= b {
+    for &bits in &works[n..n + c] {
+        if 53 <= bits {
             return Total::Beyond;
         }
-        sum += 1 << b;
+        sum += 1 << bits;
         if 9007199254740992 <= sum {
             return Total::Beyond;
         }
@@ -70,33 +37,12 @@ pub fn total_of(works: &[u16], n: usize, c: usize) -> Total
     Total::Exact(sum)
 }
 
-fn larger(x: u16, y: u16) -> u16
-    ensures { result ≡ max x y }
-{
-    if x < y { y } else { x }
-}
-
-// The largest of the first `m` sizes.
-fn largest_of(sizes: &[u16], m: usize) -> u16
+/// The size bits of the widest of the first `m` nodes; none without nodes.
+pub fn widest_of(sizes: &[u16], m: usize) -> Option<u16>
     requires { m ≤ length sizes.now }
-    ensures { result ≡ largest (firsts m sizes.now) }
+    ensures { result ≡ widest_in (firsts m sizes.now) }
 {
-    let mut most: u16 = 0;
-    for i in 0..m {
-        most = larger(most, sizes[i]);
-    }
-    most
-}
-
-// The widest of `m` nodes.
-pub fn widest_of(sizes: &[u16], m: usize) -> Widest
-    requires { m ≤ length sizes.now }
-    ensures { result ≡ widest_of (widest_in (firsts m sizes.now)) }
-{
-    if m == 0 {
-        return Widest::NoLeaves;
-    }
-    Widest::Bits(largest_of(sizes, m))
+    sizes[..m].iter().copied().max()
 }
 
 // The weight, if it is flagged.
@@ -106,16 +52,16 @@ fn share(flag: u8, weight: u8) -> u8
     if flag == 0 { 0 } else { weight }
 }
 
-// The weights of the flagged indices, of `m` in all.
+/// The summed weights of the flagged indices, of `m` in all. Flags past the end of their list are clear.
 pub fn slice_bits(m: usize, weights: &[u8], flags: &[u8]) -> u16
     requires { (m ≤ length weights.now) × (m ≤ 1024) × Light (firsts m weights.now) }
     ensures { result ≡ sum_of (slice_share weights.now flags.now) (range m) }
 {
-    let mut sum: usize = 0;
-    for j in 0..cells::min(m, flags.len()) {
-        sum += index8(share(flags[j], weights[j]));
+    let mut sum: u16 = 0;
+    for (&flag, &weight) in flags.iter().zip(&weights[..m]) {
+        sum += u16::from(share(flag, weight));
     }
-    sum as u16
+    sum
 }
 
 // A step's five numbers at `at`.
@@ -131,20 +77,14 @@ fn put_step(steps: &mut [u16], at: usize, v: u16, l: u16, r: u16, work: u16, siz
 }
 
 // The listing: node, left, right, work bits and size bits of each step in order.
-fn list_steps(
-    steps: &mut [u16],
-    n: usize,
-    kids: &[u16],
-    order: &[u16],
-    works: &[u16],
-    sizes: &[u16],
-)
-    requires { Steps n kids.now order.now × (length order.now * 5 ≤ length steps.old) × (nodes n kids.now ≤ length works.now) × (nodes n kids.now ≤ length sizes.now) }
-    ensures { steps.new ≡ over steps.old (lines (left_of kids.now n) (right_of kids.now n) works.now sizes.now order.now) }
+pub(crate) fn list_steps(steps: &mut [u16], n: usize, kids: &[u16], order: &[u16], list: &PriceList)
+    requires { Steps n kids.now order.now × (length order.now * 5 ≤ length steps.old) × (nodes n kids.now ≤ length list.now.works.now) × (nodes n kids.now ≤ length list.now.sizes.now) }
+    ensures { steps.new ≡ over steps.old (lines (left_of kids.now n) (right_of kids.now n) list.now.works.now list.now.sizes.now order.now) }
 {
+    // No row is written through an iterator, since a zip with a written list says only its length.
     for k in 0..order.len() {
         let node = order[k];
-        let v = index16(node);
+        let v = usize::from(node);
         let at = (v - n) * 2;
         put_step(
             steps,
@@ -152,48 +92,8 @@ fn list_steps(
             node,
             kids[at],
             kids[at + 1],
-            works[v],
-            sizes[v],
+            list.works[v],
+            list.sizes[v],
         );
-    }
-}
-
-// Prices the tree `kids` of an accepted network, in step order: fills the price list's lists from their fronts on; `outside` is worked in.
-pub fn price(
-    outside: &mut [u64],
-    sets: &mut [u64],
-    sizes: &mut [u16],
-    works: &mut [u16],
-    steps: &mut [u16],
-    w: usize,
-    m: usize,
-    n: usize,
-    o: usize,
-    weights: &[u8],
-    counts: &[u8],
-    legs: &[u16],
-    outputs: &[u16],
-    flags: &[u8],
-    kids: &[u16],
-    order: &[u16],
-) -> Prices
-    requires { Priceable w m n o weights.now counts.now legs.now outputs.now kids.now order.now × Room w n kids.now order.now (length outside.old) (length sets.old) (length sizes.old) (length works.old) (length steps.old) }
-    ensures { Pricing w (network_of m n o weights.now counts.now legs.now outputs.now) (flag_at flags.now) (pairs_of kids.now) sets.old sizes.old works.old steps.old sets.new sizes.new works.new steps.new result }
-{
-    let mut effective = [0u8; 1024];
-    nodebits::effective_weights(&mut effective, m, weights, flags);
-    nodesets::node_sets(sets, outside, w, n, o, counts, legs, outputs, kids, order);
-    nodebits::node_bits(
-        sizes, works, sets, w, n, counts, legs, kids, order, &effective,
-    );
-    list_steps(steps, n, kids, order, works, sizes);
-    let c = order.len();
-    let total = total_of(works, n, c);
-    let widest = widest_of(sizes, n + c);
-    let bits = slice_bits(m, weights, flags);
-    Prices {
-        total,
-        widest,
-        slice_bits: bits,
     }
 }

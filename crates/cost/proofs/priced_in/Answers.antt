@@ -1,26 +1,49 @@
-use Rattle.cost.specs.Checks.{order_front, fitting_priceable, enough, rest_tree, rest_flags, rest_done, tree_wrong, tree_right, answered_refused, answered_done}
-use Rattle.walk.specs.Order.{order_length}
-use Rattle.spec.specs.Tree.{step_order}
+use borrow.Author.Rules.{rules}
+use Rattle.std.proofs.Common.{◌≡◌, ◌∙◌, ◌≤◌, sym, false, Err, arith}
 use Rattle.spec.specs.Memory.{filled}
-use Rattle.cost.specs.Answers.{rest_call}
-use Rattle.network.specs.Layouts.{layout_leaf_count, layout_index_count}
+use Rattle.spec.specs.Tree.{step_order}
 use Rattle.spec.specs.Calls.{wrong_tree}
 use Rattle.spec.specs.declared.Refusal.TheVariants.{InvalidTree, InvalidFlags}
-use Rattle.spec.specs.Layout.{network_of}
-use mathlib.Core.Path.{refl, sym, ◌∙◌}
-use native.Mathlib.Omega.{arith}
-use Rattle.std.proofs.lemmas.Bool.{not_from_true, not_from_false}
+use Rattle.network.specs.Views.{net_in, in_facts, in_leaves}
+use Rattle.walk.specs.Order.{order_length}
+use Rattle.cost.specs.Answers.{rest_call}
+use Rattle.cost.specs.Checks.{rest_tree, rest_flags, rest_done, order_front, answered_refused, answered_done}
 use Rattle.cost.proofs.priced_in.Goals as goal
 
-pub returns-then-not-is_tree : goal.returns-then-not-is_tree
-returns-then-not-is_tree c = let a = c.args in answered_refused (network_of a.m a.n a.o a.weights.now a.counts.now a.legs.now a.outputs.now) a.flags.now a.tree.now a.sets.now a.sizes.now a.works.now a.steps.now (rest_call (network_of a.m a.n a.o a.weights.now a.counts.now a.legs.now a.outputs.now) a.flags.now a.tree.now) InvalidTree 8 (rest_tree (network_of a.m a.n a.o a.weights.now a.counts.now a.legs.now a.outputs.now) a.flags.now a.tree.now a.n (layout_leaf_count a.m a.n a.o a.weights.now a.counts.now a.legs.now a.outputs.now) (tree_wrong c.is_tree.result (wrong_tree a.n a.tree.now) c.is_tree.ensures (not_from_false _ c.if-not-is_tree.true))) refl
+pub returns-in_err-tree-clause-answered : goal.returns-in_err-tree-clause-answered
+returns-in_err-tree-clause-answered c =
+    let a = c.args in
+    let N = net_in a.network.now in
+    let w = c.in_err-tree.ensures.err in
+    let e : c.from_residual.result ≡ Err InvalidTree = search rules in
+    rw e
+    (answered_refused N a.flags.now a.kids.now a.list.now.sets.now a.list.now.sizes.now a.list.now.works.now a.steps.now (rest_call N a.flags.now a.kids.now) InvalidTree
+    (rest_tree N a.flags.now a.kids.now c.leaf_count.result (sym c.leaf_count.ensures) w.1))
 
-pub returns-then-wrong_flags : goal.returns-then-wrong_flags
-returns-then-wrong_flags c = let a = c.args in answered_refused (network_of a.m a.n a.o a.weights.now a.counts.now a.legs.now a.outputs.now) a.flags.now a.tree.now a.sets.now a.sizes.now a.works.now a.steps.now (rest_call (network_of a.m a.n a.o a.weights.now a.counts.now a.legs.now a.outputs.now) a.flags.now a.tree.now) InvalidFlags 9 (rest_flags (network_of a.m a.n a.o a.weights.now a.counts.now a.legs.now a.outputs.now) a.flags.now a.tree.now a.n a.m (layout_leaf_count a.m a.n a.o a.weights.now a.counts.now a.legs.now a.outputs.now) (layout_index_count a.m a.n a.o a.weights.now a.counts.now a.legs.now a.outputs.now) (tree_right c.is_tree.result (wrong_tree a.n a.tree.now) c.is_tree.ensures (not_from_true _ c.if-not-is_tree.false)) (sym c.wrong_flags.ensures ∙ c.if-wrong_flags.true)) refl
+pub returns-then-wrong_flags-clause-answered : goal.returns-then-wrong_flags-clause-answered
+returns-then-wrong_flags-clause-answered c =
+    let a = c.args in
+    let N = net_in a.network.now in
+    let ok = c.in_ok-tree.ensures.ok in
+    let right : wrong_tree c.leaf_count.result a.kids.now ≡ false = (λ j. wrong_tree (sym ok.1 j) (sym ok.0 j)) ∙ c.in_ok-tree.tree.valid in
+    answered_refused N a.flags.now a.kids.now a.list.now.sets.now a.list.now.sizes.now a.list.now.works.now a.steps.now (rest_call N a.flags.now a.kids.now) InvalidFlags
+    (rest_flags N a.flags.now a.kids.now c.leaf_count.result c.index_count.result (sym c.leaf_count.ensures) (sym c.index_count.ensures) right (sym c.wrong_flags.ensures ∙ c.if-wrong_flags.true))
 
-pub price-requires : goal.price-requires
+pub price_listed-requires-clause-order : goal.price_listed-requires-clause-order
 unfolding filled
-price-requires c = let a = c.args in let o = c.post_order-c in let w = tree_right c.is_tree.result (wrong_tree a.n a.tree.now) c.is_tree.ensures (not_from_true _ c.if-not-is_tree.false) in let p = fitting_priceable c.requires.0 c.requires.1 w (order_front (filled 128 0) o.new.out (step_order a.tree.now a.n) o.result o.ensures.1 (order_length a.tree.now a.n w ∙ sym o.ensures.0) (omega (arith, o.ensures.0, c.requires.1.few_leaves))) in (p, enough c.requires.1.few_leaves c.requires.2 (o.auto.ws ∙ c.is_tree.auto.ws) p.ordered)
+price_listed-requires-clause-order c =
+    let n = c.args.network.now in
+    let t = c.in_ok-tree.tree in
+    let few : t.leaves ≤ 128 = omega (arith, c.in_ok-tree.ensures.ok.1, c.leaf_count.ensures, in_leaves n, (in_facts n n.holds).few_leaves) in
+    order_front (filled 128 0) c.post_order-c.new.out (step_order t.kids.now t.leaves) c.post_order-c.result c.post_order-c.ensures.1
+    (order_length t.kids.now t.leaves t.valid ∙ sym c.post_order-c.ensures.0) (omega (arith, c.post_order-c.ensures.0))
 
-pub returns : goal.returns
-returns c = let a = c.args in answered_done (network_of a.m a.n a.o a.weights.now a.counts.now a.legs.now a.outputs.now) a.flags.now a.tree.now a.sets.now a.sizes.now a.works.now a.steps.now (rest_call (network_of a.m a.n a.o a.weights.now a.counts.now a.legs.now a.outputs.now) a.flags.now a.tree.now) _ _ _ _ _ (rest_done (network_of a.m a.n a.o a.weights.now a.counts.now a.legs.now a.outputs.now) a.flags.now a.tree.now a.n a.m (layout_leaf_count a.m a.n a.o a.weights.now a.counts.now a.legs.now a.outputs.now) (layout_index_count a.m a.n a.o a.weights.now a.counts.now a.legs.now a.outputs.now) (tree_right c.is_tree.result (wrong_tree a.n a.tree.now) c.is_tree.ensures (not_from_true _ c.if-not-is_tree.false)) (sym c.wrong_flags.ensures ∙ c.if-wrong_flags.false)) c.price.ensures
+pub returns-clause-answered : goal.returns-clause-answered
+returns-clause-answered c =
+    let a = c.args in
+    let N = net_in a.network.now in
+    let ok = c.in_ok-tree.ensures.ok in
+    let right : wrong_tree c.leaf_count.result a.kids.now ≡ false = (λ j. wrong_tree (sym ok.1 j) (sym ok.0 j)) ∙ c.in_ok-tree.tree.valid in
+    answered_done N a.flags.now a.kids.now a.list.now.sets.now a.list.now.sizes.now a.list.now.works.now a.steps.now (rest_call N a.flags.now a.kids.now) _ _ _ _ _
+    (rest_done N a.flags.now a.kids.now c.leaf_count.result c.index_count.result (sym c.leaf_count.ensures) (sym c.index_count.ensures) right (sym c.wrong_flags.ensures ∙ c.if-wrong_flags.false))
+    (rw ok.0 at c.price_listed.ensures.pricing)

@@ -1,22 +1,21 @@
-use mathlib.Core.Path.{refl}
-use Rattle.listing.specs.Listing.{answer_short, answer_refused, answer_done}
+use borrow.Author.Rules.{rules}
+use Rattle.std.proofs.Common.{◌≡◌, refl, Err}
+use Rattle.listing.specs.Listing.{tells_short, tells_priced_not, tells_priced}
 use Rattle.listing.proofs.list_with.Goals as goal
 
 pub returns-then-out-n : goal.returns-then-out-n
 returns-then-out-n c =
     let a = c.args in
-    answer_short a.network a.flags.now a.tree.now a.out.now c.less-n.ensures c.if-out-n.true
+    tells_short a.network.now a.flags.now a.kids.now a.out.now c.saturating_sub-n.ensures c.if-out-n.true
 
-pub returns-in-Refused : goal.returns-in-Refused
-returns-in-Refused c =
+pub returns-in_err-prices : goal.returns-in_err-prices
+returns-in_err-prices c =
     let a = c.args in
-    answer_refused a.network a.flags.now a.tree.now a.out.now c.requires.1 refl c.less-n.ensures c.if-out-n.false
-    c.in-Refused.ensures.answered.answer
+    let r = c.in_err-prices.field-0.0 in
+    let e : c.from_residual.result ≡ Err r = search rules in
+    rw e (tells_priced_not a.network.now a.flags.now a.kids.now a.out.now c.requires.room c.in_err-prices.ensures.cost c.saturating_sub-n.ensures c.if-out-n.false refl)
 
-pub returns-in-Done : goal.returns-in-Done
-returns-in-Done c =
+pub returns : goal.returns
+returns c =
     let a = c.args in
-    answer_done a.network a.flags.now a.tree.now a.out.now c.requires.1 refl c.less-n.ensures c.if-out-n.false c.requires.0
-    c.in-Done.ensures.answered.answer
-    c.in-Done.ensures.answered.steps_are
-    c.put_listing.ensures
+    tells_priced a.network.now a.flags.now a.kids.now a.out.now c.requires.room c.in_ok-prices.ensures.cost c.saturating_sub-n.ensures c.if-out-n.false c.requires.leaves refl c.put_listing.ensures

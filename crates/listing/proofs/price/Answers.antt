@@ -2,6 +2,7 @@ use native.Mathlib.Omega.{arith}
 use mathlib.Core.Path.{refl, sym, ◌∙◌}
 use lib.ListN.{length, replicate}
 use Rattle.listing.specs.Reading.{read_refused, read_done}
+use Rattle.listing.specs.Listing.{tells_number}
 use Rattle.listing.proofs.price.Goals as goal
 
 pub price_found-requires : goal.price_found-requires
@@ -21,4 +22,4 @@ returns-in-Done c =
     let a = c.args in
     let w = read_done a.file.now (replicate 254 0) (replicate 256 0) refl refl (λ i. omega (arith, c.shared_slice_known-1.given i))
     (sym c.in-Done.is ∙ c.read-reading.ensures.0) c.read-reading.ensures.1 c.read-reading.ensures.2 c.read-reading.ensures.3 in
-    rw w.rest c.price_found.ensures
+    rw w.rest (tells_number _ _ a.out.now _ c.price_found.ensures c.number.ensures)

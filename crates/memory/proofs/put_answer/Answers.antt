@@ -1,11 +1,11 @@
-use mathlib.Core.Path.{refl}
-use Rattle.cost.specs.Back.{prices_from}
-use Rattle.memory.specs.Numbers.{numbers_put}
+use mathlib.Core.Path.{ap, ◌∙◌}
+use Rattle.spec.specs.Memory.{over}
+use Rattle.cells.specs.Cells.{copied_all}
+use Rattle.memory.specs.Numbers.{numbers_are}
 use Rattle.memory.proofs.put_answer.Goals as goal
 
 pub returns : goal.returns
 returns c =
     let a = c.args in
-    numbers_put a.answer.now (prices_from a.prices)
-    c.total_kind.ensures c.exact.ensures c.widest_number.ensures refl
-    c.put64.ensures c.put64-2.ensures c.put64-3.ensures c.put64-4.ensures
+    c.copy.ensures ∙ copied_all a.answer.now _
+    ∙ ap (over a.answer.now) (numbers_are a.prices.now c.total_kind.ensures c.exact.ensures c.widest_number.ensures c.from.ensures)

@@ -1,8 +1,7 @@
 use Rattle.slots.specs.Writes.{leaf_has}
 use Rattle.nodesets.specs.Passes.{with_sets}
-use Prim.Native.Nat.{◌≤◌}
 use mathlib.Core.Path.{◌≡◌}
 use Rattle.nodesets.proofs.leaf_sets.Given as goal
 
 abbrev pub invariant-loop-i : goal.invariant-loop-i
-invariant-loop-i l = (l.i ≤ l.n) × (l.sets ≡ with_sets l.initial.sets l.w (leaf_has l.counts l.legs) l.i)
+invariant-loop-i l = l.sets ≡ with_sets l.initial.sets l.w (leaf_has l.network.leg_counts.now l.network.legs.now) l.i

@@ -5,11 +5,11 @@ use mathlib.Core.Path.{refl, ap, ◌∙◌}
 use lib.ListN.{length}
 use Rattle.nodesets.proofs.trim_all.Goals as goal
 
-pub loop-k-init : goal.loop-k-init
-loop-k-init c = (omega arith, refl, cuts_none _ _ _ _)
+pub loop-node-init : goal.loop-node-init
+loop-node-init c = (omega arith, refl, cuts_none _ _ _ _)
 
 pub trim-requires : goal.trim-requires
-trim-requires c = let i = step_inner c.requires.0 c.loop-k.k c.index16.result (omega arith) c.index16.ensures.0 in (slot_in _ _ _ _ i.1 (omega arith), slot_in _ _ _ _ i.1 (omega arith))
+trim-requires c = let i = step_inner c.requires.0 c.loop-node.node-index c.from.result (omega arith) c.from.ensures in (slot_in _ _ _ _ i.1 (omega arith), slot_in _ _ _ _ i.1 (omega arith))
 
-pub loop-k-preserved : goal.loop-k-preserved
-loop-k-preserved c = (omega arith, ap length c.trim.ensures ∙ with_set_length _ _ _ _ ∙ c.loop-k.invariant.1, cuts_next _ _ _ _ _ _ _ _ c.loop-k.invariant.2 c.index16.ensures.0 c.trim.ensures)
+pub loop-node-preserved : goal.loop-node-preserved
+loop-node-preserved c = (omega arith, ap length c.trim.ensures ∙ with_set_length _ _ _ _ ∙ c.loop-node.invariant.1, cuts_next _ _ _ _ _ _ _ _ c.loop-node.invariant.2 c.from.ensures c.trim.ensures)

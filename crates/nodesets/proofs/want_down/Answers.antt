@@ -1,26 +1,63 @@
+use Rattle.std.proofs.Common.{◌≡◌, ℕ, ◌+◌, ◌-◌, ◌*◌, ◌≤◌, ◌<◌, length, refl, sym, ap, ◌∙◌, arith}
+use Rattle.std.proofs.lemmas.List.{length-reverse, length_push}
+use Rattle.std.proofs.lemmas.Iterator.Adapters.{YieldsList-from_rev_slice}
+use Rattle.std.proofs.lemmas.Iterator.Consumers.{YieldsList-turn, YieldsList-end}
 use Rattle.slots.specs.Slots.{with_set_length}
-use Rattle.nodesets.specs.Turns.{slot_in, step_inner, step_left, step_right, downs_none, downs_next}
-use Rattle.nodesets.specs.Passes.{nodes}
-use native.Mathlib.Omega.{arith}
-use Prim.Native.Nat.{◌*◌, ◌≤◌}
-use mathlib.Core.Path.{◌≡◌, refl, ap, ◌∙◌}
-use lib.ListN.{length}
+use Rattle.nodesets.specs.Turns.{slot_in, step_inner, step_left, step_right, downs_none, downs_next, downs_end}
+use Rattle.laws.specs.FlatLaws.{left_of, right_of}
+use Rattle.nodesets.specs.Passes.{nodes, downs}
+use Rattle.nodesets.proofs.Back.{turned_back}
 use Rattle.nodesets.proofs.want_down.Goals as goal
 
-pub loop-k-init : goal.loop-k-init
-loop-k-init c = (omega arith, refl, downs_none _ _ _ _ _ _)
+pub loop-node-init : goal.loop-node-init
+loop-node-init c = (refl, downs_none _ _ _ _ _ _)
 
 pub left-l-requires : goal.left-l-requires
-left-l-requires c = step_inner c.requires.0 _ _ (omega arith) c.index16-v.ensures.0
+left-l-requires c =
+    let o = c.args.order.now in
+    let t = turned_back o _ _ (YieldsList-turn (YieldsList-from_rev_slice o cc) c.loop-node.yielded _ c.loop-node.yielded_by _ _ c.in-Some.field-0 c.in-Some.is c.next.ensures.steps) in
+    step_inner c.requires.0 (length o - (length c.loop-node.yielded + 1)) c.from-v.result (omega arith) (c.from-v.ensures ∙ t.1)
 
 pub right-r-requires : goal.right-r-requires
-right-r-requires c = step_inner c.requires.0 _ _ (omega arith) c.index16-v.ensures.0
+right-r-requires c =
+    let o = c.args.order.now in
+    let t = turned_back o _ _ (YieldsList-turn (YieldsList-from_rev_slice o cc) c.loop-node.yielded _ c.loop-node.yielded_by _ _ c.in-Some.field-0 c.in-Some.is c.next.ensures.steps) in
+    step_inner c.requires.0 (length o - (length c.loop-node.yielded + 1)) c.from-v.result (omega arith) (c.from-v.ensures ∙ t.1)
 
 pub widen-requires : goal.widen-requires
-widen-requires c = let w = c.index16-v in let room : nodes c.args.n c.args.kids.now * c.args.w ≤ length c.loop-k.outside = omega arith in (slot_in _ _ _ _ (step_inner c.requires.0 _ w.result (omega arith) w.ensures.0).1 room, slot_in _ _ _ _ (step_left c.requires.0 _ w.result (omega arith) w.ensures.0 _ c.left-l.ensures.0) room, slot_in _ _ _ _ (step_right c.requires.0 _ w.result (omega arith) w.ensures.0 _ c.right-r.ensures.0) c.requires.2)
+widen-requires c =
+    let o = c.args.order.now in
+    let t = turned_back o _ _ (YieldsList-turn (YieldsList-from_rev_slice o cc) c.loop-node.yielded _ c.loop-node.yielded_by _ _ c.in-Some.field-0 c.in-Some.is c.next.ensures.steps) in
+    let k : ℕ = length o - (length c.loop-node.yielded + 1) in
+    let h : k < length o = omega arith in
+    let e = c.from-v.ensures ∙ t.1 in
+    let v = c.from-v.result in
+    let room : nodes c.args.n c.args.kids.now * c.args.w ≤ length c.loop-node.outside = omega arith in
+    (slot_in _ _ _ _ (step_inner c.requires.0 k v h e).1 room, slot_in _ _ _ _ (step_left c.requires.0 k v h e _ c.left-l.ensures.0) room, slot_in _ _ _ _ (step_right c.requires.0 k v h e _ c.right-r.ensures.0) c.requires.2)
 
-pub widen-requires-in-loop-k : goal.widen-requires-in-loop-k
-widen-requires-in-loop-k c = let w = c.index16-v in let e : length c.widen.new.outside ≡ length c.loop-k.outside = ap length c.widen.ensures ∙ with_set_length _ _ _ _ in let room : nodes c.args.n c.args.kids.now * c.args.w ≤ length c.widen.new.outside = omega arith in (slot_in _ _ _ _ (step_inner c.requires.0 _ w.result (omega arith) w.ensures.0).1 room, slot_in _ _ _ _ (step_right c.requires.0 _ w.result (omega arith) w.ensures.0 _ c.right-r.ensures.0) room, slot_in _ _ _ _ (step_left c.requires.0 _ w.result (omega arith) w.ensures.0 _ c.left-l.ensures.0) c.requires.2)
+pub widen-requires-in-loop-node : goal.widen-requires-in-loop-node
+widen-requires-in-loop-node c =
+    let o = c.args.order.now in
+    let t = turned_back o _ _ (YieldsList-turn (YieldsList-from_rev_slice o cc) c.loop-node.yielded _ c.loop-node.yielded_by _ _ c.in-Some.field-0 c.in-Some.is c.next.ensures.steps) in
+    let k : ℕ = length o - (length c.loop-node.yielded + 1) in
+    let h : k < length o = omega arith in
+    let e = c.from-v.ensures ∙ t.1 in
+    let v = c.from-v.result in
+    let f : length c.widen.new.outside ≡ length c.loop-node.outside = ap length c.widen.ensures ∙ with_set_length _ _ _ _ in
+    let room : nodes c.args.n c.args.kids.now * c.args.w ≤ length c.widen.new.outside = omega arith in
+    (slot_in _ _ _ _ (step_inner c.requires.0 k v h e).1 room, slot_in _ _ _ _ (step_right c.requires.0 k v h e _ c.right-r.ensures.0) room, slot_in _ _ _ _ (step_left c.requires.0 k v h e _ c.left-l.ensures.0) c.requires.2)
 
-pub loop-k-preserved : goal.loop-k-preserved
-loop-k-preserved c = (omega arith, ap length c.widen-in-loop-k.ensures ∙ with_set_length _ _ _ _ ∙ ap length c.widen.ensures ∙ with_set_length _ _ _ _ ∙ c.loop-k.invariant.1, downs_next _ _ _ _ _ _ _ _ _ _ _ _ _ c.loop-k.invariant.2 c.index16-v.ensures.0 c.left-l.ensures.0 c.right-r.ensures.0 c.widen.ensures c.widen-in-loop-k.ensures)
+pub loop-node-preserved : goal.loop-node-preserved
+loop-node-preserved c =
+    let o = c.args.order.now in
+    let t = turned_back o _ _ (YieldsList-turn (YieldsList-from_rev_slice o cc) c.loop-node.yielded _ c.loop-node.yielded_by _ _ c.in-Some.field-0 c.in-Some.is c.next.ensures.steps) in (
+      ap length c.widen-in-loop-node.ensures ∙ with_set_length _ _ _ _ ∙ ap length c.widen.ensures ∙ with_set_length _ _ _ _ ∙ c.loop-node.invariant.0,
+      downs_next _ _ _ _ _ _ _ _ _ _ _ _ _ c.loop-node.invariant.1 (c.from-v.ensures ∙ t.1) c.left-l.ensures.0 c.right-r.ensures.0 c.widen.ensures c.widen-in-loop-node.ensures
+          ∙ ap (λ (j : ℕ). downs c.args.w (left_of c.args.kids.now c.args.n) (right_of c.args.kids.now c.args.n) o c.args.sets.now c.args.outside.now j) (sym (length_push c.loop-node.yielded c.in-Some.field-0)),
+    )
+
+pub returns : goal.returns
+returns c =
+    let o = c.args.order.now in
+    let t = YieldsList-end (YieldsList-from_rev_slice o cc) c.loop-node.yielded _ c.loop-node.yielded_by _ _ c.in-None.is c.next.ensures.steps in
+    downs_end _ _ _ _ _ _ _ _ (t.1 ∙ length-reverse o) c.loop-node.invariant.1

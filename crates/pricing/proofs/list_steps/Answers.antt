@@ -13,22 +13,22 @@ pub loop-k-init : goal.loop-k-init
 loop-k-init c = (omega arith, refl, copied_none _ _)
 
 pub overflow_sub-at : goal.overflow_sub-at
-overflow_sub-at c = let i = step_inner c.requires.0 c.loop-k.k c.index16-v.result (omega arith) c.index16-v.ensures.0 in i.0
+overflow_sub-at c = let i = step_inner c.requires.0 c.loop-k.k c.from-v.result (omega arith) c.from-v.ensures in i.0
 
 pub bounds-kids-at : goal.bounds-kids-at
-bounds-kids-at c = let i = step_inner c.requires.0 c.loop-k.k c.index16-v.result (omega arith) c.index16-v.ensures.0 in omega (arith, i.0, i.1)
+bounds-kids-at c = let i = step_inner c.requires.0 c.loop-k.k c.from-v.result (omega arith) c.from-v.ensures in omega (arith, i.0, i.1)
 
 pub bounds-kids-at-in-loop-k : goal.bounds-kids-at-in-loop-k
-bounds-kids-at-in-loop-k c = let i = step_inner c.requires.0 c.loop-k.k c.index16-v.result (omega arith) c.index16-v.ensures.0 in omega (arith, i.0, i.1)
+bounds-kids-at-in-loop-k c = let i = step_inner c.requires.0 c.loop-k.k c.from-v.result (omega arith) c.from-v.ensures in omega (arith, i.0, i.1)
 
-pub bounds-works-v : goal.bounds-works-v
-bounds-works-v c = let i = step_inner c.requires.0 c.loop-k.k c.index16-v.result (omega arith) c.index16-v.ensures.0 in omega (arith, i.1)
+pub bounds-list-v : goal.bounds-list-v
+bounds-list-v c = let i = step_inner c.requires.0 c.loop-k.k c.from-v.result (omega arith) c.from-v.ensures in omega (arith, i.1)
 
-pub bounds-sizes-v : goal.bounds-sizes-v
-bounds-sizes-v c = let i = step_inner c.requires.0 c.loop-k.k c.index16-v.result (omega arith) c.index16-v.ensures.0 in omega (arith, i.1)
+pub bounds-list-v-in-loop-k : goal.bounds-list-v-in-loop-k
+bounds-list-v-in-loop-k c = let i = step_inner c.requires.0 c.loop-k.k c.from-v.result (omega arith) c.from-v.ensures in omega (arith, i.1)
 
 pub loop-k-preserved : goal.loop-k-preserved
-loop-k-preserved c = let d = c.args in let l = c.loop-k in let w = c.index16-v in (omega arith, search rules, line_next (left_of d.kids.now d.n) (right_of d.kids.now d.n) d.works.now d.sizes.now d.order.now d.steps.now l.steps _ l.k _ _ _ _ _ (omega arith) l.invariant.2 refl (ap (left_of d.kids.now d.n) w.ensures.0) (ap (right_of d.kids.now d.n) w.ensures.0) (ap (λ (x : ℕ). get_or d.works.now x 0) w.ensures.0) (ap (λ (x : ℕ). get_or d.sizes.now x 0) w.ensures.0) c.put_step.ensures)
+loop-k-preserved c = let d = c.args in let l = c.loop-k in let w = c.from-v in (omega arith, search rules, line_next (left_of d.kids.now d.n) (right_of d.kids.now d.n) d.list.now.works.now d.list.now.sizes.now d.order.now d.steps.now l.steps _ l.k _ _ _ _ _ (omega arith) l.invariant.2 refl (ap (left_of d.kids.now d.n) w.ensures) (ap (right_of d.kids.now d.n) w.ensures) (ap (λ (x : ℕ). get_or d.list.now.works.now x 0) w.ensures) (ap (λ (x : ℕ). get_or d.list.now.sizes.now x 0) w.ensures) c.put_step.ensures)
 
 pub returns : goal.returns
-returns c = let d = c.args in let l = c.loop-k in lines_end (left_of d.kids.now d.n) (right_of d.kids.now d.n) d.works.now d.sizes.now d.order.now d.steps.now l.steps l.k (omega arith) l.invariant.2
+returns c = let d = c.args in let l = c.loop-k in lines_end (left_of d.kids.now d.n) (right_of d.kids.now d.n) d.list.now.works.now d.list.now.sizes.now d.order.now d.steps.now l.steps l.k (omega arith) l.invariant.2

@@ -6,4 +6,4 @@ pub returns : goal.returns
 returns c =
     let a = c.args in
     let l = c.loop-i in
-    let v = l.invariant in put_by_index a.steps.now l.steps a.numbers.now a.count l.i (omega (arith, v.0, v.1, c.loop-i-test.false)) v.2 v.3 v.4
+    let v = l.invariant in put_by_index a.steps.now l.steps a.numbers.now a.count l.i (omega (arith, c.min-i-end.ensures)) v.0 v.1 v.2

@@ -5,4 +5,4 @@ use Rattle.listing.proofs.bytes.put_marked_two.Goals as goal
 pub returns : goal.returns
 returns c =
     let a = c.args in
-    mark_next a.out.now (bytes_of 2 a.x) a.at a.mark c.place8.ensures c.put_two.ensures
+    mark_next a.out.now (bytes_of 2 a.x) a.at a.mark c.place.ensures c.put_two.ensures

@@ -1,9 +1,0 @@
-use Rattle.std.proofs.Common.{arith}
-use Rattle.steps.specs.Records.{put_by_index}
-use Rattle.steps.proofs.put_listed.Goals as goal
-
-pub returns : goal.returns
-returns c =
-    let a = c.args in
-    let l = c.loop-i in
-    let v = l.invariant in put_by_index a.steps.now l.steps a.listed.numbers a.listed.count l.i (omega (arith, v.0, v.1, c.loop-i-test.false)) v.2 v.3 v.4
