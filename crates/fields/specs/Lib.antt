@@ -1,6 +1,6 @@
--- The fields of a network file, one after another: what has been read, as numbers and lists, and what is read from there on. Assumes nothing.
-pub mod Coded
-pub mod Steps
+-- Fields split off, and read into a record; what a scan stands for. Assumes nothing.
+pub mod Dues
 pub mod Scans
+pub mod Steps
 pub mod Fields
 pub mod Whole

@@ -1,120 +1,89 @@
 // Records made by additions and put together place by place: what each addition answers, and the check of what comes out.
+ghost use Rattle.std.specs.Prelude.{◌≤◌, length, IfOk};
+
 use crate::sums;
-use cells::{min, put8, put16};
-use network::{Added, Network, Verdict};
+use network::Network;
+use spec::Refusal;
+use std::io::{self, Read, Write};
 
-fn number(verdict: Verdict) -> u64 {
-    match verdict {
-        Verdict::Refused(refusal) => refusal as u64,
-        Verdict::Accepted => 0,
+// The number of what a check or an addition answers: 0 where nothing is refused.
+fn number(answer: Result<(), Refusal>) -> u8 {
+    match answer {
+        Ok(()) => 0,
+        Err(refusal) => refusal.number(),
     }
-}
-
-// Tells what an addition answers.
-fn told(added: Added) -> Network {
-    let verdict = added.verdict;
-    stored::spaced(number(verdict));
-    added.network
 }
 
 // So many indices, to the front of a list.
-fn read_leaf(leaf: &mut [u16], count: usize) {
-    for i in 0..count {
-        put16(leaf, i, (stored::next_number() % 65536) as u16);
+fn read_leaf<R: Read>(input: &mut R, leaf: &mut [u16]) -> io::Result<()> {
+    for index in leaf {
+        *index = (stored::next_number(input)? % 65536) as u16;
     }
+    Ok(())
 }
 
 // One leaf more, of so many indices that follow, at most 40.
-fn with_leaf(network: Network, count: usize) -> Network {
+fn add_leaf<R: Read>(
+    input: &mut R,
+    network: &mut Network,
+    count: usize,
+) -> io::Result<Result<(), Refusal>> {
     let mut leaf = [0u16; 40];
-    let n = min(count, 40);
-    read_leaf(&mut leaf, n);
-    told(network.add_leaf(&leaf[..n]))
+    let n = count.min(40);
+    read_leaf(input, &mut leaf[..n])?;
+    Ok(network.add_leaf(&leaf[..n]))
 }
 
-// One of the three counts put.
-fn with_count(network: Network, kind: usize, value: usize) -> Network {
-    let mut next = network;
-    if kind == 3 {
-        next.index_count = value;
-    } else if kind == 4 {
-        next.leaf_count = value;
-    } else {
-        next.output_count = value;
+// What a turn does to the record that no check is asked for: one of the three counts is put, or a place of one of the four lists.
+fn put(network: &mut Network, kind: usize, value: usize) {
+    let place = value / 65536;
+    match kind {
+        3 => network.index_count = value,
+        4 => network.leaf_count = value,
+        5 => network.output_count = value,
+        6 => cells::put(&mut network.weights, place, (value % 256) as u8),
+        7 => cells::put(&mut network.leg_counts, place, (value % 256) as u8),
+        8 => cells::put(&mut network.legs, place, (value % 65536) as u16),
+        _ => cells::put(&mut network.outputs, place, (value % 65536) as u16),
     }
-    next
 }
 
-// A place of the two lists of bytes put.
-fn with_byte(network: Network, kind: usize, place: usize, value: u8) -> Network {
-    let mut next = network;
-    if kind == 6 {
-        let mut weights = network.weights;
-        put8(&mut weights, place, value);
-        next.weights = weights;
-    } else {
-        let mut leg_counts = network.leg_counts;
-        put8(&mut leg_counts, place, value);
-        next.leg_counts = leg_counts;
-    }
-    next
-}
-
-// A place of the two lists of indices put.
-fn with_index(network: Network, kind: usize, place: usize, value: u16) -> Network {
-    let mut next = network;
-    if kind == 8 {
-        let mut legs = network.legs;
-        put16(&mut legs, place, value);
-        next.legs = legs;
-    } else {
-        let mut outputs = network.outputs;
-        put16(&mut outputs, place, value);
-        next.outputs = outputs;
-    }
-    next
-}
-
-fn next_turn(network: Network) -> Network {
-    let kind = stored::next_number();
-    let value = stored::next_number();
-    if kind == 0 {
-        return told(network.add_weight((value % 256) as u8));
-    }
-    if kind == 1 {
-        return with_leaf(network, value);
-    }
-    if kind == 2 {
-        return told(network.add_output((value % 65536) as u16));
-    }
-    if kind < 6 {
-        return with_count(network, kind, value);
-    }
-    if kind < 8 {
-        return with_byte(network, kind, value / 65536, (value % 256) as u8);
-    }
-    with_index(network, kind, value / 65536, (value % 65536) as u16)
-}
-
-fn after(turns: usize) -> Network {
-    let mut network = Network::empty();
-    for _ in 0..turns {
-        network = next_turn(network);
-    }
-    network
+// One turn: an addition, whose answer is told, or something that is put.
+fn take_turn<R: Read, W: Write>(
+    input: &mut R,
+    out: &mut W,
+    network: &mut Network,
+) -> io::Result<()> {
+    let kind = stored::next_number(input)?;
+    let value = stored::next_number(input)?;
+    let answer = match kind {
+        0 => network.add_weight((value % 256) as u8),
+        1 => add_leaf(input, network, value)?,
+        2 => network.add_output((value % 65536) as u16),
+        _ => {
+            put(network, kind, value);
+            return Ok(());
+        }
+    };
+    write!(out, " {}", number(answer))
 }
 
 // The turns of a case, the check, and a sum over the record.
-fn next_case() {
-    io::write_all(1, b"added");
-    let network = after(stored::next_number());
-    stored::number(b" check ", number(network::check(network)));
-    stored::number(b" sum ", sums::record(0, network));
-    stored::end_line();
+fn next_case<R: Read, W: Write>(input: &mut R, out: &mut W) -> io::Result<()> {
+    write!(out, "added")?;
+    let mut network = Network::empty();
+    for _ in 0..stored::next_number(input)? {
+        take_turn(input, out, &mut network)?;
+    }
+    let check = number(network.check());
+    let sum = sums::record(0, &network);
+    writeln!(out, " check {check} sum {sum}")
 }
 
-pub fn run() {
-    for _ in 0..stored::next_number() {
-        next_case();
+/// All cases.
+pub fn run<R: Read, W: Write>(input: &mut R, out: &mut W) -> io::Result<()> {
+    for _ in 0..stored::next_number(input)? {
+        next_case(input, out)?;
     }
+    Ok(())
 }

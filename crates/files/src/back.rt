@@ -1,17 +1,20 @@
 // Writes what was read, into a buffer that is one byte short and into one with room to spare.
 use crate::sums;
-use cells::{get8, less};
-use netfile::{Found, Written};
+use fields::Asked;
+use netfile::{Ask, Given};
 use network::Network;
+use spec::Refusal;
+use std::io::{self, Write};
 
 // Whether the bytes from the cursor to `end` are the file's, and all others the marks of their places.
 fn holds(buffer: &[u8], cursor: usize, end: usize, file: &[u8]) -> bool {
-    for i in 0..buffer.len() {
-        if cursor <= i && i < end {
-            if get8(buffer, i) != get8(file, i - cursor) {
-                return false;
-            }
-        } else if get8(buffer, i) != sums::mark(i) {
+    for (i, byte) in buffer.iter().enumerate() {
+        let expected = if cursor <= i && i < end {
+            cells::get_or(file, i - cursor, 0)
+        } else {
+            sums::mark(i)
+        };
+        if *byte != expected {
             return false;
         }
     }
@@ -19,35 +22,78 @@ fn holds(buffer: &[u8], cursor: usize, end: usize, file: &[u8]) -> bool {
 }
 
 // The number of a refusal, which must leave the buffer as it is, or whether the file, and nothing else, is new in it.
-fn tell(answer: Written, buffer: &[u8], cursor: usize, file: &[u8]) {
+fn tell<W: Write>(
+    out: &mut W,
+    answer: Result<usize, Refusal>,
+    buffer: &[u8],
+    cursor: usize,
+    file: &[u8],
+) -> io::Result<()> {
     match answer {
-        Written::Refused(number) => {
-            stored::number(b" room ", number as u64);
-            if !holds(buffer, 0, 0, file) {
-                io::write_all(1, b" touched");
+        Ok(end) => {
+            if end.saturating_sub(cursor) == file.len() && holds(buffer, cursor, end, file) {
+                write!(out, " written same")?;
             }
         }
-        Written::Done(end) => {
-            if less(end, cursor) == file.len() && holds(buffer, cursor, end, file) {
-                io::write_all(1, b" written same");
+        Err(refusal) => {
+            write!(out, " room {}", refusal.number())?;
+            if !holds(buffer, 0, 0, file) {
+                write!(out, " touched")?;
             }
+        }
+    }
+    Ok(())
+}
+
+// What was read of the given lists, as the writer takes it.
+fn asked<'a>(ask: Ask, flags: &'a [u8]) -> Asked<'a> {
+    match ask {
+        Ask::Plain => Asked::Plain,
+        Ask::Flagged(count) => {
+            let n = count.min(flags.len());
+            Asked::Flagged(&flags[..n])
+        }
+        Ask::Target(bits) => Asked::Target(bits),
+    }
+}
+
+fn tree_given<'a>(tree: Option<usize>, kids: &'a [u16]) -> Option<&'a [u16]> {
+    match tree {
+        None => None,
+        Some(places) => {
+            let n = places.min(kids.len());
+            Some(&kids[..n])
         }
     }
 }
 
 // Writes the network into a marked buffer, from the cursor on.
-fn attempt(file: &[u8], network: Network, found: Found, kids: &[u16], flags: &[u8], cursor: usize) {
+fn attempt<W: Write>(
+    out: &mut W,
+    file: &[u8],
+    network: &Network,
+    tree: Option<&[u16]>,
+    ask: Asked,
+    cursor: usize,
+) -> io::Result<()> {
     let mut buffer = [0u8; 8192];
-    sums::mark8(&mut buffer);
-    let tree = found.tree;
-    let ask = found.ask;
-    let answer = netfile::write(network, tree, kids, ask, flags, &mut buffer, cursor);
-    tell(answer, &buffer, cursor, file);
+    sums::fill(&mut buffer, sums::mark);
+    let answer = netfile::write_network(network, tree, ask, &mut buffer, cursor);
+    tell(out, answer, &buffer, cursor, file)
 }
 
-// Behind the cursor the buffer has a byte less than the file, then three more.
-pub fn write(file: &[u8], network: Network, found: Found, kids: &[u16], flags: &[u8]) {
-    let end = less(8192, file.len());
-    attempt(file, network, found, kids, flags, end + 1);
-    attempt(file, network, found, kids, flags, less(end, 3));
+/// Behind the cursor the buffer has a byte less than the file, then three more.
+pub fn write<W: Write>(
+    out: &mut W,
+    file: &[u8],
+    network: &Network,
+    given: Given,
+    kids: &[u16],
+    flags: &[u8],
+) -> io::Result<()> {
+    let end = 8192usize.saturating_sub(file.len());
+    let tree = tree_given(given.tree, kids);
+    let ask = asked(given.ask, flags);
+    attempt(out, file, network, tree, ask, end + 1)?;
+    attempt(out, file, network, tree, ask, end.saturating_sub(3))
 }

@@ -1,61 +1,58 @@
 #![tactic(auto)]
 // Reads cases of network files from standard input and writes a line for each: what the reader and the writer answer. Cases of additions follow.
 // The form of input and output, and the sum of a case, are stated in harness/files.py, which makes both.
+ghost use Rattle.std.specs.Prelude.{◌≤◌};
+
 mod additions;
 mod back;
 mod say;
 mod sums;
 
-use cells::min;
-use netfile::{Answer, Reading};
+use network::Network;
+use std::io::{self, Read, Write};
 
-// What was read, and what the writer makes of it.
-fn tell(file: &[u8], reading: Reading, tree: &[u16], flags: &[u8]) {
-    let network = reading.network;
-    let sum = sums::of(network, tree, flags);
-    let answer = reading.answer;
-    match answer {
-        Answer::Refused(number) => {
-            stored::refused(number);
-            stored::number(b" sum ", sum);
+// Reads the file into lists that hold marks, and tells what was read and what the writer makes of it.
+fn run<W: Write>(out: &mut W, file: &[u8], tree: &mut [u16], flags: &mut [u8]) -> io::Result<()> {
+    let mut network = Network::empty();
+    match netfile::read_network(file, &mut network, tree, flags) {
+        Ok(given) => {
+            let sum = sums::of(&network, tree, flags);
+            say::read(out, &network, given)?;
+            write!(out, " sum {sum}")?;
+            back::write(out, file, &network, given, tree, flags)
         }
-        Answer::Done(found) => {
-            say::read(network, found);
-            stored::number(b" sum ", sum);
-            back::write(file, network, found, tree, flags);
+        Err(refusal) => {
+            let sum = sums::of(&Network::empty(), tree, flags);
+            write!(out, "refused {} sum {sum}", refusal.number())
         }
     }
-}
-
-// Reads the file into lists that hold marks, and tells what was read.
-fn run(file: &[u8], tree: &mut [u16], flags: &mut [u8]) {
-    let reading = netfile::read(file, tree, flags);
-    tell(file, reading, tree, flags);
 }
 
 // Lends as many places of the lists as the case says.
-fn lend(file: &[u8], tree_places: usize, flag_places: usize) {
+fn lend<W: Write>(out: &mut W, file: &[u8], tree_places: usize, flag_places: usize) -> io::Result<()> {
     let mut tree = [0u16; 300];
     let mut flags = [0u8; 300];
-    sums::mark16(&mut tree);
-    sums::mark8(&mut flags);
-    let t = min(tree_places, 300);
-    let f = min(flag_places, 300);
-    run(file, &mut tree[..t], &mut flags[..f]);
+    sums::fill(&mut tree, sums::wide_mark);
+    sums::fill(&mut flags, sums::mark);
+    let t = tree_places.min(300);
+    let f = flag_places.min(300);
+    run(out, file, &mut tree[..t], &mut flags[..f])
 }
 
-fn next_case() {
-    let places = stored::next_number();
-    let length = stored::next_number();
+fn next_case<R: Read, W: Write>(input: &mut R, out: &mut W) -> io::Result<()> {
+    let places = stored::next_number(input)?;
+    let length = stored::next_number(input)?;
     let mut bytes = [0u8; 131072];
-    let n = stored::take(&mut bytes, length);
-    lend(&bytes[..n], places / 65536, places % 65536);
-    stored::end_line();
+    let n = stored::take(input, &mut bytes, length)?;
+    lend(out, &bytes[..n], places / 65536, places % 65536)?;
+    writeln!(out)
 }
 
-fn main() {
-    for _ in 0..stored::next_number() {
-        next_case();
+fn main(rt: HostRuntime) -> io::Result<()> {
+    let mut input = rt.reader();
+    let mut out = io::writer(&rt);
+    for _ in 0..stored::next_number(&mut input)? {
+        next_case(&mut input, &mut out)?;
     }
-    additions::run();
+    additions::run(&mut input, &mut out)
 }

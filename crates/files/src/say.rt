@@ -1,40 +1,31 @@
 // The words of a line.
-use netfile::{Ask, Found, Tree};
+use netfile::{Ask, Given};
 use network::Network;
-use stored::{number, spaced};
+use std::io::{self, Write};
 
-fn tree_places(tree: Tree) {
+fn tree_places<W: Write>(out: &mut W, tree: Option<usize>) -> io::Result<()> {
     match tree {
-        Tree::Absent => {
-            io::write_all(1, b" tree -");
-        }
-        Tree::Present(n) => {
-            number(b" tree ", n as u64);
-        }
+        None => write!(out, " tree -"),
+        Some(n) => write!(out, " tree {n}"),
     }
 }
 
-fn asked(ask: Ask) {
+fn asked<W: Write>(out: &mut W, ask: Ask) -> io::Result<()> {
     match ask {
-        Ask::Plain => {
-            io::write_all(1, b" flags - target -");
-        }
-        Ask::Flagged(n) => {
-            number(b" flags ", n as u64);
-            io::write_all(1, b" target -");
-        }
-        Ask::Target(bits) => {
-            number(b" flags - target ", bits as u64);
-        }
+        Ask::Plain => write!(out, " flags - target -"),
+        Ask::Flagged(n) => write!(out, " flags {n} target -"),
+        Ask::Target(bits) => write!(out, " flags - target {bits}"),
     }
 }
 
-pub fn read(network: Network, found: Found) {
-    number(b"read ", network.leaf_count as u64);
-    spaced(network.index_count as u64);
-    spaced(network.output_count as u64);
-    let tree = found.tree;
-    let ask = found.ask;
-    tree_places(tree);
-    asked(ask);
+/// What was read.
+pub fn read<W: Write>(out: &mut W, network: &Network, given: Given) -> io::Result<()> {
+    let (leaves, indices, outputs) = (
+        network.leaf_count,
+        network.index_count,
+        network.output_count,
+    );
+    write!(out, "read {leaves} {indices} {outputs}")?;
+    tree_places(out, given.tree)?;
+    asked(out, given.ask)
 }

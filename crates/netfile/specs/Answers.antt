@@ -8,12 +8,19 @@ use Rattle.netfile.specs.declared.Tree.{Tree}
 use Rattle.netfile.specs.declared.Tree.TheVariants.{Absent, Present}
 use Rattle.netfile.specs.declared.Ask.{Ask as Asked}
 use Rattle.netfile.specs.declared.Ask.TheVariants.{Plain, Flagged, Target}
+use Rattle.netfile.specs.declared.Given.{Given}
+use Rattle.netfile.specs.declared.Found.{Found}
 use Rattle.netfile.specs.declared.Answer.{Answer}
 use Rattle.netfile.specs.declared.Answer.TheVariants.{Refused, Done}
 
 abbrev pub tree_answer : Option (List ℕ) → Tree
 tree_answer None = Absent
 tree_answer (Some kids) = Present (length kids)
+
+-- how many places the tree's children fill
+abbrev pub places_in : Option (List ℕ) → Option ℕ
+places_in None = None
+places_in (Some kids) = Some (length kids)
 
 abbrev pub ask_answer : Ask → Asked
 ask_answer plain = Plain
@@ -34,6 +41,22 @@ flag_count (Target w) = 0
 abbrev pub answer_of : Result Contents Refusal → Answer
 answer_of (Err r) = Refused (number_of r)
 answer_of (Ok c) = Done (record { tree = tree_answer c.tree; ask = ask_answer c.ask })
+
+abbrev pub given_in : Option (List ℕ) → Ask → Given
+given_in tree ask = record { tree = places_in tree; ask = ask_answer ask }
+
+-- the reader's answer: what the contents have beside their network, or the refusal
+abbrev pub given_of : Result Contents Refusal → Result Given Refusal
+given_of (Err r) = Err r
+given_of (Ok c) = Ok (given_in c.tree c.ask)
+
+-- the same as it is answered to the crates above
+abbrev pub tree_found : Option ℕ → Tree
+tree_found None = Absent
+tree_found (Some n) = Present n
+
+abbrev pub found_in : Given → Found
+found_in g = record { tree = tree_found g.tree; ask = g.ask }
 
 abbrev pub empty_network : Network
 empty_network = record { leaves = []; outputs = []; weights = [] }

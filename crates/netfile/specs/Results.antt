@@ -1,89 +1,111 @@
 -- What the reader answers, from what has been read. Assumes nothing.
-use Rattle.std.specs.Prelude.{Bool, true, false, ◌||◌, cond, List, [], ◌∷◌, ◌++◌, ◌≡◌, ℕ, zero, suc, ltb, None, Some, Result, Err, Ok}
+use Rattle.std.specs.Prelude.{Bool, true, false, ◌||◌, cond, List, [], ◌∷◌, ◌++◌, ◌≡◌, ℕ, ltb, Option, None, Some, Result, Err, Ok}
 use Rattle.std.proofs.Math.Bool.{or_assoc}
+use Rattle.std.proofs.Math.Path.{refl}
+use Rattle.std.proofs.Common.{sym, ap, ap₂, ◌∙◌, arith}
 use Rattle.spec.specs.declared.Refusal.{Refusal}
 use Rattle.spec.specs.declared.Refusal.TheVariants.{ShortBuffer}
-use Rattle.std.proofs.Math.Path.{refl}
-use Rattle.std.proofs.Common.{sym, ap, ap₂, ◌∙◌}
 use Rattle.spec.specs.Lists.{anyb}
-use Rattle.spec.specs.Refusal.{number_of, and_then, decide, checked}
-use Rattle.spec.specs.Network.{Network}
+use Rattle.spec.specs.Refusal.{number_of, first, and_then, checked}
+use Rattle.spec.specs.Network.{index_count}
 use Rattle.spec.specs.Calls.{Lent, length_check}
 use Rattle.spec.specs.File.{Contents, tree_lent, flags_lent, nothing_read, read_of}
-use Rattle.fields.specs.Coded.{value, coded, unless, of_number, of_value}
+use Rattle.laws.specs.Booleans.{by_cases, or_introl, or_intror}
+use Rattle.payloads.specs.Payload.{verdict}
 use Rattle.fields.specs.Steps.{read_all}
-use Rattle.fields.specs.Scans.{Lists, net_in, read_in}
-use Rattle.fields.specs.Fields.{index_count_lem}
-use Rattle.fields.specs.Whole.{Finished}
-use Rattle.fields.specs.declared.Scan.{Scan}
-use Rattle.netfile.specs.Answers.{tree_answer, ask_answer, answer_of, network_in, tree_after, flags_after, empty_network}
-use Rattle.netfile.specs.Writes.{lacking, kids_over, flags_over, tree_of, ask_of, tree_written_lem, flags_written_lem}
-use Rattle.netfile.specs.declared.Tree.{Tree}
-use Rattle.netfile.specs.declared.Ask.{Ask as Asked}
-use Rattle.netfile.specs.declared.Answer.{Answer}
+use Rattle.fields.specs.Fields.{decided, refused}
+use Rattle.netfile.specs.Answers.{answer_of, given_of, given_in, places_in, tree_answer, ask_answer, tree_found, found_in, network_in, tree_after, flags_after, empty_network}
+use Rattle.netfile.specs.Writes.{lacking, kids_over, flags_over, tree_written_lem, flags_written_lem}
+use Rattle.netfile.specs.declared.Given.{Given}
 use Rattle.netfile.specs.declared.Answer.TheVariants.{Refused, Done}
+
+clash {ℓ} : {A : Type 0} {P : Type ℓ} (k : Refusal) (x : A) → ◌≡◌ {A = Result A Refusal} (Err k) (Ok x) → P
+clash k x e = absurd (let w : ◌≡◌ {A = ℕ} 0 1 = cc in omega arith)
 
 any_append : {A : Type 0} (p : A → Bool) (a b : List A) → anyb p (a ++ b) ≡ (anyb p a || anyb p b)
 any_append p [] b = refl
 any_append p (x ∷ a) b = ap (λ c. p x || c) (any_append p a b) ∙ sym (or_assoc (p x) (anyb p a) (anyb p b))
 
--- what is read, and then 7
-module _ (places flag_places : ℕ) where
-  abbrev room_for : Contents → List Lent
-  room_for c = tree_lent c.network places c.tree ++ flags_lent c.network flag_places c.ask
+-- what the lists that are filled have to have, and what they have
+abbrev pub room_for : ℕ → ℕ → Contents → List Lent
+room_for places flag_places c = tree_lent c.network places c.tree ++ flags_lent c.network flag_places c.ask
 
+-- is one of the lists too short
+module _ (places flag_places : ℕ) (c : Contents) where
+  room : {b : Bool} → (lacking (tree_lent c.network places c.tree) || lacking (flags_lent c.network flag_places c.ask)) ≡ b
+      → first (length_check (room_for places flag_places c) ∷ []) ≡ cond b (Some ShortBuffer) None
+  room e = ap (λ (b : Bool). cond b (Some ShortBuffer) None) (any_append (λ x. ltb x.has x.needs) (tree_lent c.network places c.tree) (flags_lent c.network flag_places c.ask) ∙ e)
+
+  pub tree_short : lacking (tree_lent c.network places c.tree) ≡ true → Err ShortBuffer ≡ verdict (first (length_check (room_for places flag_places c) ∷ []))
+  tree_short e = ap verdict (sym (room (or_introl _ _ e)))
+
+  pub flags_short : lacking (flags_lent c.network flag_places c.ask) ≡ true → Err ShortBuffer ≡ verdict (first (length_check (room_for places flag_places c) ∷ []))
+  flags_short e = ap verdict (sym (room (or_intror _ _ e)))
+
+  -- no flag lacks a place where nothing is refused
+  pub flags_have : Ok tt ≡ verdict (first (length_check (room_for places flag_places c) ∷ [])) → lacking (flags_lent c.network flag_places c.ask) ≡ false
+  flags_have e = by_cases (lacking (flags_lent c.network flag_places c.ask)) (λ h. clash _ _ (flags_short h ∙ sym e)) (λ h. h)
+
+  pub room_enough : lacking (tree_lent c.network places c.tree) ≡ false → lacking (flags_lent c.network flag_places c.ask) ≡ false
+      → Ok tt ≡ verdict (first (length_check (room_for places flag_places c) ∷ []))
+  room_enough e f = ap verdict (sym (room (ap₂ (λ x y. x || y) e f)))
+
+-- what is read, and then the lists' room
+module _ (places flag_places : ℕ) (file : List ℕ) where
   abbrev then_room : Result Contents Refusal → Result Contents Refusal
-  then_room r = and_then r λ c. checked (length_check (room_for c) ∷ []) (Ok c)
+  then_room r = and_then r λ c. checked (length_check (room_for places flag_places c) ∷ []) (Ok c)
 
-  read_is : (file : List ℕ) → read_of places flag_places file ≡ then_room (read_all nothing_read file)
+  read_is : read_of places flag_places file ≡ then_room (read_all nothing_read file)
   unfolding read_of read_all
-  read_is file = refl
+  read_is = refl
 
-  module _ (file : List ℕ) (s : Scan) (l : Lists) (f : Finished file s l) where
-    pub read_refused : (s.refusal ≡ 0 → ⊥) → (q : Refusal) × (read_of places flag_places file ≡ Err q) × (s.refusal ≡ number_of q)
-    read_refused n = by s.refusal n f.says
-      where
-        by : (k : ℕ) → (k ≡ 0 → ⊥) → unless k (value (read_in file s l)) ≡ coded (read_all nothing_read file)
-            → (q : Refusal) × (read_of places flag_places file ≡ Err q) × (k ≡ number_of q)
-        by zero n e = absurd (n refl)
-        by (suc k) n e = let (q, r, z) = of_number (read_all nothing_read file) (suc k) e in (q, read_is file ∙ ap then_room r, z)
+  pub read_refused : (k : Refusal) → read_all nothing_read file ≡ Err k → read_of places flag_places file ≡ Err k
+  read_refused k e = read_is ∙ ap then_room e
 
-    read_all_lem : s.refusal ≡ 0 → read_of places flag_places file ≡ then_room (Ok (read_in file s l))
-    read_all_lem e =
-        read_is file
-        ∙ ap then_room (of_value (read_all nothing_read file) (read_in file s l) (ap (λ k. unless k (value (read_in file s l))) (sym e) ∙ f.says))
+  module _ (c : Contents) (e : read_all nothing_read file ≡ Ok c) where
+    pub read_lacking : (k : Refusal) → Err k ≡ verdict (first (length_check (room_for places flag_places c) ∷ [])) → read_of places flag_places file ≡ Err k
+    read_lacking k f = read_is ∙ ap then_room e ∙ refused _ (Ok c) k f
 
-    parts : lacking (room_for (read_in file s l)) ≡ (lacking (tree_lent (net_in s l) places (tree_of file s)) || lacking (flags_lent (net_in s l) flag_places (ask_of file s)))
-    parts = any_append (λ x. ltb x.has x.needs) (tree_lent (net_in s l) places (tree_of file s)) (flags_lent (net_in s l) flag_places (ask_of file s))
-
-    -- one of the lists is too short
-    pub read_lacking : {a b : Bool} → s.refusal ≡ 0 → a ≡ lacking (tree_lent (net_in s l) places (tree_of file s)) → b ≡ lacking (flags_lent (net_in s l) flag_places (ask_of file s))
-        → (a || b) ≡ true → read_of places flag_places file ≡ Err ShortBuffer
-    read_lacking e p q h =
-        let z : lacking (room_for (read_in file s l)) ≡ true = parts ∙ sym (ap₂ (λ x y. x || y) p q) ∙ h in
-        read_all_lem e ∙ ap (λ b. decide (cond b (Some ShortBuffer) None) (Ok (read_in file s l))) z
-
-    pub read_done : {a b : Bool} → s.refusal ≡ 0 → a ≡ lacking (tree_lent (net_in s l) places (tree_of file s)) → b ≡ lacking (flags_lent (net_in s l) flag_places (ask_of file s))
-        → (a || b) ≡ false → read_of places flag_places file ≡ Ok (read_in file s l)
-    read_done e p q h =
-        let z : lacking (room_for (read_in file s l)) ≡ false = parts ∙ sym (ap₂ (λ x y. x || y) p q) ∙ h in
-        read_all_lem e ∙ ap (λ b. decide (cond b (Some ShortBuffer) None) (Ok (read_in file s l))) z
+    pub read_done : Ok tt ≡ verdict (first (length_check (room_for places flag_places c) ∷ [])) → read_of places flag_places file ≡ Ok c
+    read_done f = read_is ∙ ap then_room e ∙ decided _ (Ok c) f
 
 -- ---- the promise ----
 
-module _ (R : Result Contents Refusal) (a : Answer) (N : Network) (tree flags : List ℕ) where
-  pub says_refused : (q : Refusal) → R ≡ Err q → a ≡ Refused (number_of q) → N ≡ empty_network
-      → (a ≡ answer_of R) × (N ≡ network_in R) × (tree ≡ tree_after R tree) × (flags ≡ flags_after R flags)
-  says_refused q e p n = rw e (p, n, refl, refl)
+module _ (R : Result Contents Refusal) (k : Refusal) (e : R ≡ Err k) where
+  pub given_refused : Err k ≡ given_of R
+  given_refused = rw e refl
 
-  pub says_done : (file : List ℕ) (s : Scan) (l : Lists) (t : Tree) (k : Asked) (tree' flags' : List ℕ) → R ≡ Ok (read_in file s l)
-      → a ≡ Done (record { tree = t; ask = k }) → t ≡ tree_answer (tree_of file s) → k ≡ ask_answer (ask_of file s) → N ≡ net_in s l
-      → tree' ≡ kids_over (tree_of file s) tree → flags' ≡ flags_over s.index_count (ask_of file s) flags
-      → (a ≡ answer_of R) × (N ≡ network_in R) × (tree' ≡ tree_after R tree) × (flags' ≡ flags_after R flags)
-  says_done file s l t k tree' flags' e p x y n u v =
-      rw e (
-        p ∙ ap₂ (λ t k. Done (record { tree = t; ask = k })) x y,
-        n,
-        u ∙ sym (tree_written_lem (net_in s l) (tree_of file s) (ask_of file s) tree),
-        v ∙ sym (flags_written_lem (net_in s l) (tree_of file s) (ask_of file s) flags ∙ ap (λ m. flags_over m (ask_of file s) flags) (index_count_lem s l)),
-      )
+  pub tree_kept : (l : List ℕ) → l ≡ tree_after R l
+  tree_kept l = rw e refl
+
+  pub flags_kept : (l : List ℕ) → l ≡ flags_after R l
+  flags_kept l = rw e refl
+
+module _ (R : Result Contents Refusal) (c : Contents) (e : R ≡ Ok c) where
+  pub given_done : Ok (given_in c.tree c.ask) ≡ given_of R
+  given_done = rw e refl
+
+  pub network_done : c.network ≡ network_in R
+  network_done = rw e refl
+
+  pub tree_done : (l l' : List ℕ) → l' ≡ kids_over c.tree l → l' ≡ tree_after R l
+  tree_done l l' q = rw e (q ∙ sym (tree_written_lem c.network c.tree c.ask l))
+
+  pub flags_done : (m : ℕ) (l l' : List ℕ) → index_count c.network ≡ m → l' ≡ flags_over m c.ask l → l' ≡ flags_after R l
+  flags_done m l l' h q = rw e (q ∙ sym (flags_written_lem c.network c.tree c.ask l ∙ ap (λ n. flags_over n c.ask l) h))
+
+-- ---- as it is answered to the crates above ----
+
+same_tree : (t : Option (List ℕ)) → tree_found (places_in t) ≡ tree_answer t
+same_tree None = refl
+same_tree (Some kids) = refl
+
+pub found_answer : (R : Result Contents Refusal) (g : Given) → Ok g ≡ given_of R → Done (found_in g) ≡ answer_of R
+found_answer (Err k) g e = clash k g (sym e)
+found_answer (Ok c) g e =
+    let w : g ≡ given_in c.tree c.ask = cc in
+    ap (λ (h : Given). Done (found_in h)) w ∙ ap (λ t. Done (record { tree = t; ask = ask_answer c.ask })) (same_tree c.tree)
+
+pub refused_answer : (R : Result Contents Refusal) (k : Refusal) → Err k ≡ given_of R → (Refused (number_of k) ≡ answer_of R) × (empty_network ≡ network_in R)
+refused_answer (Err j) k e = let w : k ≡ j = cc in (ap (λ r. Refused (number_of r)) w, refl)
+refused_answer (Ok c) k e = clash k _ e

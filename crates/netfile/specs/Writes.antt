@@ -1,7 +1,7 @@
 -- The two lists that the reader fills: when they are too short, and what is written. Assumes nothing.
-use Rattle.std.specs.Prelude.{Bool, true, false, ◌||◌, List, ◌++◌, ◌≡◌, refl, ℕ, zero, suc, ◌+◌, ◌-◌, ◌≤◌, ◌<◌, ltb, length, get_or, take, drop, Option, None, Some}
+use Rattle.std.specs.Prelude.{Bool, false, ◌||◌, List, ◌++◌, ◌≡◌, refl, ℕ, ◌+◌, ◌-◌, ◌≤◌, ◌<◌, ltb, length, take, drop, Option, None, Some}
 use Rattle.std.proofs.Math.Bool.{or-false}
-use Rattle.std.proofs.Common.{append-nil, sym, ap, ap₂, ◌∙◌, arith, length-drop, drop-drop, length-take-le}
+use Rattle.std.proofs.Common.{append-nil, sym, ap, ap₂, ◌∙◌, arith, length-drop, drop-drop, length-take-le, le-ltb}
 use Rattle.spec.specs.Lists.{anyb}
 use Rattle.spec.specs.Memory.{filled, placed}
 use Rattle.spec.specs.Network.{Network, index_count}
@@ -9,10 +9,11 @@ use Rattle.spec.specs.Calls.{Lent}
 use Rattle.spec.specs.File.{Ask, plain, flagged, target, tree_lent, flags_lent, tree_written, flags_written}
 use Rattle.laws.specs.FileLists.{placed_at}
 use Rattle.cells.specs.Cells.{filled_length, placed_length, placed_next}
-use Rattle.fields.specs.Steps.{part}
-use Rattle.fields.specs.Scans.{tree_in, ask_in, Lists, net_in}
-use Rattle.fields.specs.Fields.{leaf_count_lem, index_count_lem}
-use Rattle.fields.specs.declared.Scan.{Scan}
+use Rattle.network.specs.declared.Network.{Network as Record}
+use Rattle.network.specs.Record.{net_of}
+use Rattle.network.specs.Layouts.{leaf_count_lem}
+use Rattle.fields.specs.Fields.{indices}
+use borrow.Author.Tests.{ltb-false}
 
 -- is one of the lists too short
 abbrev pub lacking : List Lent → Bool
@@ -38,61 +39,31 @@ flags_written_lem N t plain l = refl
 flags_written_lem N t (flagged f) l = refl
 flags_written_lem N t (target w) l = refl
 
--- ---- what a scan points to ----
+-- flags have a place for each of m indices
+abbrev pub FlagsFit : Ask → ℕ → ℕ → Type 0
+FlagsFit plain m places = Unit {0}
+FlagsFit (flagged f) m places = m ≤ places
+FlagsFit (target w) m places = Unit {0}
 
-module _ (file : List ℕ) (s : Scan) where
-  -- its tree, and what it asks
-  abbrev pub tree_of : Option (List ℕ)
-  tree_of = tree_in file s.has_tree s.tree_at s.tree_len
+pub nothing_lacks : (p : ℕ) → ltb p 0 ≡ false
+nothing_lacks p = le-ltb p 0 (omega arith)
 
-  abbrev pub ask_of : Ask
-  ask_of = ask_in file s.ask s.ask_at s.ask_len
-
-  pub tree_present : s.has_tree ≡ true → tree_of ≡ Some (part file s.tree_at s.tree_len)
-  tree_present e = rw e
-
-  pub tree_absent : s.has_tree ≡ false → tree_of ≡ None
-  tree_absent e = rw e
-
-  pub ask_flagged : s.ask ≡ 1 → ask_of ≡ flagged (part file s.ask_at s.ask_len)
-  ask_flagged e = rw e
-
-  pub ask_target : (s.ask ≡ 0 → ⊥) → (s.ask ≡ 1 → ⊥) → ask_of ≡ target (get_or file s.ask_at 0)
-  ask_target a b = other s.ask a b
-    where
-      other : (k : ℕ) → (k ≡ 0 → ⊥) → (k ≡ 1 → ⊥) → ask_in file k s.ask_at s.ask_len ≡ target (get_or file s.ask_at 0)
-      other zero a b = absurd (a refl)
-      other (suc zero) a b = absurd (b refl)
-      other (suc (suc k)) a b = refl
-
-  -- without flags nothing is written, and no place is needed
-  pub ask_other : (s.ask ≡ 1 → ⊥) → (m : ℕ) (d : List ℕ) → d ≡ flags_over m ask_of d
-  ask_other b m d = other s.ask b
-    where
-      other : (k : ℕ) → (k ≡ 1 → ⊥) → d ≡ flags_over m (ask_in file k s.ask_at s.ask_len) d
-      other zero b = refl
-      other (suc zero) b = absurd (b refl)
-      other (suc (suc k)) b = refl
-
-  pub lack_other : (s.ask ≡ 1 → ⊥) → (N : Network) (q : ℕ) → false ≡ lacking (flags_lent N q ask_of)
-  lack_other b N q = other s.ask b
-    where
-      other : (k : ℕ) → (k ≡ 1 → ⊥) → false ≡ lacking (flags_lent N q (ask_in file k s.ask_at s.ask_len))
-      other zero b = refl
-      other (suc zero) b = absurd (b refl)
-      other (suc (suc k)) b = refl
-
-  pub lack_flags : s.ask ≡ 1 → (l : Lists) (q : ℕ) → ltb q s.index_count ≡ lacking (flags_lent (net_in s l) q ask_of)
-  lack_flags e l q =
-      sym (or-false (ltb q s.index_count))
-      ∙ ap (λ m. ltb q m || false) (sym (index_count_lem s l))
-      ∙ ap (λ a. lacking (flags_lent (net_in s l) q a)) (sym (ask_flagged e))
-
-  pub lack_tree : s.has_tree ≡ true → (l : Lists) (p nodes : ℕ) → nodes ≡ s.leaf_count - 1 → ltb p (nodes + nodes) ≡ lacking (tree_lent (net_in s l) p tree_of)
-  lack_tree e l p nodes q =
+module _ (R : Record) where
+  pub lack_tree : (kids : List ℕ) (p nodes : ℕ) → nodes ≡ R.leaf_count - 1 → ltb p (nodes + nodes) ≡ lacking (tree_lent (net_of R) p (Some kids))
+  lack_tree kids p nodes q =
       sym (or-false (ltb p (nodes + nodes)))
-      ∙ ap (λ k. ltb p (k + k) || false) (q ∙ ap (λ n. n - 1) (sym (leaf_count_lem s l)))
-      ∙ ap (λ t. lacking (tree_lent (net_in s l) p t)) (sym (tree_present e))
+      ∙ ap (λ k. ltb p (k + k) || false) (q ∙ ap (λ n. n - 1) (sym (leaf_count_lem R)))
+
+  pub lack_flags : (f : List ℕ) (q : ℕ) → ltb q R.index_count ≡ lacking (flags_lent (net_of R) q (flagged f))
+  lack_flags f q =
+      sym (or-false (ltb q R.index_count))
+      ∙ ap (λ m. ltb q m || false) (sym (indices R))
+
+  -- no place lacks
+  pub flags_fit : (a : Ask) (q : ℕ) → lacking (flags_lent (net_of R) q a) ≡ false → FlagsFit a R.index_count q
+  flags_fit plain q e = tt
+  flags_fit (flagged f) q e = ltb-false q R.index_count (lack_flags f q ∙ e)
+  flags_fit (target w) q e = tt
 
 -- the flags written, and the places after them cleared, as they are lent
 pub flags_cleared : (d f r y : List ℕ) (n m : ℕ) → r ≡ placed d 0 f → length f ≡ n → n < m → m ≤ length d → y ≡ filled (length (take (m - n) (drop n r))) 0

@@ -1,154 +1,143 @@
 -- The writer's answer, and what it puts where nothing is refused. Assumes nothing.
-use Rattle.std.specs.Prelude.{◌≡◌, refl, Bool, true, false, not, cond, List, ◌++◌, ℕ, ◌+◌, ◌%◌, ◌≤◌, ◌<◌, eqb, ltb, Option, None, Some, Result, Err, Ok}
-use Rattle.std.proofs.Common.{sym, ◌∙◌, arith, length-append, ltb-false}
-use Rattle.std.proofs.Math.Path.{ap, subst}
-use Rattle.spec.specs.declared.Refusal.{Refusal}
-use Rattle.std.proofs.Math.Decide.{ℕ_discrete}
-use Rattle.std.proofs.Math.ListN.{length}
+use Rattle.std.specs.Prelude.{◌≡◌, refl, Bool, true, false, not, ◌||◌, cond, List, [], ◌∷◌, ◌++◌, ℕ, ◌+◌, ◌%◌, ◌≤◌, ◌<◌, eqb, ltb, length, Option, None, Some, Result, Ok, Err}
+use Rattle.std.proofs.Common.{sym, ap, ◌∙◌, arith, lt-ltb, le-ltb}
+use Rattle.std.proofs.Math.Path.{subst}
 use Rattle.std.proofs.lemmas.Bool.{eqb-false}
+use borrow.Author.Tests.{ltb-false}
+use Rattle.spec.specs.declared.Refusal.{Refusal}
+use Rattle.spec.specs.declared.Refusal.TheVariants.{ShortBuffer, InvalidTree}
+use Rattle.spec.specs.Refusal.{Check, first}
 use Rattle.spec.specs.Lists.{anyb}
-use Rattle.spec.specs.Refusal.{decide, first, code_of, number_of}
-use Rattle.spec.specs.Network.{refusal_of}
+use Rattle.spec.specs.Network.{Network, leaf_count, index_count, network_checks, refusal_of}
 use Rattle.spec.specs.Tree.{valid, pairs_of}
-use Rattle.spec.specs.Layout.{network_of}
-use Rattle.spec.specs.File.{Contents, tree_field, ask_field, file_of, write_checks, write_of, buffer_after}
-use Rattle.spec.specs.FileClaims.{Bytes}
+use Rattle.spec.specs.Calls.{wrong_tree, lent, length_check}
+use Rattle.spec.specs.File.{Ask, plain, flagged, target, Contents, tree_field, ask_field, file_of, tree_checks, flags_checks, write_checks, write_of, buffer_after}
 use Rattle.laws.specs.Booleans.{or_none}
 use Rattle.laws.specs.FileLists.{valid_length}
 use Rattle.laws.specs.FileBytes.{tree_bytes}
 use Rattle.walk.specs.Wrong.{not_wrong}
-use Rattle.network.specs.Codes.{Facts, accepted_facts, code_zero}
+use Rattle.walk.specs.Entry.{first_none}
+use Rattle.payloads.specs.Payload.{verdict}
+use Rattle.fields.specs.Fields.{passed, decided, refused}
 use Rattle.putfields.specs.Put.{Put, put_both, put_length}
-use Rattle.netwrite.specs.Contents.{TreeLent, absent, present, AskLent, nothing, flags, byte, tree_of, ask_of, contents_of, network_fields}
-use Rattle.netwrite.specs.Sizes.{fixed_bytes, file_fields, file_length}
-use Rattle.netwrite.specs.Numbers.{tree_is_wrong, flags_are_wrong, others, number_network}
-use Rattle.netwrite.specs.declared.Wrote.{Wrote}
+use Rattle.netwrite.specs.Contents.{network_fields}
+use Rattle.netwrite.specs.Sizes.{file_fields, file_length}
+use Rattle.netwrite.specs.Writes.{KidsFit, AskFits}
 
--- the number of the refusal, or 0 and the cursor past the file
-abbrev pub wrote_of : Result ℕ Refusal → Wrote
-wrote_of (Err k) = record { number = number_of k; next = 0 }
-wrote_of (Ok x) = record { number = 0; next = x }
+-- ---- the order of the conditions ----
 
--- the answer, and the buffer afterwards
-pub record Writes (c : Contents) (cursor : ℕ) (before after : List ℕ) (r : Wrote) : Type 0 where
-  pub answer : r ≡ wrote_of (write_of c (length before) cursor)
-  pub buffer : after ≡ buffer_after c cursor (write_of c (length before) cursor) before
+-- the contents of an accepted network
+module _ (c : Contents) (accepted : refusal_of c.network ≡ None) (size cursor : ℕ) where
+  abbrev later : List Check
+  later = tree_checks c.network c.tree ++ flags_checks c.network c.ask
 
--- ---- a refusal ----
+  checks_are : first (write_checks c size cursor) ≡ cond (ltb size (cursor + length (file_of c)) || false) (Some ShortBuffer) (first later)
+  checks_are = first_none (network_checks false c.network) (length_check (lent size (cursor + length (file_of c)) ∷ []) ∷ later) accepted
 
-refused_as : (c : Contents) (cursor : ℕ) (d : List ℕ) (o : Option Refusal) (x : ℕ) {k : ℕ} → k ≡ code_of o → (k ≡ 0 → ⊥)
-    → ◌≡◌ {A = Wrote} (record { number = k; next = 0 }) (wrote_of (decide o (Ok x))) × (d ≡ buffer_after c cursor (decide o (Ok x)) d)
-refused_as c cursor d None x e z = absurd (z e)
-refused_as c cursor d (Some r) x e z = (ap (λ (k : ℕ). record { number = k; next = 0 }) e, refl)
+  -- the buffer is too short
+  pub checks_short : size < cursor + length (file_of c) → Err ShortBuffer ≡ verdict (first (write_checks c size cursor))
+  checks_short h = ap verdict (sym (checks_are ∙ ap (λ (b : Bool). cond (b || false) (Some ShortBuffer) (first later)) (lt-ltb size (cursor + length (file_of c)) h)))
 
-pub writes_refused : (c : Contents) (cursor : ℕ) (d : List ℕ) {k : ℕ} → k ≡ code_of (first (write_checks c (length d) cursor)) → (k ≡ 0 → ⊥)
-    → Writes c cursor d d (record { number = k; next = 0 })
-unfolding write_of
-writes_refused c cursor d e z =
-    let (p, q) = refused_as c cursor d (first (write_checks c (length d) cursor)) (cursor + length (file_of c)) e z in
-    record { answer = p; buffer = q }
+  module _ (room : cursor + length (file_of c) ≤ size) where
+    checks_later : first (write_checks c size cursor) ≡ first later
+    checks_later = checks_are ∙ ap (λ (b : Bool). cond (b || false) (Some ShortBuffer) (first later)) (le-ltb size (cursor + length (file_of c)) room)
+
+    -- the tree is refused
+    pub checks_tree : (k : Refusal) → Err k ≡ verdict (first (tree_checks c.network c.tree)) → Err k ≡ verdict (first (write_checks c size cursor))
+    checks_tree k e = by_tree c.tree e ∙ sym (ap verdict checks_later)
+      where
+        by_tree : (t : Option (List ℕ)) → Err k ≡ verdict (first (tree_checks c.network t)) → Err k ≡ verdict (first (tree_checks c.network t ++ flags_checks c.network c.ask))
+        by_tree None e = absurd (let w : ◌≡◌ {A = ℕ} 0 1 = cc in omega arith)
+        by_tree (Some kids) e = wrong (wrong_tree (leaf_count c.network) kids) e
+          where
+            wrong : (b : Bool) → Err k ≡ verdict (cond b (Some InvalidTree) None) → Err k ≡ verdict (cond b (Some InvalidTree) (first (flags_checks c.network c.ask)))
+            wrong true e = e
+            wrong false e = absurd (let w : ◌≡◌ {A = ℕ} 0 1 = cc in omega arith)
+
+    -- the tree is not refused: the flags decide
+    pub checks_flags : {r : Result (Unit {0}) Refusal} → Ok tt ≡ verdict (first (tree_checks c.network c.tree)) → r ≡ verdict (first (flags_checks c.network c.ask))
+        → r ≡ verdict (first (write_checks c size cursor))
+    checks_flags e f = f ∙ ap verdict (sym (checks_later ∙ first_none (tree_checks c.network c.tree) (flags_checks c.network c.ask) (passed _ e)))
 
 -- ---- nothing is refused ----
 
-three_fail : (a b d : Bool) → ◌≡◌ {A = ℕ} 0 (cond a 7 (cond b 8 (cond d 9 0))) → (a ≡ false) × (b ≡ false) × (d ≡ false)
-three_fail true b d e = absurd (omega arith)
-three_fail false true d e = absurd (omega arith)
-three_fail false false true e = absurd (omega arith)
-three_fail false false false e = (refl, refl, refl)
+cond_none : (b : Bool) (r : Refusal) (o : Option Refusal) → cond b (Some r) o ≡ None → (b ≡ false) × (o ≡ None)
+cond_none true r o e = absurd (let w : ◌≡◌ {A = ℕ} 0 1 = cc in omega arith)
+cond_none false r o e = (refl, e)
 
--- a tree that is not wrong
-tree_fits : {tree : Bool} {kids : List ℕ} (n : ℕ) → n ≤ 128 → TreeLent tree kids → tree_is_wrong tree n kids ≡ false → (length kids < 65536) × Bytes kids
-unfolding tree_is_wrong
-tree_fits n h absent e = (omega arith, tt)
-tree_fits n h (present kids) e =
-    let q : length kids % 2 ≡ 1 → ⊥ = eqb-false (length kids % 2) 1 (or_none (eqb (length kids % 2) 1) (not (valid n (pairs_of kids))) e).0 in
+kids_fit : (N : Network) (t : Option (List ℕ)) → leaf_count N ≤ 128 → first (tree_checks N t) ≡ None → KidsFit t
+kids_fit N None h e = tt
+kids_fit N (Some kids) h e =
+    let w = (cond_none (wrong_tree (leaf_count N) kids) InvalidTree None e).0 in
+    let q : length kids % 2 ≡ 1 → ⊥ = eqb-false (length kids % 2) 1 (or_none (eqb (length kids % 2) 1) (not (valid (leaf_count N) (pairs_of kids))) w).0 in
     let z : length kids % 2 ≡ 0 = omega (arith, q) in
-    let v : valid n (pairs_of kids) ≡ true = not_wrong n kids e in
-    (omega (arith, valid_length n kids z v), tree_bytes n kids h z v)
+    let v : valid (leaf_count N) (pairs_of kids) ≡ true = not_wrong (leaf_count N) kids w in
+    (omega (arith, valid_length (leaf_count N) kids z v), tree_bytes (leaf_count N) kids h z v)
 
--- flags that are not wrong
-ask_fits : {tag : ℕ} {l : List ℕ} (m : ℕ) → m ≤ 256 → AskLent tag l → flags_are_wrong tag m l ≡ false → length l < 65536
-unfolding flags_are_wrong
-ask_fits m h nothing e = omega arith
-ask_fits m h (flags l) e = omega (arith, ltb-false m (length l) (or_none (ltb m (length l)) (anyb (λ b. ltb 1 b) l) e).0)
-ask_fits m h (byte w) e = omega arith
-
--- what the fields' writers ask
-pub record Ready (m n o : ℕ) (weights counts cells outputs : List ℕ) (tree : Bool) (kids : List ℕ) (tag : ℕ) (payload : List ℕ) (size cursor : ℕ) : Type 0 where
-  pub facts : Facts m n o weights counts cells outputs
-  pub kids_fit : length kids < 65536
-  pub kids_bytes : Bytes kids
-  pub payload_fits : length payload < 65536
-  pub room : cursor + length (file_of (contents_of m n o weights counts cells outputs tree kids tag payload)) ≤ size
-
-module _ (m n o : ℕ) (weights counts cells outputs : List ℕ) {tree : Bool} {kids : List ℕ} {tag : ℕ} {payload : List ℕ}
-    (t : TreeLent tree kids) (a : AskLent tag payload) (size cursor : ℕ) where
-  pub ready : {k : ℕ} → k ≡ code_of (first (write_checks (contents_of m n o weights counts cells outputs tree kids tag payload) size cursor)) → k ≡ 0
-      → Ready m n o weights counts cells outputs tree kids tag payload size cursor
-  ready {k} e z =
-      let N = network_of m n o weights counts cells outputs in
-      let none_refused : 0 ≡ code_of (refusal_of N)
-      = elim (ℕ_discrete (code_of (refusal_of N)) 0) [
-        | yes q ↦ sym q
-        | no q ↦ absurd (q (number_network m n o weights counts cells outputs t a size cursor refl q ∙ sym e ∙ z))
-      ] in
-      let f : Facts m n o weights counts cells outputs = accepted_facts m n o weights counts cells outputs none_refused in
-      let (short, wrong, ill) = three_fail (ltb size (cursor + (fixed_bytes m n o counts tree tag + (length kids + length payload)))) (tree_is_wrong tree n kids) (flags_are_wrong tag m payload)
-      (sym z ∙ e ∙ others m n o weights counts cells outputs t a size cursor none_refused) in
-      let (p, q) = tree_fits n f.few_leaves t wrong in
-      record {
-        facts = f;
-        kids_fit = p;
-        kids_bytes = q;
-        payload_fits = ask_fits m f.few_indices a ill;
-        room = omega (
-          arith,
-          file_length m n o weights counts cells outputs t a,
-          ltb-false size (cursor + (fixed_bytes m n o counts tree tag + (length kids + length payload))) short,
-        );
-      }
+ask_fits : (N : Network) (a : Ask) → index_count N ≤ 256 → first (flags_checks N a) ≡ None → AskFits a
+ask_fits N plain h e = tt
+ask_fits N (flagged l) h e =
+    let w = (cond_none (ltb (index_count N) (length l) || anyb (λ b. ltb 1 b) l) _ None e).0 in
+    omega (arith, ltb-false (index_count N) (length l) (or_none (ltb (index_count N) (length l)) (anyb (λ b. ltb 1 b) l) w).0)
+ask_fits N (target w) h e = tt
 
 -- what each field's writer asks, and the answer
-module _ (m n o : ℕ) (weights counts cells outputs : List ℕ) {tree : Bool} {kids : List ℕ} {tag : ℕ} {payload : List ℕ}
-    (t : TreeLent tree kids) (a : AskLent tag payload) (cursor : ℕ) (d : List ℕ) {k : ℕ}
-    (code : k ≡ code_of (first (write_checks (contents_of m n o weights counts cells outputs tree kids tag payload) (length d) cursor))) (zero : k ≡ 0) where
-  given : Ready m n o weights counts cells outputs tree kids tag payload (length d) cursor
-  given = ready m n o weights counts cells outputs t a (length d) cursor code zero
+module _ (c : Contents) (accepted : refusal_of c.network ≡ None) (few : leaf_count c.network ≤ 128) (narrow : index_count c.network ≤ 256)
+    (cursor : ℕ) (d : List ℕ) (fine : Ok tt ≡ verdict (first (write_checks c (length d) cursor))) where
+  abbrev others : List Check
+  others = tree_checks c.network c.tree ++ flags_checks c.network c.ask
 
-  bytes :
-      cursor
-      + (length (network_fields (network_of m n o weights counts cells outputs)) + (length (tree_field (tree_of tree kids)) + length (ask_field (ask_of tag payload))))
-      ≤ length d
-  bytes =
-      let N = network_of m n o weights counts cells outputs in
-      omega (
-        arith,
-        given.room,
-        ap length (file_fields m n o weights counts cells outputs tree kids tag payload),
-        length-append (network_fields N) (tree_field (tree_of tree kids) ++ ask_field (ask_of tag payload)),
-        length-append (tree_field (tree_of tree kids)) (ask_field (ask_of tag payload)),
-      )
+  parts : (ltb (length d) (cursor + length (file_of c)) || false ≡ false) × (first others ≡ None)
+  parts =
+      cond_none (ltb (length d) (cursor + length (file_of c)) || false) ShortBuffer (first others)
+      (sym (first_none (network_checks false c.network) (length_check (lent (length d) (cursor + length (file_of c)) ∷ []) ∷ others) accepted) ∙ passed _ fine)
 
-  pub network_asks : Facts m n o weights counts cells outputs × (cursor + length (network_fields (network_of m n o weights counts cells outputs)) ≤ length d)
-  network_asks = (given.facts, omega (arith, bytes))
+  room : cursor + length (file_of c) ≤ length d
+  room = ltb-false (length d) (cursor + length (file_of c)) (or_none (ltb (length d) (cursor + length (file_of c))) false parts.0).0
 
-  module _ {o₁ : List ℕ} {next : ℕ} (p : Put d o₁ cursor next (network_fields (network_of m n o weights counts cells outputs))) where
-    pub tree_asks : TreeLent tree kids × (length kids < 65536) × Bytes kids × (next + length (tree_field (tree_of tree kids)) ≤ length o₁)
-    tree_asks = (t, given.kids_fit, given.kids_bytes, omega (arith, bytes, p.past, put_length p))
+  bytes : cursor + (length (network_fields c.network) + (length (tree_field c.tree) + length (ask_field c.ask))) ≤ length d
+  bytes = omega (arith, room, file_length c)
 
-    module _ {o₂ : List ℕ} {last : ℕ} (q : Put o₁ o₂ next last (tree_field (tree_of tree kids))) where
-      pub ask_asks : AskLent tag payload × (length payload < 65536) × (last + length (ask_field (ask_of tag payload)) ≤ length o₂)
-      ask_asks = (a, given.payload_fits, omega (arith, bytes, p.past, put_length p, q.past, put_length q))
+  pub network_asks : cursor + length (network_fields c.network) ≤ length d
+  network_asks = omega (arith, bytes)
 
-      pub writes_done : {o₃ : List ℕ} {end : ℕ} → Put o₂ o₃ last end (ask_field (ask_of tag payload))
-          → Writes (contents_of m n o weights counts cells outputs tree kids tag payload) cursor d o₃ (record { number = 0; next = end })
-      unfolding write_of
-      writes_done {o₃} {end} r =
-          let c = contents_of m n o weights counts cells outputs tree kids tag payload in
-          let w : Put d o₃ cursor end (file_of c) = subst (Put d o₃ cursor end) (sym (file_fields m n o weights counts cells outputs tree kids tag payload)) (put_both p (put_both q r)) in
-          let e : write_of c (length d) cursor ≡ Ok (cursor + length (file_of c))
-          = ap (λ (x : Option Refusal). decide x (Ok (cursor + length (file_of c)))) (code_zero (first (write_checks c (length d) cursor)) (sym zero ∙ code)) in
-          record {
-            answer = ap (λ (x : ℕ). record { number = 0; next = x }) w.past ∙ ap wrote_of (sym e);
-            buffer = w.bytes ∙ ap (λ (x : Result ℕ Refusal). buffer_after c cursor x d) (sym e);
-          }
+  trees_pass : first (tree_checks c.network c.tree) ≡ None
+  trees_pass = by_tree c.tree parts.1
+    where
+      by_tree : (t : Option (List ℕ)) → first (tree_checks c.network t ++ flags_checks c.network c.ask) ≡ None → first (tree_checks c.network t) ≡ None
+      by_tree None e = refl
+      by_tree (Some kids) e = rw (cond_none (wrong_tree (leaf_count c.network) kids) InvalidTree (first (flags_checks c.network c.ask)) e).0
+
+  flags_pass : first (flags_checks c.network c.ask) ≡ None
+  flags_pass = sym (first_none (tree_checks c.network c.tree) (flags_checks c.network c.ask) trees_pass) ∙ parts.1
+
+  module _ {o₁ : List ℕ} {next : ℕ} (p : Put d o₁ cursor next (network_fields c.network)) where
+    pub tree_asks : KidsFit c.tree × (next + length (tree_field c.tree) ≤ length o₁)
+    tree_asks = (kids_fit c.network c.tree few trees_pass, omega (arith, bytes, p.past, put_length p))
+
+    module _ {o₂ : List ℕ} {last : ℕ} (q : Put o₁ o₂ next last (tree_field c.tree)) where
+      pub ask_asks : AskFits c.ask × (last + length (ask_field c.ask) ≤ length o₂)
+      ask_asks = (ask_fits c.network c.ask narrow flags_pass, omega (arith, bytes, p.past, put_length p, q.past, put_length q))
+
+      module _ {o₃ : List ℕ} {end : ℕ} (r : Put o₂ o₃ last end (ask_field c.ask)) where
+        all : Put d o₃ cursor end (file_of c)
+        all = subst (Put d o₃ cursor end) (sym (file_fields c)) (put_both p (put_both q r))
+
+        write_is : write_of c (length d) cursor ≡ Ok (cursor + length (file_of c))
+        unfolding write_of
+        write_is = decided _ (Ok (cursor + length (file_of c))) fine
+
+        pub written : Ok end ≡ write_of c (length d) cursor
+        written = ap Ok all.past ∙ sym write_is
+
+        pub buffer_is : o₃ ≡ buffer_after c cursor (write_of c (length d) cursor) d
+        buffer_is = rw write_is all.bytes
+
+-- a refusal
+module _ (c : Contents) (cursor : ℕ) (d : List ℕ) (k : Refusal) (e : Err k ≡ verdict (first (write_checks c (length d) cursor))) where
+  pub not_written : write_of c (length d) cursor ≡ Err k
+  unfolding write_of
+  not_written = refused _ (Ok (cursor + length (file_of c))) k e
+
+  pub buffer_stays : d ≡ buffer_after c cursor (write_of c (length d) cursor) d
+  buffer_stays = rw not_written refl

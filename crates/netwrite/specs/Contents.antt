@@ -1,30 +1,19 @@
--- What lists and numbers that are handed to the writer stand for. Assumes nothing.
-use Rattle.std.specs.Prelude.{Bool, true, false, cond, List, [], ◌∷◌, ◌++◌, ℕ, eqb, get_or, Option, None, Some}
+-- What the parts that are handed to the writer stand for. Assumes nothing.
+use Rattle.std.specs.Prelude.{List, ◌++◌, ℕ, Option, None, Some}
+use Rattle.std.proofs.Common.{Bor}
 use Rattle.spec.specs.Network.{Network}
-use Rattle.spec.specs.Layout.{network_of}
-use Rattle.spec.specs.File.{Ask, plain, flagged, target, Contents, field, leaf_fields}
+use Rattle.spec.specs.File.{Contents, field, leaf_fields}
+use Rattle.network.specs.Views.{net_in}
+use Rattle.fields.specs.Scans.{ask_of}
+use Rattle.netwrite.specs.declared.parts.Parts.{Parts}
 
--- the tree's children, if there is a tree; else no list
-pub data TreeLent : Bool → List ℕ → Type 0 where
-  absent : TreeLent false []
-  present : (kids : List ℕ) → TreeLent true kids
+-- the tree's children
+abbrev pub kids_of : Option (Bor (List ℕ)) → Option (List ℕ)
+kids_of None = None
+kids_of (Some kids) = Some kids.now
 
-abbrev pub tree_of : Bool → List ℕ → Option (List ℕ)
-tree_of true kids = Some kids
-tree_of false kids = None
-
--- what is asked, as a field's tag and payload; 0 and nothing where nothing is
-pub data AskLent : ℕ → List ℕ → Type 0 where
-  nothing : AskLent 0 []
-  flags : (l : List ℕ) → AskLent 5 l
-  byte : (w : ℕ) → AskLent 6 (w ∷ [])
-
-abbrev pub ask_of : ℕ → List ℕ → Ask
-ask_of tag l = cond (eqb tag 5) (flagged l) (cond (eqb tag 6) (target (get_or l 0 0)) plain)
-
-unfoldable pub contents_of : (m n o : ℕ) (weights counts cells outputs : List ℕ) → Bool → List ℕ → ℕ → List ℕ → Contents
-contents_of m n o weights counts cells outputs tree kids tag payload =
-    record { network = network_of m n o weights counts cells outputs; tree = tree_of tree kids; ask = ask_of tag payload }
+abbrev pub parts_of : Parts → Contents
+parts_of p = record { network = net_in p.network; tree = kids_of p.tree; ask = ask_of p.ask }
 
 -- the fields of a network
 unfoldable pub network_fields : Network → List ℕ

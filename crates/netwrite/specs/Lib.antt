@@ -1,6 +1,5 @@
--- The contents that a writer is handed, the file's length, the refusals' numbers, and the bytes. Assumes nothing.
+-- What the writer is handed, the file's length, the refusals, and the bytes. Assumes nothing.
 pub mod Contents
 pub mod Sizes
-pub mod Numbers
 pub mod Writes
 pub mod Answers

@@ -1,50 +1,40 @@
 -- How many bytes the file of some contents takes. Assumes nothing.
-use Rattle.std.specs.Prelude.{◌≡◌, refl, Bool, true, not, cond, List, ◌++◌, ℕ, ◌+◌, ◌-◌, ◌*◌, ◌≤◌, ◌<◌, eqb, ltb, get_or}
-use Rattle.std.proofs.Common.{sym, ap, ◌∙◌, append_assoc, lt-ltb, le-ltb, ltb-true, ltb-false}
+use Rattle.std.specs.Prelude.{◌≡◌, List, ◌++◌, ℕ, ◌+◌, ◌*◌, ◌≤◌, ◌<◌, get_or, Option, None, Some, MatchOption}
+use Rattle.std.proofs.Common.{sym, ap, ◌∙◌, append_assoc}
 use native.Mathlib.Omega.{arith}
 use Rattle.std.proofs.Math.ListN.{length, length-append}
 use Rattle.spec.specs.Layout.{firsts, network_of}
-use Rattle.spec.specs.File.{field, leaf_fields, tree_field, ask_field, file_of}
-use Rattle.laws.specs.Booleans.{by_cases}
+use Rattle.spec.specs.File.{Contents, field, leaf_fields, tree_field, ask_field, file_of}
 use Rattle.laws.specs.LayoutLaws.{firsts_length}
 use Rattle.network.specs.Checks.{leaves_of}
+use Rattle.network.specs.Lists.{Holds}
+use Rattle.network.specs.Views.{in_facts}
+use Rattle.network.specs.declared.accepted.Accepted.{Accepted}
 use Rattle.putfields.specs.Leaves.{leaf_bytes, leaf_bytes_none, leaf_bytes_more, leaf_fields_length}
-use Rattle.netwrite.specs.Contents.{TreeLent, absent, present, AskLent, nothing, flags, byte, tree_of, ask_of, contents_of, network_fields}
+use Rattle.netwrite.specs.Contents.{network_fields}
 
 -- at most 128 leaves, each of at most 32 indices
-pub record Few (n : ℕ) (counts : List ℕ) : Type 0 where
-  pub leaves : n ≤ 128
-  pub counted : n ≤ length counts
-  pub legs : (i : ℕ) → i < n → get_or counts i 0 ≤ 32
+pub record Few (counts : List ℕ) : Type 0 where
+  pub leaves : length counts ≤ 128
+  pub legs : (i : ℕ) → i < length counts → get_or counts i 0 ≤ 32
 
 -- ---- the loop over the leaves' counts ----
 
-pub record Summed (n i sum : ℕ) (counts : List ℕ) : Type 0 where
-  pub within : i ≤ n
+pub record Summed (i sum : ℕ) (counts : List ℕ) : Type 0 where
   pub bytes : sum ≡ leaf_bytes i counts
   pub small : sum ≤ i * 35
 
-pub summed_none : (n : ℕ) (counts : List ℕ) → Summed n 0 0 counts
-summed_none n counts = record { within = omega arith; bytes = sym (leaf_bytes_none counts); small = omega arith }
+pub summed_none : (counts : List ℕ) → Summed 0 0 counts
+summed_none counts = record { bytes = sym (leaf_bytes_none counts); small = omega arith }
 
-pub summed_next : {n i sum : ℕ} {counts : List ℕ} → Few n counts → Summed n i sum counts → i < n → Summed n (i + 1) (sum + (3 + get_or counts i 0)) counts
-summed_next {n} {i} {sum} {counts} f s h =
+pub summed_next : {i sum : ℕ} {counts : List ℕ} (x : ℕ) → x ≡ get_or counts i 0 → Few counts → Summed i sum counts → i < length counts → Summed (i + 1) (sum + (3 + x)) counts
+summed_next {i} {sum} {counts} x e f s h =
     record {
-      within = omega arith;
       bytes = omega (arith, s.bytes, leaf_bytes_more i counts);
       small = omega (arith, s.small, f.legs i h);
     }
 
-pub summed_end : {n i sum : ℕ} {counts : List ℕ} → Few n counts → Summed n i sum counts → n ≤ i → (sum ≡ leaf_bytes n counts) × (sum ≤ 4480)
-summed_end {n} {i} {sum} {counts} f s h =
-    let e : i ≡ n = omega (arith, s.within) in
-    (s.bytes ∙ ap (λ (k : ℕ). leaf_bytes k counts) e, omega (arith, s.small, f.leaves))
-
 -- ---- the file's length ----
-
--- all but the payloads of the tree and of what is asked
-unfoldable pub fixed_bytes : (m n o : ℕ) → List ℕ → Bool → ℕ → ℕ
-fixed_bytes m n o counts tree tag = 6 + m + o + leaf_bytes n counts + cond tree 3 0 + cond (not (eqb tag 0)) 3 0
 
 module _ (m n o : ℕ) (weights counts cells outputs : List ℕ) where
   pub network_fields_length : length (network_fields (network_of m n o weights counts cells outputs)) ≡ 6 + m + o + leaf_bytes n counts
@@ -60,54 +50,26 @@ module _ (m n o : ℕ) (weights counts cells outputs : List ℕ) where
         leaf_fields_length counts cells n,
       )
 
--- the rest of the buffer, compared with one count after another
-module _ (size cursor fixed tree ask : ℕ) where
-  pub short_cursor : size < cursor → true ≡ ltb size (cursor + (fixed + (tree + ask)))
-  short_cursor h = sym (lt-ltb size (cursor + (fixed + (tree + ask))) (omega arith))
-
-  pub short_fixed : cursor ≤ size → size - cursor < fixed → true ≡ ltb size (cursor + (fixed + (tree + ask)))
-  short_fixed h k = sym (lt-ltb size (cursor + (fixed + (tree + ask))) (omega arith))
-
-  pub short_tree : cursor ≤ size → fixed ≤ size - cursor → size - cursor - fixed < tree → true ≡ ltb size (cursor + (fixed + (tree + ask)))
-  short_tree h k l = sym (lt-ltb size (cursor + (fixed + (tree + ask))) (omega arith))
-
-  pub short_ask : cursor ≤ size → fixed ≤ size - cursor → tree ≤ size - cursor - fixed → ltb (size - cursor - fixed - tree) ask ≡ ltb size (cursor + (fixed + (tree + ask)))
-  short_ask h k l =
-      by_cases (ltb (size - cursor - fixed - tree) ask)
-      (λ e. e ∙ sym (lt-ltb size (cursor + (fixed + (tree + ask))) (omega (arith, ltb-true (size - cursor - fixed - tree) ask e))))
-      (λ e. e ∙ sym (le-ltb size (cursor + (fixed + (tree + ask))) (omega (arith, ltb-false (size - cursor - fixed - tree) ask e))))
-
-tree_length : {tree : Bool} {kids : List ℕ} → TreeLent tree kids → length (tree_field (tree_of tree kids)) ≡ cond tree 3 0 + length kids
-tree_length absent = refl
-tree_length (present kids) = omega arith
-
-ask_length : {tag : ℕ} {l : List ℕ} → AskLent tag l → length (ask_field (ask_of tag l)) ≡ cond (not (eqb tag 0)) 3 0 + length l
-ask_length nothing = refl
-ask_length (flags l) = omega arith
-ask_length (byte w) = refl
+module _ (a : Accepted) (h : Holds a.weights.now a.leg_counts.now a.legs.now a.outputs.now) where
+  pub accepted_few : Few a.leg_counts.now
+  accepted_few = record { leaves = (in_facts a h).few_leaves; legs = (in_facts a h).few_legs }
 
 -- the file of contents: the network's fields, the tree's, and what is asked
-pub file_fields : (m n o : ℕ) (weights counts cells outputs : List ℕ) (tree : Bool) (kids : List ℕ) (tag : ℕ) (payload : List ℕ)
-    → file_of (contents_of m n o weights counts cells outputs tree kids tag payload)
-    ≡ network_fields (network_of m n o weights counts cells outputs) ++ (tree_field (tree_of tree kids) ++ ask_field (ask_of tag payload))
-unfolding file_of contents_of network_fields
-file_fields m n o weights counts cells outputs tree kids tag payload =
-    let N = network_of m n o weights counts cells outputs in
-    let t = tree_field (tree_of tree kids) ++ ask_field (ask_of tag payload) in
+pub file_fields : (c : Contents) → file_of c ≡ network_fields c.network ++ (tree_field c.tree ++ ask_field c.ask)
+unfolding file_of network_fields
+file_fields c =
+    let N = c.network in
+    let t = tree_field c.tree ++ ask_field c.ask in
     ap (λ (l : List ℕ). field 1 N.weights ++ l) (sym (append_assoc (leaf_fields N.leaves) (field 3 N.outputs) t))
     ∙ sym (append_assoc (field 1 N.weights) (leaf_fields N.leaves ++ field 3 N.outputs) t)
 
-pub file_length : (m n o : ℕ) (weights counts cells outputs : List ℕ) {tree : Bool} {kids : List ℕ} {tag : ℕ} {payload : List ℕ} → TreeLent tree kids → AskLent tag payload
-    → length (file_of (contents_of m n o weights counts cells outputs tree kids tag payload)) ≡ fixed_bytes m n o counts tree tag + (length kids + length payload)
-unfolding fixed_bytes
-file_length m n o weights counts cells outputs {tree} {kids} {tag} {payload} t a =
-    let N = network_of m n o weights counts cells outputs in
-    ap length (file_fields m n o weights counts cells outputs tree kids tag payload)
-    ∙ omega (
-      arith,
-      length-append (network_fields N) (tree_field (tree_of tree kids) ++ ask_field (ask_of tag payload)),
-      length-append (tree_field (tree_of tree kids)) (ask_field (ask_of tag payload)),
-      network_fields_length m n o weights counts cells outputs,
-      tree_length t,
-      ask_length a,
-    )
+pub file_length : (c : Contents) → length (file_of c) ≡ length (network_fields c.network) + (length (tree_field c.tree) + length (ask_field c.ask))
+file_length c =
+    ap length (file_fields c)
+    ∙ omega (arith, length-append (network_fields c.network) (tree_field c.tree ++ ask_field c.ask), length-append (tree_field c.tree) (ask_field c.ask))
+
+-- what is left behind the last field, or that there is no room for it
+pub room_is : (o : Option ℕ) (left n size whole : ℕ) → size + n ≡ whole + left → MatchOption o (left < n) (λ r. r + n ≡ left)
+    → MatchOption o (size < whole) (λ r. whole ≤ size)
+room_is None left n size whole e h = omega arith
+room_is (Some r) left n size whole e h = omega arith

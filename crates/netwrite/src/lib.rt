@@ -1,211 +1,162 @@
 #![tactic(auto)]
-// The network file, written from lists that are lent: what is refused and by which number, how many bytes there are, and the bytes.
-ghost use Rattle.std.specs.Prelude.{cond, ◌≡◌, ◌+◌, ◌<◌, ◌≤◌, ltb, length};
-ghost use Rattle.spec.specs.Refusal.{code_of, first};
-ghost use Rattle.spec.specs.File.{write_checks, tree_field, ask_field};
-ghost use Rattle.network.specs.Checks.{Lent};
-ghost use Rattle.network.specs.Codes.{Facts};
+// The network file, written from lists that are lent: what is refused, how many bytes there are, and the bytes.
+ghost use Rattle.std.specs.Prelude.{◌≡◌, ◌+◌, ◌<◌, ◌≤◌, length, MatchOption};
+ghost use Rattle.spec.specs.Refusal.{first};
+ghost use Rattle.spec.specs.File.{write_checks, write_of, buffer_after, tree_checks, flags_checks, tree_field, ask_field, file_of};
+ghost use Rattle.spec.specs.Network.{leaf_count, index_count};
+ghost use Rattle.spec.specs.FileClaims.{Bytes};
+ghost use Rattle.network.specs.Views.{net_in};
+ghost use Rattle.payloads.specs.Payload.{verdict};
+ghost use Rattle.fields.specs.Scans.{ask_of};
 ghost use Rattle.putfields.specs.Put.{Put};
 ghost use Rattle.putfields.specs.Leaves.{leaf_bytes};
-ghost use Rattle.netwrite.specs.Contents.{TreeLent, AskLent, tree_of, ask_of, contents_of, network_fields};
-ghost use Rattle.netwrite.specs.Sizes.{Few, fixed_bytes};
-ghost use Rattle.netwrite.specs.Numbers.{tree_is_wrong, flags_are_wrong};
-ghost use Rattle.netwrite.specs.Answers.{Writes};
-ghost use Rattle.spec.specs.Layout.{network_of};
-ghost use Rattle.spec.specs.FileClaims.{Bytes};
+ghost use Rattle.netwrite.specs.Contents.{kids_of, parts_of, network_fields};
+ghost use Rattle.netwrite.specs.Sizes.{Few};
+ghost use Rattle.netwrite.specs.Writes.{AskFits, KidsFit};
 
-use network::{checks, refusal, scan};
-use payloads::tags;
+mod parts; // parts.rt: what a network file is written from
 
-// What the writer answers: the number of the refusal, or 0 and the cursor past the file.
-#[derive(Clone, Copy)]
-pub struct Wrote {
-    pub number: u8,
-    pub next: usize,
-}
+use fields::Asked;
+use network::Accepted;
+pub use parts::Parts;
+use payloads::tags::Tag;
+use spec::Refusal;
 
-// How many bytes the fields of n leaves take.
-fn leaf_bytes(n: usize, counts: &[u8]) -> usize
-    requires { Few n counts.now }
-    ensures { (result ≡ leaf_bytes n counts.now) × (result ≤ 4480) }
+// How many bytes the fields of the leaves take.
+fn leaf_bytes(counts: &[u8]) -> usize
+    requires { Few counts.now }
+    ensures { (result ≡ leaf_bytes (length counts.now) counts.now) × (result ≤ 4480) }
 {
     let mut sum = 0;
-    for i in 0..n {
-        sum += 3 + counts[i] as usize;
+    for count in counts {
+        sum += 3 + usize::from(*count);
     }
     sum
 }
 
-// A field's tag and length take three bytes, if the field is there.
-fn header_bytes(there: bool) -> usize
-    ensures { (result ≡ cond there 3 0) × (result ≤ 3) }
+// How many bytes the network's fields take.
+fn network_bytes(network: &Accepted) -> usize
+    ensures { result ≡ length (network_fields (net_in network.now)) }
 {
-    if there { 3 } else { 0 }
+    6 + network.index_count() + network.outputs.len() + leaf_bytes(network.leg_counts)
 }
 
-// How many bytes the file takes beside the payloads of its tree and of what it asks.
-fn fixed_bytes(m: usize, n: usize, o: usize, counts: &[u8], tree: bool, ask: u8) -> usize
-    requires { (m ≤ 256) × (o ≤ 32) × Few n counts.now }
-    ensures { result ≡ fixed_bytes m n o counts.now tree ask }
+// How many of the bytes are left behind a field of so many payload bytes, if there is room for it. No sum is made: it might not fit.
+fn after_field(left: usize, payload: usize) -> Option<usize>
+    ensures { MatchOption result (left < 3 + payload) (λ r. r + (3 + payload) ≡ left) }
 {
-    6 + m + o + leaf_bytes(n, counts) + header_bytes(tree) + header_bytes(ask != 0)
+    left.checked_sub(3)?.checked_sub(payload)
 }
 
-// Is a buffer of `size` bytes, from the cursor on, shorter than all three counts of bytes together. No sum is made of them.
-fn too_short(size: usize, cursor: usize, fixed: usize, tree: usize, ask: usize) -> bool
-    ensures { result ≡ ltb size (cursor + (fixed + (tree + ask))) }
+// How many are left behind the tree's field, if there is a tree.
+fn after_tree(left: usize, tree: Option<&[u16]>) -> Option<usize>
+    ensures { MatchOption result (left < length (tree_field (kids_of tree.entry))) (λ r. r + length (tree_field (kids_of tree.entry)) ≡ left) }
 {
-    if size < cursor {
-        return true;
+    match tree {
+        None => Some(left),
+        Some(kids) => after_field(left, kids.len()),
     }
-    let rest = size - cursor;
-    if rest < fixed {
-        return true;
-    }
-    let after = rest - fixed;
-    if after < tree {
-        return true;
-    }
-    after - tree < ask
 }
 
-// Is there a tree of n leaves that is not valid.
-fn wrong_tree(tree: bool, n: usize, kids: &[u16]) -> bool
-    requires { n ≤ 128 }
-    ensures { result ≡ tree_is_wrong tree n kids.now }
+// How many are left behind the field of what is asked, if anything is.
+fn after_ask(left: usize, ask: Asked) -> Option<usize>
+    ensures { MatchOption result (left < length (ask_field (ask_of ask.entry))) (λ r. r + length (ask_field (ask_of ask.entry)) ≡ left) }
 {
-    if !tree {
-        return false;
+    match ask {
+        Asked::Plain => Some(left),
+        Asked::Flagged(flags) => after_field(left, flags.len()),
+        Asked::Target(_) => after_field(left, 1),
     }
-    let mut words = [0u64; 2048];
-    !walk::is_tree(kids, n, &mut words)
 }
 
-// Are there more flags than m indices, or a flag over 1.
-fn wrong_flags(ask: u8, m: usize, payload: &[u8]) -> bool
-    ensures { result ≡ flags_are_wrong ask m payload.now }
+// How many bytes of a buffer of `size` are left behind the file, from the cursor on, if there is room for it.
+fn room_left(parts: &Parts, size: usize, cursor: usize) -> Option<usize>
+    ensures { MatchOption result (size < cursor + length (file_of (parts_of parts.now))) (λ r. cursor + length (file_of (parts_of parts.now)) ≤ size) }
 {
-    if ask != tags::FLAGS {
-        return false;
-    }
-    if m < payload.len() {
-        return true;
-    }
-    scan::above(payload, 1)
+    let left = size.checked_sub(cursor)?;
+    let behind = left.checked_sub(network_bytes(&parts.network))?;
+    after_ask(after_tree(behind, parts.tree)?, parts.ask)
 }
 
-// The number of the refusal, or 0, of a file that is to go into a buffer of `size` bytes from the cursor on.
-fn number<'a>(
-    m: usize,
-    n: usize,
-    o: usize,
-    weights: &'a [u8],
-    counts: &'a [u8],
-    legs: &'a [u16],
-    outputs: &'a [u16],
-    tree: bool,
-    kids: &[u16],
-    ask: u8,
-    payload: &[u8],
-    size: usize,
-    cursor: usize,
-) -> u8
-    requires { Lent weights.now counts.now legs.now outputs.now × TreeLent tree kids.now × AskLent ask payload.now }
-    ensures { result ≡ code_of (first (write_checks (contents_of m n o weights.now counts.now legs.now outputs.now tree kids.now ask payload.now) size cursor)) }
+// The tree of a network of n leaves, if there is one.
+fn check_tree(network: &Accepted, tree: Option<&[u16]>) -> Result<(), Refusal>
+    ensures { result ≡ verdict (first (tree_checks (net_in network.now) (kids_of tree.entry))) }
 {
-    let code = checks::number(m, n, o, weights, counts, legs, outputs);
-    if code != refusal::NONE {
-        return code;
+    match tree {
+        None => Ok(()),
+        Some(kids) => {
+            let mut words = [0u64; 2048];
+            if walk::is_tree(kids, network.leaf_count(), &mut words) {
+                Ok(())
+            } else {
+                Err(Refusal::InvalidTree)
+            }
+        }
     }
-    let fixed = fixed_bytes(m, n, o, counts, tree, ask);
-    if too_short(size, cursor, fixed, kids.len(), payload.len()) {
-        return refusal::SHORT_BUFFER;
+}
+
+// The flags of a network's indices, if flags are asked.
+fn check_ask(network: &Accepted, ask: Asked) -> Result<(), Refusal>
+    ensures { result ≡ verdict (first (flags_checks (net_in network.now) (ask_of ask.entry))) }
+{
+    match ask {
+        Asked::Plain | Asked::Target(_) => Ok(()),
+        Asked::Flagged(flags) => payloads::check_flags(flags, network.index_count()),
     }
-    if wrong_tree(tree, n, kids) {
-        return refusal::INVALID_TREE;
+}
+
+// A file that is to go into a buffer of `size` bytes from the cursor on.
+fn check(parts: &Parts, size: usize, cursor: usize) -> Result<(), Refusal>
+    ensures { result ≡ verdict (first (write_checks (parts_of parts.now) size cursor)) }
+{
+    if room_left(parts, size, cursor).is_none() {
+        return Err(Refusal::ShortBuffer);
     }
-    if wrong_flags(ask, m, payload) {
-        return refusal::INVALID_FLAGS;
-    }
-    refusal::NONE
+    check_tree(&parts.network, parts.tree)?;
+    check_ask(&parts.network, parts.ask)
 }
 
 // The fields of an accepted network.
-fn put_network<'a>(
-    out: &mut [u8],
-    at: usize,
-    m: usize,
-    n: usize,
-    o: usize,
-    weights: &'a [u8],
-    counts: &'a [u8],
-    legs: &'a [u16],
-    outputs: &'a [u16],
-) -> usize
-    requires { Lent weights.now counts.now legs.now outputs.now × Facts m n o weights.now counts.now legs.now outputs.now × (at + length (network_fields (network_of m n o weights.now counts.now legs.now outputs.now)) ≤ length out.old) }
-    ensures { Put out.old out.new at result (network_fields (network_of m n o weights.now counts.now legs.now outputs.now)) }
+fn put_network(out: &mut [u8], at: usize, network: &Accepted) -> usize
+    requires { at + length (network_fields (net_in network.now)) ≤ length out.old }
+    ensures { Put out.old out.new at result (network_fields (net_in network.now)) }
 {
-    let leaves = putfields::put_bytes(out, at, tags::WEIGHTS, &weights[..m]);
-    let last = putfields::put_leaves(out, leaves, n, counts, legs);
-    putfields::put_indices(out, last, tags::OUTPUTS, &outputs[..o])
+    let leaves = putfields::put_bytes(out, at, Tag::Weights, network.weights);
+    let last = putfields::put_leaves(out, leaves, network);
+    putfields::put_indices(out, last, Tag::Outputs, network.outputs)
 }
 
 // The field of the tree, if there is one.
-fn put_tree(out: &mut [u8], at: usize, tree: bool, kids: &[u16]) -> usize
-    requires { TreeLent tree kids.now × (length kids.now < 65536) × Bytes kids.now × (at + length (tree_field (tree_of tree kids.now)) ≤ length out.old) }
-    ensures { Put out.old out.new at result (tree_field (tree_of tree kids.now)) }
+fn put_tree(out: &mut [u8], at: usize, tree: Option<&[u16]>) -> usize
+    requires { KidsFit (kids_of tree) × (at + length (tree_field (kids_of tree)) ≤ length out.old) }
+    ensures { Put out.old out.new at result (tree_field (kids_of tree.entry)) }
 {
-    if !tree {
-        return at;
+    match tree {
+        None => at,
+        Some(kids) => putfields::put_indices(out, at, Tag::Tree, kids),
     }
-    putfields::put_indices(out, at, tags::TREE, kids)
 }
 
 // The field of what is asked, if anything is.
-fn put_ask(out: &mut [u8], at: usize, ask: u8, payload: &[u8]) -> usize
-    requires { AskLent ask payload.now × (length payload.now < 65536) × (at + length (ask_field (ask_of ask payload.now)) ≤ length out.old) }
-    ensures { Put out.old out.new at result (ask_field (ask_of ask payload.now)) }
+fn put_ask(out: &mut [u8], at: usize, ask: Asked) -> usize
+    requires { AskFits (ask_of ask) × (at + length (ask_field (ask_of ask)) ≤ length out.old) }
+    ensures { Put out.old out.new at result (ask_field (ask_of ask.entry)) }
 {
-    if ask == 0 {
-        return at;
+    match ask {
+        Asked::Plain => at,
+        Asked::Flagged(flags) => putfields::put_bytes(out, at, Tag::Flags, flags),
+        Asked::Target(bits) => putfields::put_bytes(out, at, Tag::Target, &[bits]),
     }
-    putfields::put_bytes(out, at, ask, payload)
 }
 
-// Writes the file of an accepted network, of its tree, if there is one, and of what is asked, from the cursor on; or refuses, and writes
-// nothing.
-pub fn write<'a>(
-    m: usize,
-    n: usize,
-    o: usize,
-    weights: &'a [u8],
-    counts: &'a [u8],
-    legs: &'a [u16],
-    outputs: &'a [u16],
-    tree: bool,
-    kids: &[u16],
-    ask: u8,
-    payload: &[u8],
-    out: &mut [u8],
-    cursor: usize,
-) -> Wrote
-    requires { Lent weights.now counts.now legs.now outputs.now × TreeLent tree kids.now × AskLent ask payload.now }
-    ensures { Writes (contents_of m n o weights.now counts.now legs.now outputs.now tree kids.now ask payload.now) cursor out.old out.new result }
+/// Writes the file of an accepted network, of its tree, if there is one, and of what is asked, from the cursor on, and answers the cursor past
+/// it; or refuses, in this order, a buffer that is too short, a tree that is not the network's, wrong flags, and writes nothing.
+pub fn write(parts: &Parts, out: &mut [u8], cursor: usize) -> Result<usize, Refusal>
+    ensures answer { result ≡ write_of (parts_of parts.now) (length out.old) cursor }
+    ensures buffer { out.new ≡ buffer_after (parts_of parts.now) cursor (write_of (parts_of parts.now) (length out.old) cursor) out.old }
 {
-    let size = out.len();
-    let code = number(
-        m, n, o, weights, counts, legs, outputs, tree, kids, ask, payload, size, cursor,
-    );
-    if code != refusal::NONE {
-        return Wrote {
-            number: code,
-            next: 0,
-        };
-    }
-    let next = put_network(out, cursor, m, n, o, weights, counts, legs, outputs);
-    let last = put_tree(out, next, tree, kids);
-    Wrote {
-        number: refusal::NONE,
-        next: put_ask(out, last, ask, payload),
-    }
+    check(parts, out.len(), cursor)?;
+    let next = put_network(out, cursor, &parts.network);
+    let last = put_tree(out, next, parts.tree);
+    Ok(put_ask(out, last, parts.ask))
 }

@@ -1,2 +1,3 @@
--- The payloads of a network file's fields: which refusal each brings, and laws. Assumes nothing.
+-- The payloads of a network file's fields: which refusal each brings, the tags, and laws. Assumes nothing.
+pub mod Tags
 pub mod Payload

@@ -1,5 +1,5 @@
 -- Which refusal a field's payload brings: definitions, and laws of the loop that looks at indices. Assumes nothing.
-use Rattle.std.specs.Prelude.{Bool, not, ◌||◌, cond, List, [], ◌∷◌, ◌≡◌, refl, ℕ, zero, suc, ◌+◌, ◌<◌, ◌≤◌, eqb, ltb, leb, length, get_or, take, drop, Option, None, Some}
+use Rattle.std.specs.Prelude.{Bool, not, ◌||◌, cond, List, [], ◌∷◌, ◌≡◌, refl, ℕ, zero, suc, ◌+◌, ◌<◌, ◌≤◌, eqb, ltb, leb, length, get_or, take, drop, Option, None, Some, Result, Ok, Err}
 use Rattle.std.proofs.Math.Bool.{true, false}
 use Rattle.spec.specs.declared.Refusal.{Refusal}
 use Rattle.spec.specs.declared.Refusal.TheVariants.{TooLarge, OutOfRange, Repeated, InvalidTree, InvalidFlags}
@@ -8,7 +8,7 @@ use Rattle.std.proofs.Math.Decide.{dec_le}
 use Rattle.std.proofs.Math.Seq.{drop-length}
 use Rattle.std.proofs.lemmas.Bool.{eqb-false}
 use Rattle.spec.specs.Lists.{memb, anyb}
-use Rattle.spec.specs.Refusal.{check, first, code_of}
+use Rattle.spec.specs.Refusal.{check, first, decide}
 use Rattle.spec.specs.Network.{max_leaves, max_legs, max_outputs}
 use Rattle.spec.specs.Calls.{wrong_tree}
 use Rattle.spec.specs.File.{weights_checks, index_checks, index_bytes}
@@ -16,6 +16,10 @@ use Rattle.spec.specs.Memory.{over, placed}
 use Rattle.cells.specs.Cells.{over_length, placed_there}
 use Rattle.walk.specs.Wrong.{few, other_length}
 use Rattle.laws.specs.Booleans.{by_cases, or_introl, or_intror}
+
+-- a check's answer: nothing, or the refusal
+abbrev pub verdict : Option Refusal → Result (Unit {0}) Refusal
+verdict o = decide o (Ok tt)
 
 unfoldable pub weights_refusal : List ℕ → Option Refusal
 weights_refusal l = first (weights_checks l)
@@ -85,23 +89,23 @@ unfolding placed
 copied_front d s y e h = ap (take (length s)) e ∙ placed_there d s 0 (omega (arith, ap length e, over_length d s))
 
 module _ (n : ℕ) (l : List ℕ) where
-  tree_code : (b : Bool) → wrong_tree n l ≡ b → code_of (tree_refusal n l) ≡ cond b 8 0
+  tree_answer : (b : Bool) → wrong_tree n l ≡ b → verdict (tree_refusal n l) ≡ cond b (Err InvalidTree) (Ok tt)
   unfolding tree_refusal
-  tree_code true e = rw e
-  tree_code false e = rw e
+  tree_answer true e = rw e
+  tree_answer false e = rw e
 
   turned : (w b : Bool) → b ≡ not w → w ≡ not b
   turned true b e = ap not (sym e)
   turned false b e = ap not (sym e)
 
-  pub tree_right : {b : Bool} → b ≡ not (wrong_tree n l) → b ≡ true → 0 ≡ code_of (tree_refusal n l)
-  tree_right e t = sym (tree_code false (turned (wrong_tree n l) true (sym t ∙ e)))
+  pub tree_right : {b : Bool} → b ≡ not (wrong_tree n l) → b ≡ true → Ok tt ≡ verdict (tree_refusal n l)
+  tree_right e t = sym (tree_answer false (turned (wrong_tree n l) true (sym t ∙ e)))
 
-  pub tree_wrong : {b : Bool} → b ≡ not (wrong_tree n l) → b ≡ false → 8 ≡ code_of (tree_refusal n l)
-  tree_wrong e f = sym (tree_code true (turned (wrong_tree n l) false (sym f ∙ e)))
+  pub tree_wrong : {b : Bool} → b ≡ not (wrong_tree n l) → b ≡ false → Err InvalidTree ≡ verdict (tree_refusal n l)
+  tree_wrong e f = sym (tree_answer true (turned (wrong_tree n l) false (sym f ∙ e)))
 
   -- more children than 128 leaves can have
-  pub tree_long : n ≤ 128 → 256 < length l → 8 ≡ code_of (tree_refusal n l)
+  pub tree_long : n ≤ 128 → 256 < length l → Err InvalidTree ≡ verdict (tree_refusal n l)
   tree_long h k =
       elim (dec_le 2 n) [
         | yes q ↦ tree_wrong (other_length n l q (λ e. omega arith)) refl

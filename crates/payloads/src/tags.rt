@@ -1,12 +1,57 @@
-// The tags of a network file's fields, in the order in which they stand.
-pub const WEIGHTS: u8 = 1;
+// The tags of a network file's fields.
+ghost use Rattle.std.specs.Prelude.{◌≡◌};
+ghost use Rattle.payloads.specs.Tags.{tag_number, NamesTag};
 
-pub const LEAF: u8 = 2;
+use spec::Refusal;
 
-pub const OUTPUTS: u8 = 3;
+/// The tag of a field, in the order in which the fields stand in a file.
+#[derive(Clone, Copy, Debug, PartialEq, Eq)]
+pub enum Tag {
+    /// the weights of the indices, a byte each
+    Weights,
+    /// the indices of one leaf, a byte each
+    Leaf,
+    /// the outputs, a byte each
+    Outputs,
+    /// a tree, two bytes a node
+    Tree,
+    /// flags, a byte an index
+    Flags,
+    /// a target, one byte
+    Target,
+}
 
-pub const TREE: u8 = 4;
+impl Tag {
+    /// The byte that stands in a file: 1 to 6.
+    pub fn number(self) -> u8
+        ensures { result ≡ tag_number self }
+    {
+        match self {
+            Tag::Weights => 1,
+            Tag::Leaf => 2,
+            Tag::Outputs => 3,
+            Tag::Tree => 4,
+            Tag::Flags => 5,
+            Tag::Target => 6,
+        }
+    }
+}
 
-pub const FLAGS: u8 = 5;
+/// The tag that a byte names; one that names none is refused as a wrong tag.
+impl TryFrom<u8> for Tag {
+    type Error = Refusal;
 
-pub const TARGET: u8 = 6;
+    ghost try_from_gives = { NamesTag };
+
+    fn try_from(byte: u8) -> Result<Tag, Refusal> {
+        match byte {
+            1 => Ok(Tag::Weights),
+            2 => Ok(Tag::Leaf),
+            3 => Ok(Tag::Outputs),
+            4 => Ok(Tag::Tree),
+            5 => Ok(Tag::Flags),
+            6 => Ok(Tag::Target),
+            _ => Err(Refusal::WrongTag),
+        }
+    }
+}

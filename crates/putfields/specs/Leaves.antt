@@ -8,7 +8,11 @@ use Rattle.spec.specs.Network.{max_legs}
 use Rattle.spec.specs.Layout.{row_at}
 use Rattle.spec.specs.File.{field, leaf_fields}
 use Rattle.spec.specs.FileClaims.{Bytes}
+use Rattle.spec.specs.Layout.{network_of}
 use Rattle.network.specs.Checks.{Rows, leaves_of}
+use Rattle.network.specs.Lists.{Holds}
+use Rattle.network.specs.Views.{net_in, in_rows, in_facts}
+use Rattle.network.specs.declared.accepted.Accepted.{Accepted}
 use Rattle.laws.specs.LayoutLaws.{firsts_length, firsts_at, map-range_more}
 use Rattle.laws.specs.FileBytes.{all_bytes}
 use Rattle.putfields.specs.Put.{Put, put_both, put_none, put_length}
@@ -109,3 +113,15 @@ pub leaves_end : {d out : List ℕ} {at next n i : ℕ} {counts cells : List ℕ
 leaves_end {d} {out} {at} {next} {n} {i} {counts} {cells} p h =
     let e : i ≡ n = omega (arith, p.within) in
     subst (λ (k : ℕ). Put d out at next (leaf_fields (leaves_of k counts cells))) e p.bytes
+
+-- ---- an accepted network's leaves ----
+
+module _ (a : Accepted) where
+  pub leaves_are : (net_in a).leaves ≡ leaves_of (length a.leg_counts.now) a.leg_counts.now a.legs.now
+  unfolding network_of leaves_of
+  leaves_are = refl
+
+  pub accepted_leaves : Holds a.weights.now a.leg_counts.now a.legs.now a.outputs.now → Leaves (length a.leg_counts.now) a.leg_counts.now a.legs.now
+  accepted_leaves h =
+      let f = in_facts a h in
+      record { rows = in_rows a h; small = λ i k x y. omega (arith, f.in_range i k x y, f.few_indices) }

@@ -1,6 +1,7 @@
 -- Numbers and the lines of steps, put one after another, and how long they are. Assumes nothing.
-use Rattle.std.specs.Prelude.{◌≡◌, refl, Bool, true, false, cond, ℕ, ◌+◌, ◌*◌, ◌-◌, ◌<◌, ◌≤◌, length, get_or}
-use Rattle.std.proofs.Common.{sym, ◌∙◌, subst, zero-add, arith, length-append}
+use Rattle.std.specs.Prelude.{◌≡◌, refl, Bool, true, false, cond, ℕ, ◌+◌, ◌*◌, ◌-◌, ◌<◌, ◌≤◌, length, get_or, take}
+use Rattle.std.proofs.Common.{sym, ◌∙◌, subst, zero-add, add-one, arith, length-append}
+use Rattle.std.proofs.Math.Seq.{take-suc}
 use Rattle.std.proofs.Math.Path.{ap}
 use mathlib.Core.List.{List, [], ◌∷◌, ◌++◌, map, append-nil, append_assoc}
 use Rattle.spec.specs.Lists.{keep, from, range}
@@ -10,7 +11,8 @@ use Rattle.laws.specs.TextLaws.{decimal_length}
 use Rattle.laws.specs.LayoutLaws.{map-range_more}
 use Rattle.slots.specs.Slots.{held}
 use Rattle.slots.specs.Rising.{keep-add}
-use Rattle.putfields.specs.Put.{Put, put_both, put_none}
+use Rattle.steplines.specs.declared.digits.Text.{Text}
+use Rattle.steplines.specs.Puts.{Puts, puts_none, puts_both, puts_as}
 use Rattle.steplines.specs.Digits.{spaced_one, spaced-append}
 use Rattle.steplines.specs.Steps.{step_from, steps_from}
 
@@ -29,21 +31,14 @@ unfolding lines_of
 lines_one f x = append-nil (f x)
 
 -- numbers, and then more numbers
-pub put_numbers : {d o₁ o₂ : List ℕ} {at n₁ n₂ : ℕ} (k l : List ℕ) → Put d o₁ at n₁ (spaced k) → Put o₁ o₂ n₁ n₂ (spaced l) → Put d o₂ at n₂ (spaced (k ++ l))
-put_numbers {d} {o₁} {o₂} {at} {n₁} {n₂} k l p q = subst (Put d o₂ at n₂) (sym (spaced-append k l)) (put_both p q)
-
--- the same by an equation
-pub put_same : {A : Type 0} {d o : List ℕ} {at n : ℕ} {x y : A} (f : A → List ℕ) → x ≡ y → Put d o at n (f x) → Put d o at n (f y)
-put_same {A} {d} {o} {at} {n} f e p = subst (λ (z : A). Put d o at n (f z)) e p
+pub put_numbers : {s t u : Text} (k l : List ℕ) → Puts s (spaced k) t → Puts t (spaced l) u → Puts s (spaced (k ++ l)) u
+put_numbers k l p q = puts_as (sym (spaced-append k l)) (puts_both p q)
 
 -- ---- lengths ----
 
 -- a number of 16 bits, and its space
 pub entry_length : (x : ℕ) → x < 65536 → length (spaced (x ∷ [])) ≤ 6
 entry_length x h = omega (arith, ap length (spaced_one x), decimal_length 4 x (omega arith))
-
-pub entry_put : {d o : List ℕ} {at n x y : ℕ} → x ≡ y → x < 65536 → Put d o at n (spaced (x ∷ [])) → Put d o at n (spaced (y ∷ [])) × (n ≤ at + 6)
-entry_put {d} {o} {at} {n} {x} {y} e h p = (put_same (λ (z : ℕ). spaced (z ∷ [])) e p, omega (arith, p.past, entry_length x h))
 
 -- some of the numbers of a list
 keep_shorter : (p : ℕ → Bool) (l : List ℕ) → length (spaced (keep p l)) ≤ length (spaced l)
@@ -67,53 +62,50 @@ kept_length p m h =
     ap (λ (n : ℕ). spaced (keep p (range n))) (sym e) ∙ ap spaced (keep-add p 0 m (256 - m)) ∙ spaced-append (keep p (range m)) rest in
     omega (arith, keep_shorter p (range 256), ap length f, length-append (spaced (keep p (range m))) (spaced rest), all_indices)
 
+-- ---- the numbers of a list ----
+
+pub numbers_none : (s : Text) (l : List ℕ) → Puts s (spaced (take 0 l)) s
+unfolding spaced
+numbers_none s l = puts_none s
+
+pub numbers_more : {s t u : Text} (l : List ℕ) (i x : ℕ) → i < length l → get_or l i 0 ≡ x → Puts s (spaced (take i l)) t → Puts t (spaced (x ∷ [])) u
+    → Puts s (spaced (take (i + 1) l)) u
+numbers_more l i x h e p q =
+    puts_as (ap spaced (sym (ap (λ (k : ℕ). take k l) (add-one i) ∙ take-suc l i 0 h ∙ ap (λ (y : ℕ). take i l ++ (y ∷ [])) e)))
+    (put_numbers (take i l) (x ∷ []) p q)
+
 -- ---- indices that pass a test ----
 
-pub member_in : {d o : List ℕ} {at n : ℕ} (b : Bool) (j : ℕ) → b ≡ true → Put d o at n (spaced (j ∷ [])) → Put d o at n (spaced (cond b (j ∷ []) []))
+pub member_in : {s t : Text} (b : Bool) (j : ℕ) → b ≡ true → Puts s (spaced (j ∷ [])) t → Puts s (spaced (cond b (j ∷ []) [])) t
 member_in b j e p = rw e p
 
-pub member_out : (b : Bool) (d : List ℕ) (at j : ℕ) → b ≡ false → Put d d at at (spaced (cond b (j ∷ []) []))
+pub member_out : (b : Bool) (s : Text) (j : ℕ) → b ≡ false → Puts s (spaced (cond b (j ∷ []) [])) s
 unfolding spaced
-member_out b d at j e = rw e (put_none d at)
+member_out b s j e = rw e (puts_none s)
 
 -- the loops over the indices: none yet, one more
-pub kept_none : (d : List ℕ) (at : ℕ) (p : ℕ → Bool) → Put d d at at (spaced (keep p (range 0)))
+pub kept_none : (s : Text) (p : ℕ → Bool) → Puts s (spaced (keep p (range 0))) s
 unfolding spaced
-kept_none d at p = put_none d at
+kept_none s p = puts_none s
 
-pub kept_more : {d o₁ o₂ : List ℕ} {at n₁ n₂ : ℕ} (p : ℕ → Bool) (j : ℕ) → Put d o₁ at n₁ (spaced (keep p (range j)))
-    → Put o₁ o₂ n₁ n₂ (spaced (cond (p j) (j ∷ []) [])) → Put d o₂ at n₂ (spaced (keep p (range (j + 1))))
-kept_more {d} {o₁} {o₂} {at} {n₁} {n₂} p j a b =
-    subst (λ (l : List ℕ). Put d o₂ at n₂ (spaced l)) (sym (keep_more p j)) (put_numbers (keep p (range j)) (cond (p j) (j ∷ []) []) a b)
-
--- all of m
-pub kept_end : {d o : List ℕ} {at n : ℕ} (p : ℕ → Bool) (j m : ℕ) → j ≡ m → m ≤ 256 → Put d o at n (spaced (keep p (range j)))
-    → Put d o at n (spaced (keep p (range m))) × (n ≤ at + 914)
-kept_end {d} {o} {at} {n} p j m e h a =
-    let b : Put d o at n (spaced (keep p (range m))) = put_same (λ (k : ℕ). spaced (keep p (range k))) e a in
-    (b, omega (arith, b.past, kept_length p m h))
+pub kept_more : {s t u : Text} (p : ℕ → Bool) (j : ℕ) → Puts s (spaced (keep p (range j))) t → Puts t (spaced (cond (p j) (j ∷ []) [])) u
+    → Puts s (spaced (keep p (range (j + 1)))) u
+kept_more p j a b = puts_as (ap spaced (sym (keep_more p j))) (put_numbers (keep p (range j)) (cond (p j) (j ∷ []) []) a b)
 
 -- ---- steps ----
 
-pub five_put : {s₀ s₁ s₂ s₃ s₄ s₅ : List ℕ} {n₀ n₁ n₂ n₃ n₄ n₅ : ℕ} (a b c d e : ℕ) → Put s₀ s₁ n₀ n₁ (spaced (a ∷ [])) → Put s₁ s₂ n₁ n₂ (spaced (b ∷ []))
-    → Put s₂ s₃ n₂ n₃ (spaced (c ∷ [])) → Put s₃ s₄ n₃ n₄ (spaced (d ∷ [])) → Put s₄ s₅ n₄ n₅ (spaced (e ∷ []))
-    → Put s₀ s₅ n₀ n₅ (spaced (a ∷ b ∷ c ∷ d ∷ e ∷ []))
-five_put a b c d e p q r s t =
-    put_numbers (a ∷ []) (b ∷ c ∷ d ∷ e ∷ []) p
-    (put_numbers (b ∷ []) (c ∷ d ∷ e ∷ []) q (put_numbers (c ∷ []) (d ∷ e ∷ []) r (put_numbers (d ∷ []) (e ∷ []) s t)))
-
 module _ (steps sets : List ℕ) (W m : ℕ) where
-  pub step_put : {d o₁ o₂ o₃ o₄ : List ℕ} {at n₁ n₂ n₃ n₄ : ℕ} (k v : ℕ) → v ≡ get_or steps (k * 5) 0
-      → Put d o₁ at n₁ (ascii "step")
-      → Put o₁ o₂ n₁ n₂ (spaced (get_or steps (k * 5) 0 ∷ get_or steps (k * 5 + 1) 0 ∷ get_or steps (k * 5 + 2) 0 ∷ get_or steps (k * 5 + 3) 0 ∷ get_or steps (k * 5 + 4) 0 ∷ []))
-      → Put o₂ o₃ n₂ n₃ (spaced (keep (held sets W v) (range m))) → Put o₃ o₄ n₃ n₄ (10 ∷ [])
-      → Put d o₄ at n₄ (step_line (step_from steps sets W m k))
-  step_put {d} {o₁} {o₂} {o₃} {o₄} {at} {n₁} {n₂} {n₃} {n₄} k v e p q r s =
-      put_both p (put_both (put_numbers _ _ q (subst (λ (x : ℕ). Put o₂ o₃ n₂ n₃ (spaced (keep (held sets W x) (range m)))) e r)) s)
+  pub step_put : {s₀ s₁ s₂ s₃ s₄ : Text} (k v : ℕ) → v ≡ get_or steps (k * 5) 0
+      → Puts s₀ (ascii "step") s₁
+      → Puts s₁ (spaced (get_or steps (k * 5) 0 ∷ get_or steps (k * 5 + 1) 0 ∷ get_or steps (k * 5 + 2) 0 ∷ get_or steps (k * 5 + 3) 0 ∷ get_or steps (k * 5 + 4) 0 ∷ [])) s₂
+      → Puts s₂ (spaced (keep (held sets W v) (range m))) s₃ → Puts s₃ (10 ∷ []) s₄
+      → Puts s₀ (step_line (step_from steps sets W m k)) s₄
+  step_put {s₀} {s₁} {s₂} {s₃} {s₄} k v e p q r s =
+      puts_both p (puts_both (put_numbers _ _ q (subst (λ (x : ℕ). Puts s₂ (spaced (keep (held sets W x) (range m))) s₃) e r)) s)
 
-  pub steps_none : (d : List ℕ) (at : ℕ) → Put d d at at (lines_of step_line (steps_from steps sets W m 0))
+  pub steps_none : (s : Text) → Puts s (lines_of step_line (steps_from steps sets W m 0)) s
   unfolding lines_of steps_from
-  steps_none d at = put_none d at
+  steps_none s = puts_none s
 
   steps_next : (k : ℕ) → lines_of step_line (steps_from steps sets W m (k + 1))
       ≡ lines_of step_line (steps_from steps sets W m k) ++ step_line (step_from steps sets W m k)
@@ -123,6 +115,6 @@ module _ (steps sets : List ℕ) (W m : ℕ) where
       ∙ lines_append step_line (map (step_from steps sets W m) (range k)) (step_from steps sets W m k ∷ [])
       ∙ ap (λ (l : List ℕ). lines_of step_line (map (step_from steps sets W m) (range k)) ++ l) (lines_one step_line (step_from steps sets W m k))
 
-  pub steps_more : {d o₁ o₂ : List ℕ} {at n₁ n₂ : ℕ} (k : ℕ) → Put d o₁ at n₁ (lines_of step_line (steps_from steps sets W m k))
-      → Put o₁ o₂ n₁ n₂ (step_line (step_from steps sets W m k)) → Put d o₂ at n₂ (lines_of step_line (steps_from steps sets W m (k + 1)))
-  steps_more {d} {o₁} {o₂} {at} {n₁} {n₂} k p q = subst (Put d o₂ at n₂) (sym (steps_next k)) (put_both p q)
+  pub steps_more : {s t u : Text} (k : ℕ) → Puts s (lines_of step_line (steps_from steps sets W m k)) t
+      → Puts t (step_line (step_from steps sets W m k)) u → Puts s (lines_of step_line (steps_from steps sets W m (k + 1))) u
+  steps_more k p q = puts_as (sym (steps_next k)) (puts_both p q)

@@ -1,62 +1,85 @@
-// Words and decimal numbers put into a lent buffer, from a cursor on. What stands before the cursor stays, and past the end nothing is put.
-ghost use Rattle.std.specs.Prelude.{◌∷◌, [], ◌+◌, ◌≤◌, length};
+// Words and decimal numbers written to a lent buffer, one after another.
+ghost use Rattle.std.specs.Prelude.{◌≡◌, ◌∷◌, [], ◌+◌, ◌≤◌, length};
 ghost use Rattle.spec.specs.Text.{decimal, spaced, line_of};
-ghost use Rattle.putfields.specs.Put.{Put};
+ghost use Rattle.steplines.specs.Puts.{Puts};
 
-// One byte.
-pub fn put_byte(out: &mut [u8], at: usize, x: u8) -> usize
-    requires { at ≤ 8589934592 }
-    ensures { Put out.old out.new at result (x ∷ []) }
-{
-    cells::place8(out, at, &[x]);
-    at + 1
+use itoa::Buffer;
+
+/// A lent buffer that is written from its front, and how many bytes were put so far. Past the buffer's end nothing is written, and the count
+/// goes on: a buffer that is shorter than the text gets the text's front.
+#[derive(Drop)]
+pub struct Text<'a> {
+    buffer: &'a mut [u8],
+    len: usize,
 }
 
-// The bytes of a word.
-pub fn put_word(out: &mut [u8], at: usize, word: &[u8]) -> usize
-    requires { (at ≤ 8589934592) × (length word.now ≤ 64) }
-    ensures { Put out.old out.new at result word.now }
-{
-    cells::place8(out, at, word);
-    at + word.len()
-}
-
-// A number in decimal: the digits above the last one, then the last.
-pub fn put_decimal(out: &mut [u8], at: usize, x: u64) -> usize
-    requires { at ≤ 4294967296 }
-    ensures { Put out.old out.new at result (decimal x) × (result ≤ at + 20) }
-{
-    if x < 10 {
-        return put_byte(out, at, 48 + x as u8);
+impl<'a> Text<'a> {
+    /// A text of no bytes yet.
+    pub fn new(buffer: &'a mut [u8]) -> Text<'a>
+        ensures same { result.buffer.ghost_name ≡ buffer.entry.ghost_name }
+        ensures bytes { result.buffer.now ≡ buffer.old }
+        ensures empty { result.len ≡ 0 }
+    {
+        Text { buffer, len: 0 }
     }
-    let next = put_decimal(out, at, x / 10);
-    put_byte(out, next, 48 + (x % 10) as u8)
-}
 
-// A space and a number.
-pub fn put_number(out: &mut [u8], at: usize, x: u64) -> usize
-    requires { at ≤ 4294967295 }
-    ensures { Put out.old out.new at result (spaced (x ∷ [])) × (result ≤ at + 21) }
-{
-    let next = put_byte(out, at, 32);
-    put_decimal(out, next, x)
-}
+    /// How many bytes the text has, those past the buffer's end too.
+    #[inline]
+    pub fn len(&self) -> usize
+        ensures { result ≡ self.now.len }
+    {
+        self.len
+    }
 
-// A line of a word.
-pub fn put_bare_line(out: &mut [u8], at: usize, word: &[u8]) -> usize
-    requires { (at ≤ 4294967040) × (length word.now ≤ 64) }
-    ensures { Put out.old out.new at result (line_of word.now []) × (result ≤ at + 65) }
-{
-    let next = put_word(out, at, word);
-    put_byte(out, next, 10)
-}
+    /// Puts the bytes of a word.
+    pub fn put_word(&mut self, word: &[u8])
+        requires { (self.old.len ≤ 8589934592) × (length word.now ≤ 64) }
+        ensures { Puts self.old word.now self.new }
+    {
+        let at = self.len;
+        let buffer = &mut *self.buffer;
+        cells::place(buffer, at, word);
+        self.len = at + word.len();
+    }
 
-// A line of a word and a number.
-pub fn put_line(out: &mut [u8], at: usize, word: &[u8], x: u64) -> usize
-    requires { (at ≤ 4294967040) × (length word.now ≤ 64) }
-    ensures { Put out.old out.new at result (line_of word.now (x ∷ [])) × (result ≤ at + 86) }
-{
-    let next = put_word(out, at, word);
-    let end = put_number(out, next, x);
-    put_byte(out, end, 10)
+    /// Puts a number in decimal.
+    pub fn put_decimal(&mut self, x: u64)
+        requires { self.old.len ≤ 4294967296 }
+        ensures written { Puts self.old (decimal x) self.new }
+        ensures short { self.new.len ≤ self.old.len + 20 }
+    {
+        let mut digits = Buffer::new();
+        self.put_word(digits.format(x).as_bytes());
+    }
+
+    /// Puts a space and a number.
+    pub fn put_number(&mut self, x: u64)
+        requires { self.old.len ≤ 4294967295 }
+        ensures written { Puts self.old (spaced (x ∷ [])) self.new }
+        ensures short { self.new.len ≤ self.old.len + 21 }
+    {
+        self.put_word(b" ");
+        self.put_decimal(x);
+    }
+
+    /// Puts a line of a word.
+    pub fn put_bare_line(&mut self, word: &[u8])
+        requires { (self.old.len ≤ 4294967040) × (length word.now ≤ 64) }
+        ensures written { Puts self.old (line_of word.now []) self.new }
+        ensures short { self.new.len ≤ self.old.len + 65 }
+    {
+        self.put_word(word);
+        self.put_word(b"\n");
+    }
+
+    /// Puts a line of a word and a number.
+    pub fn put_line(&mut self, word: &[u8], x: u64)
+        requires { (self.old.len ≤ 4294967040) × (length word.now ≤ 64) }
+        ensures written { Puts self.old (line_of word.now (x ∷ [])) self.new }
+        ensures short { self.new.len ≤ self.old.len + 86 }
+    {
+        self.put_word(word);
+        self.put_number(x);
+        self.put_word(b"\n");
+    }
 }

@@ -3,8 +3,7 @@ use Rattle.std.specs.Prelude.{List, ℕ, ◌-◌}
 use Rattle.spec.specs.Lists.{range, keep}
 use Rattle.spec.specs.Calls.{flag_at}
 use Rattle.spec.specs.Program.{Printed}
-use Rattle.pricing.specs.declared.Prices.{Prices}
-use Rattle.cost.specs.Back.{prices_from}
+use Rattle.spec.specs.declared.Prices.{Prices}
 use Rattle.steplines.specs.Steps.{steps_from}
 
 -- n leaves, m indices, W words a set
@@ -14,10 +13,10 @@ printed_from n m W prices steps sets flags improved splits =
       leaves = n;
       indices = m;
       steps = steps_from steps sets W m (n - 1);
-      total = (prices_from prices).total;
-      widest = (prices_from prices).widest;
+      total = prices.total;
+      widest = prices.widest;
       slices = keep (flag_at flags) (range m);
-      bits = (prices_from prices).slice_bits;
+      bits = prices.slice_bits;
       improved = improved;
       splits = splits;
     }

@@ -9,7 +9,7 @@ use Rattle.spec.specs.Calls.{flag_at, node_places, step_places}
 use Rattle.spec.specs.Slicing.{Plan}
 use Rattle.spec.specs.Program.{Printed, printed}
 use Rattle.spec.specs.Text.{plan_text, output_of}
-use Rattle.pricing.specs.declared.Prices.{Prices as HandedPrices}
+use Rattle.spec.specs.declared.Prices.{Prices}
 use Rattle.pricing.specs.Promise.{Pricing}
 use Rattle.putfields.specs.Put.{Put}
 use Rattle.text.specs.Lists.{printed_from}
@@ -18,7 +18,7 @@ use Rattle.text.specs.Flags.{printed_same}
 
 module _ (W : ℕ) (N : Network) (within : InRange N) (fits : index_count N ≤ W * 64) (p : Plan) (fine : valid (leaf_count N) p.tree ≡ true)
     (flags : List ℕ) (agree : (j : ℕ) → j < index_count N → flag_at flags j ≡ p.flag j)
-    {sets₀ sizes₀ works₀ steps₀ sets sizes works steps : List ℕ} {r : HandedPrices}
+    {sets₀ sizes₀ works₀ steps₀ sets sizes works steps : List ℕ} {r : Prices}
     (priced : Pricing W N (flag_at flags) p.tree sets₀ sizes₀ works₀ steps₀ sets sizes works steps r)
     (room : node_places N * W ≤ length sets₀) (long : step_places N * 5 ≤ length steps₀) where
   -- THE BYTES THAT ARE WRITTEN ARE THE PLAN'S OUTPUT

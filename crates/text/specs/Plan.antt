@@ -18,7 +18,6 @@ use Rattle.spec.specs.Program.{Printed, printed}
 use Rattle.spec.specs.Text.{plan_text}
 use Rattle.laws.specs.Booleans.{or_intror}
 use Rattle.laws.specs.ListLaws.{memb_head, memb-keep-range, keep_ext}
-use Rattle.laws.specs.Results.{done_same}
 use Rattle.laws.specs.Walks.{valid_tree}
 use Rattle.laws.specs.Arrays.{valid_inner}
 use Rattle.laws.specs.OrderLaws.{valid_length, listing_length_lem, listing_is_order}
@@ -27,12 +26,8 @@ use Rattle.laws.specs.MemberLaws.{all_at}
 use Rattle.cells.specs.Cells.{over_at}
 use Rattle.slots.specs.Slots.{held}
 use Rattle.nodesets.specs.Sets.{held-with_sets}
-use Rattle.pricing.specs.declared.Prices.{Prices as HandedPrices}
-use Rattle.pricing.specs.Answers.{prices_of}
 use Rattle.pricing.specs.Promise.{PriceList, Pricing}
 use Rattle.pricing.specs.Handed.{flat_length}
-use Rattle.cost.specs.declared.Priced.TheVariants.{Done}
-use Rattle.cost.specs.Back.{prices_from, of_done}
 use Rattle.putfields.specs.Put.{Put}
 use Rattle.steplines.specs.Steps.{step_from, steps_from}
 use Rattle.text.specs.Lists.{printed_from}
@@ -133,9 +128,6 @@ module _ (W : ℕ) (N : Network) (flag : ℕ → Bool) (a : List Pair) (fine : v
       ext_get_or no_step (map f (range (step_places N))) (listing N flag a) (m ∙ sym n)
       (λ k h. map_range_at f no_step (step_places N) k (omega arith) ∙ step_is k (omega arith))
 
-prices_are : (h : HandedPrices) (p : Prices) → h ≡ prices_of p → prices_from h ≡ p
-prices_are h p e = sym (done_same p (prices_from h) (of_done (Ok p) (ap Done e)))
-
 -- ---- what is printed ----
 
 -- the plan of a tree with flags from a list, and improvement's counts
@@ -144,12 +136,12 @@ plan_from a flags improved splits = record { tree = a; flag = flag_at flags; reb
 
 -- WHAT IS WRITTEN IS THE PLAN'S TEXT: after pricing with these flags, `put_plan` leaves the definition's bytes in front of the buffer
 module _ (W : ℕ) (N : Network) (flags : List ℕ) (a : List Pair) (fine : valid (leaf_count N) a ≡ true) (fits : index_count N ≤ W * 64)
-    {sets₀ sizes₀ works₀ steps₀ sets sizes works steps : List ℕ} {r : HandedPrices}
+    {sets₀ sizes₀ works₀ steps₀ sets sizes works steps : List ℕ} {r : Prices}
     (p : Pricing W N (flag_at flags) a sets₀ sizes₀ works₀ steps₀ sets sizes works steps r)
     (room : node_places N * W ≤ length sets₀) (long : step_places N * 5 ≤ length steps₀) (improved splits : ℕ) where
   pub plan_printed : printed_from (leaf_count N) (index_count N) W r steps sets flags improved splits ≡ printed N (plan_from a flags improved splits)
   plan_printed =
-      let e : prices_from r ≡ price_of N (flag_at flags) a = prices_are r (price_of N (flag_at flags) a) p.answer in
+      let e : r ≡ price_of N (flag_at flags) a = p.answer in
       λ i.
       record {
         leaves = leaf_count N;

@@ -1,71 +1,68 @@
 #![tactic(auto)]
 // Runs the tree check, the step order and the comparison of two trees on stored cases and writes a line for each.
 // The form of input and output is stated in harness/src/tree_record.rs, which makes both.
+ghost use Rattle.std.specs.Prelude.{◌≤◌};
+
 use network::Network;
-use tree::{Ordered, Same, Validity};
+use std::io::{self, Read, Write};
 
 // Is the tree valid.
-fn check(network: Network, tree: &[u16]) {
+fn check<W: Write>(out: &mut W, network: &Network, tree: &[u16]) -> io::Result<()> {
     let mut ws = [0u64; 4096];
-    let answer = tree::is_valid(network, tree, &mut ws);
-    match answer {
-        Validity::Refused(refusal) => stored::refused(refusal),
-        Validity::Valid => {
-            io::write_all(1, b"valid");
-        }
+    match tree::is_valid(network, tree, &mut ws) {
+        Ok(()) => write!(out, "valid"),
+        Err(refusal) => write!(out, "refused {}", refusal.number()),
     }
 }
 
 // The nodes in step order.
-fn order(network: Network, tree: &[u16]) {
+fn order<W: Write>(out: &mut W, network: &Network, tree: &[u16]) -> io::Result<()> {
     let mut ws = [0u64; 4096];
     let mut steps = [0u16; 127];
-    let answer = tree::post_order(network, tree, &mut ws, &mut steps);
-    match answer {
-        Ordered::Refused(refusal) => stored::number(b" refused ", refusal as u64),
-        Ordered::Done(count) => stored::numbers(&steps, count),
-    }
-}
-
-fn tell(answer: Same) {
-    match answer {
-        Same::Refused(refusal) => stored::number(b" refused ", refusal as u64),
-        Same::Done(same) => {
-            if same {
-                io::write_all(1, b" same");
-            } else {
-                io::write_all(1, b" different");
-            }
-        }
+    match tree::post_order(network, tree, &mut ws, &mut steps) {
+        Ok(count) => stored::write_numbers(out, &steps[..count.min(127)]),
+        Err(refusal) => write!(out, " refused {}", refusal.number()),
     }
 }
 
 // Are the two trees the same plan.
-fn compare(network: Network, tree: &[u16], other: &[u16]) {
+fn compare<W: Write>(
+    out: &mut W,
+    network: &Network,
+    tree: &[u16],
+    other: &[u16],
+) -> io::Result<()> {
     let mut ws = [0u64; 4096];
-    tell(tree::same_plan(network, tree, other, &mut ws));
+    match tree::same_plan(network, tree, other, &mut ws) {
+        Ok(true) => write!(out, " same"),
+        Ok(false) => write!(out, " different"),
+        Err(refusal) => write!(out, " refused {}", refusal.number()),
+    }
 }
 
-fn run(network: Network, tree: &[u16], other: &[u16]) {
-    check(network, tree);
-    order(network, tree);
-    compare(network, tree, tree);
-    compare(network, tree, other);
-    stored::end_line();
+fn run<W: Write>(out: &mut W, network: &Network, tree: &[u16], other: &[u16]) -> io::Result<()> {
+    check(out, network, tree)?;
+    order(out, network, tree)?;
+    compare(out, network, tree, tree)?;
+    compare(out, network, tree, other)?;
+    writeln!(out)
 }
 
 // A network and two trees.
-fn next_case() {
+fn next_case<R: Read, W: Write>(input: &mut R, out: &mut W) -> io::Result<()> {
     let mut tree = [0u16; 512];
     let mut other = [0u16; 512];
-    let network = stored::next_network();
-    let places = stored::next_tree(&mut tree);
-    let others = stored::next_tree(&mut other);
-    run(network, &tree[..places], &other[..others]);
+    let network = stored::next_network(input, out)?;
+    let places = stored::next_tree(input, &mut tree)?;
+    let others = stored::next_tree(input, &mut other)?;
+    run(out, &network, &tree[..places], &other[..others])
 }
 
-fn main() {
-    for _ in 0..stored::next_number() {
-        next_case();
+fn main(rt: HostRuntime) -> io::Result<()> {
+    let mut input = rt.reader();
+    let mut out = io::writer(&rt);
+    for _ in 0..stored::next_number(&mut input)? {
+        next_case(&mut input, &mut out)?;
     }
+    Ok(())
 }

@@ -1,12 +1,9 @@
 use Rattle.fields.specs.Whole.{Reached}
-use Rattle.fields.specs.Scans.{lists}
-use Prim.Native.Nat.{◌-◌}
-use mathlib.Core.Path.{◌≡◌}
 use lib.ListN.{length}
 use Rattle.fields.proofs.read_fields.Given as goal
 
-abbrev pub invariant-loop-s : goal.invariant-loop-s
-invariant-loop-s l = (length l.weights ≡ length l.initial.weights) × (length l.counts ≡ length l.initial.counts) × (length l.legs ≡ length l.initial.legs) × (length l.outputs ≡ length l.initial.outputs) × Reached l.file l.s (lists l.weights l.counts l.legs l.outputs)
+abbrev pub invariant-loop-rest : goal.invariant-loop-rest
+invariant-loop-rest l = Reached l.file l.rest l.scan l.network
 
-abbrev pub decreases-loop-s : goal.decreases-loop-s
-decreases-loop-s l = length l.file - l.s.at
+abbrev pub decreases-loop-rest : goal.decreases-loop-rest
+decreases-loop-rest l = length l.rest

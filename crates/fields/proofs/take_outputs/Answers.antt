@@ -1,27 +1,21 @@
-use Rattle.fields.specs.Fields.{whole, index_count_lem, taken_not, outputs_decide, outputs_taken}
-use Rattle.fields.specs.Scans.{lists, net_in}
-use Rattle.fields.specs.Steps.{part}
-use Rattle.payloads.specs.Payload.{outputs_refusal}
-use Rattle.spec.specs.Refusal.{code_of}
-use Rattle.spec.specs.Memory.{placed}
+use borrow.Author.Rules.{rules}
+use Rattle.fields.specs.Fields.{refused, outputs_decide, outputs_taken}
+use Rattle.network.specs.Record.{net_of}
+use Rattle.std.proofs.Common.{Err}
 use native.Mathlib.Omega.{arith}
-use Prim.Native.Nat.{◌+◌}
-use mathlib.Core.Path.{◌≡◌, sym, ap, ◌∙◌}
+use mathlib.Core.Path.{◌≡◌, sym, ◌∙◌}
+use lib.ListN.{length}
 use Rattle.fields.proofs.take_outputs.Goals as goal
 
-pub returns-then-code-ne-NONE : goal.returns-then-code-ne-NONE
-returns-then-code-ne-NONE c = let a = c.args in
-    let p = part a.file.now a.at a.n in
-    let v = c.check_outputs-code in
-    let e : v.result ≡ code_of (outputs_refusal a.s.index_count p) = v.ensures ∙ ap (λ l. code_of (outputs_refusal a.s.index_count l)) (whole a.file.now a.at a.n) in
-    λ x y l t. let m = lists x y l a.outputs.now in
-    rw c.stopped.ensures (taken_not a.file.now (a.at + a.n) m v.result (outputs_refusal a.s.index_count p) _ _ c.if-code-ne-NONE.true e (outputs_decide p (net_in a.s m) a.s.index_count (index_count_lem a.s m)))
+pub returns-in_err-check_outputs : goal.returns-in_err-check_outputs
+returns-in_err-check_outputs c = let k = c.in_err-check_outputs.field-0.0 in
+    let e : c.from_residual.result ≡ Err k = search rules in
+    rw e (outputs_decide c.args.payload.now c.args.network.now ∙ refused _ _ k (sym c.in_err-check_outputs.was ∙ c.check_outputs.ensures))
 
 pub returns : goal.returns
-returns c = let a = c.args in
-    let p = part a.file.now a.at a.n in
-    let v = c.check_outputs-code in
-    let q = whole a.file.now a.at a.n in
-    let e : 0 ≡ code_of (outputs_refusal a.s.index_count p) = sym c.if-code-ne-NONE.false ∙ v.ensures ∙ ap (λ l. code_of (outputs_refusal a.s.index_count l)) q in
-    let w : c.place.new.list ≡ placed a.outputs.now 0 p = c.place.ensures ∙ ap (placed a.outputs.now 0) q in
-    λ x y l t. rw (c.bare.ensures, w) (outputs_taken a.file.now a.at a.n (omega arith) a.s x y l a.outputs.now t (omega arith) e)
+unfolding net_of
+returns c = let n = c.args.network.now in
+    let p = c.args.payload.now in
+    let e = sym c.in_ok-check_outputs.was ∙ c.check_outputs.ensures in
+    let a : length n.outputs ≡ 32 = search rules in
+    rw (c.bare.ensures, c.place.ensures) (outputs_taken n c.requires p (omega arith) e, record { leaves = c.requires.leaves; few = c.requires.few })

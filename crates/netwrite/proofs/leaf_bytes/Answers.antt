@@ -1,9 +1,19 @@
+use borrow.Author.Rules.{rules}
 use Rattle.netwrite.specs.Sizes.{summed_none, summed_next}
+use Rattle.putfields.specs.Leaves.{leaf_bytes}
 use native.Mathlib.Omega.{arith}
+use mathlib.Core.Path.{◌≡◌, ap, ◌∙◌}
+use lib.ListN.{get_or, length}
 use Rattle.netwrite.proofs.leaf_bytes.Goals as goal
 
-pub loop-i-init : goal.loop-i-init
-loop-i-init c = summed_none _ _
+pub loop-count-init : goal.loop-count-init
+loop-count-init c = summed_none _
 
-pub loop-i-preserved : goal.loop-i-preserved
-loop-i-preserved c = summed_next c.requires c.loop-i.invariant (omega arith)
+pub loop-count-preserved : goal.loop-count-preserved
+loop-count-preserved c = let i = c.loop-count.count-index in
+    let e : c.from.result ≡ get_or c.args.counts.now i 0 = search rules in
+    summed_next c.from.result e c.requires c.loop-count.invariant (omega arith)
+
+pub returns : goal.returns
+returns c = let e : c.loop-count.count-index ≡ length c.args.counts.now = omega arith in
+    (c.loop-count.invariant.bytes ∙ ap (λ k. leaf_bytes k c.args.counts.now) e, omega (arith, c.loop-count.invariant.small, c.requires.leaves))

@@ -2,13 +2,17 @@ use Rattle.netwrite.specs.Writes.{weights_room, leaves_room, outputs_room, netwo
 use Rattle.netwrite.proofs.put_network.Goals as goal
 
 pub put_bytes-leaves-requires : goal.put_bytes-leaves-requires
-put_bytes-leaves-requires c = weights_room c.requires.0 c.requires.1 c.args.out.now _ c.requires.2
+put_bytes-leaves-requires c = let a = c.args.network.now in
+    weights_room a a.holds c.args.out.now c.args.at c.requires
 
 pub put_leaves-last-requires : goal.put_leaves-last-requires
-put_leaves-last-requires c = leaves_room c.requires.0 c.requires.1 c.args.out.now _ c.requires.2 c.put_bytes-leaves.ensures
+put_leaves-last-requires c = let a = c.args.network.now in
+    leaves_room a a.holds c.args.out.now c.args.at c.requires c.put_bytes-leaves.ensures
 
 pub put_indices-requires : goal.put_indices-requires
-put_indices-requires c = outputs_room c.requires.0 c.requires.1 c.args.out.now _ c.requires.2 c.put_bytes-leaves.ensures c.put_leaves-last.ensures
+put_indices-requires c = let a = c.args.network.now in
+    outputs_room a a.holds c.args.out.now c.args.at c.requires c.put_bytes-leaves.ensures c.put_leaves-last.ensures
 
 pub returns : goal.returns
-returns c = network_put c.requires.0 c.requires.1 c.args.out.now _ c.requires.2 c.put_bytes-leaves.ensures c.put_leaves-last.ensures c.put_indices.ensures
+returns c = let a = c.args.network.now in
+    network_put a a.holds c.args.out.now c.args.at c.requires c.put_bytes-leaves.ensures c.put_leaves-last.ensures c.put_indices.ensures

@@ -2,14 +2,14 @@ use Rattle.payloads.specs.Payload.{flags_refusal}
 use borrow.Author.Tests.{lt-ltb, le-ltb}
 use Rattle.payloads.proofs.check_flags.Goals as goal
 
-pub returns-then-m-bytes : goal.returns-then-m-bytes
+pub returns-then-bytes-m : goal.returns-then-bytes-m
 unfolding flags_refusal
-returns-then-m-bytes c = rw (lt-ltb _ _ c.if-m-bytes.true)
+returns-then-bytes-m c = rw (lt-ltb _ _ c.if-bytes-m.true)
 
 pub returns-then-above : goal.returns-then-above
 unfolding flags_refusal
-returns-then-above c = rw (le-ltb _ _ c.if-m-bytes.false, ← c.above.ensures, c.if-above.true)
+returns-then-above c = rw (le-ltb _ _ c.if-bytes-m.false, ← c.above.ensures, c.if-above.true)
 
-pub returns-else-above : goal.returns-else-above
+pub returns : goal.returns
 unfolding flags_refusal
-returns-else-above c = rw (le-ltb _ _ c.if-m-bytes.false, ← c.above.ensures, c.if-above.false)
+returns c = rw (le-ltb _ _ c.if-bytes-m.false, ← c.above.ensures, c.if-above.false)

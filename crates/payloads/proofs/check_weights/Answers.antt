@@ -10,6 +10,6 @@ pub returns-then-above : goal.returns-then-above
 unfolding weights_refusal
 returns-then-above c = rw (le-ltb _ _ c.if-bytes-gt-MAX_INDICES.false, ← c.above.ensures, c.if-above.true)
 
-pub returns-else-above : goal.returns-else-above
+pub returns : goal.returns
 unfolding weights_refusal
-returns-else-above c = rw (le-ltb _ _ c.if-bytes-gt-MAX_INDICES.false, ← c.above.ensures, c.if-above.false)
+returns c = rw (le-ltb _ _ c.if-bytes-gt-MAX_INDICES.false, ← c.above.ensures, c.if-above.false)

@@ -1,7 +1,8 @@
+use borrow.Author.Rules.{rules}
 use Rattle.cells.specs.Cells.{copied_none, copied_next, copied_end, copied_all}
 use native.Mathlib.Omega.{arith}
-use mathlib.Core.Path.{refl, ◌∙◌}
-use lib.ListN.{length, length-set}
+use mathlib.Core.Path.{◌≡◌, refl, ◌∙◌, ap}
+use lib.ListN.{length, length-set, get_or, set}
 use Rattle.payloads.proofs.copy_bytes.Goals as goal
 
 pub loop-k-init : goal.loop-k-init
@@ -9,7 +10,8 @@ loop-k-init c = (omega arith, c.min-k-end.ensures, refl, copied_none _ _)
 
 pub loop-k-preserved : goal.loop-k-preserved
 loop-k-preserved c = let v = c.loop-k.invariant in
-    (omega arith, v.1, simp length-set v.2, copied_next _ _ _ _ (omega arith) v.3)
+    let e : c.from.result ≡ get_or c.args.bytes.now c.loop-k.k 0 = search rules in
+    (omega arith, v.1, simp length-set v.2, ap (set c.loop-k.to c.loop-k.k) e ∙ copied_next _ _ _ _ (omega arith) v.3)
 
 pub returns : goal.returns
 returns c = let v = c.loop-k.invariant in

@@ -6,13 +6,13 @@ use lib.ListN.{length, length-set}
 use Rattle.putfields.proofs.narrow.Goals as goal
 
 pub loop-k-init : goal.loop-k-init
-loop-k-init c = (omega arith, refl, refl, copied_none _ _)
+loop-k-init c = (refl, copied_none _ _)
 
 pub loop-k-preserved : goal.loop-k-preserved
 loop-k-preserved c = let v = c.loop-k.invariant in
-    (omega arith, v.1, simp length-set v.2, copied_next _ _ _ _ (omega arith) v.3)
+    (simp length-set v.0, copied_next _ _ _ _ (omega arith) v.1)
 
 pub returns : goal.returns
 returns c = let v = c.loop-k.invariant in
     let e : c.loop-k.k ≡ length c.args.list.now = omega arith in
-    v.3 ∙ ap (copied c.args.to.now c.args.list.now) e ∙ copied_all _ _
+    v.1 ∙ ap (copied c.args.to.now c.args.list.now) e ∙ copied_all _ _

@@ -4,4 +4,4 @@ use mathlib.Core.Path.{◌∙◌}
 use Rattle.putfields.proofs.put_bytes.Goals as goal
 
 pub returns : goal.returns
-returns c = put_both c.put_header-next.ensures (put_lent _ _ _ _ (c.copy8.ensures ∙ copied_all _ _))
+returns c = put_both c.put_header-next.ensures (put_lent _ _ _ _ (c.copy.ensures ∙ copied_all _ _))
