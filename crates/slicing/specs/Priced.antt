@@ -36,7 +36,7 @@ module _ (a : Accepted) (h : Holds a.weights.now a.leg_counts.now a.legs.now a.o
   pub turn_fits : index_count (net_in a) ≤ 4 * 64
   turn_fits = omega (arith, in_indices a, (in_facts a h).few_indices)
 
-  pub turn_room : (p : PriceList) → 1024 ≤ length p.sets.now → 256 ≤ length p.sizes.now → 256 ≤ length p.works.now → HasRoom 4 (node_places (net_in a)) p
+  pub turn_room : (p : PriceList) → 1020 ≤ length p.sets.now → 255 ≤ length p.sizes.now → 255 ≤ length p.works.now → HasRoom 4 (node_places (net_in a)) p
   turn_room p s z w =
       record {
         for_sets = omega (arith, in_leaves a, (in_facts a h).few_leaves);
@@ -57,7 +57,7 @@ module _ (a : Accepted) (h : Holds a.weights.now a.leg_counts.now a.legs.now a.o
     places_are : node_places N ≡ nodes (length a.leg_counts.now) kids
     places_are = accepted_places a h 4 n kids order (omega arith) turn_fits leaves right in_order
 
-    places_of : node_places N ≡ nodes n kids
+    pub places_of : node_places N ≡ nodes n kids
     places_of = subst (λ (k : ℕ). node_places N ≡ nodes k kids) leaves_are places_are
 
     ordered : Ordered n kids order
@@ -70,7 +70,7 @@ module _ (a : Accepted) (h : Holds a.weights.now a.leg_counts.now a.legs.now a.o
     pub nodes_in : length a.leg_counts.now + length order ≡ node_places N
     nodes_in = omega (arith, steps.steps, steps.numbers, leaves_are, places_of)
 
-    module _ (flags : List ℕ) {sets₀ sizes₀ works₀ sets sizes works : List ℕ} (in_sets : 1024 ≤ length sets₀) (in_sizes : 256 ≤ length sizes₀) (in_works : 256 ≤ length works₀)
+    module _ (flags : List ℕ) {sets₀ sizes₀ works₀ sets sizes works : List ℕ} (in_sets : 1020 ≤ length sets₀) (in_sizes : 255 ≤ length sizes₀) (in_works : 255 ≤ length works₀)
         (f : Filled 4 N (flag_at flags) (pairs_of kids) sets₀ sizes₀ works₀ sets sizes works) where
       for_sets : node_places N * 4 ≤ length sets₀
       for_sets = omega (arith, in_leaves a, (in_facts a h).few_leaves)
@@ -107,9 +107,12 @@ module _ (a : Accepted) (h : Holds a.weights.now a.leg_counts.now a.legs.now a.o
         pub widest_is : w ≡ widest N (flag_at flags) (listing N (flag_at flags) (pairs_of kids))
         widest_is = ap (λ (x : Prices). x.widest) answer
 
+        pub total_handed : t ≡ up_to (work (listing N (flag_at flags) (pairs_of kids)))
+        total_handed = ap (λ (x : Prices). x.total) answer
+
         module _ (exact : work (listing N (flag_at flags) (pairs_of kids)) < 9007199254740992) where
           pub total_is : exact_of t ≡ work (listing N (flag_at flags) (pairs_of kids))
-          total_is = exact_total t _ (ap (λ (x : Prices). x.total) answer) exact
+          total_is = exact_total t _ total_handed exact
 
           pub rankable : (total : ℕ) → total ≡ exact_of t → Rankable 4 (length a.weights.now) n a.weights.now kids order sets sizes works total
           rankable total e =
