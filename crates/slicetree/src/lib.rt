@@ -169,9 +169,9 @@ fn numbered(answer: Result<Visited, Refusal>) -> Sliced
     ensures { result ≡ named answer }
 {
     match answer {
-        Ok(made) => Sliced::Done {
-            rebuilt: made.rebuilt,
-            tried: made.tried,
+        Ok(done) => Sliced::Done {
+            rebuilt: done.rebuilt,
+            tried: done.tried,
         },
         Err(refusal) => Sliced::Refused(refusal.number()),
     }
