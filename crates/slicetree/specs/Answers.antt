@@ -1,33 +1,47 @@
--- What slicing's entry answers, number and values of each case; the call step by step, and what it leaves behind. Assumes nothing.
-use Rattle.std.specs.Prelude.{Bool, true, false, ◌&&◌, cond, ◌≡◌, List, [], ◌∷◌, ℕ, ◌≤◌, ◌<◌, length, None, Result, Err, Ok}
-use Rattle.std.proofs.Math.Path.{refl, ap}
-use Rattle.std.proofs.Common.{sym, ◌∙◌, subst, arith}
+-- What slicing's entry answers; the call step by step, and what it leaves behind. Assumes nothing.
+use Rattle.std.specs.Prelude.{Bool, true, false, ◌≡◌, refl, List, [], ◌∷◌, ℕ, ◌≤◌, ◌<◌, length, get_or, Option, None, Some, Result, Ok, Err}
+use Rattle.std.proofs.Common.{sym, ◌∙◌, ap, subst, arith, lt-ltb, le-ltb}
 use Rattle.spec.specs.declared.Refusal.{Refusal}
-use Rattle.spec.specs.declared.Refusal.TheVariants.{InvalidTree, TotalBeyond, DanglingIndex}
-use borrow.Author.Tests.{lt-ltb, le-ltb}
-use Rattle.spec.specs.Memory.{cleared}
+use Rattle.spec.specs.declared.Refusal.TheVariants.{ShortBuffer, InvalidTree, TotalBeyond, DanglingIndex}
+use Rattle.spec.specs.Memory.{cleared, copied}
 use Rattle.spec.specs.Network.{Network, leaf_count, index_count, refusal_of}
 use Rattle.spec.specs.Tree.{pairs_of, flat_of}
-use Rattle.spec.specs.Refusal.{number_of, code_of, Check, check, checked}
-use Rattle.spec.specs.Calls.{Lent, lent, length_check, plain_words, slice_words, wrong_tree, tree_check, beyond_check, total_is_beyond, dangling, dangling_check, dangling_if, slice_call, sliced_tree, sliced_flags, workspace_after}
-use Rattle.spec.specs.Slicing.{Plan}
-use Rattle.laws.specs.Booleans.{by_cases}
-use Rattle.walk.specs.Entry.{Untouched, answers, same_words, same_list, holds_first, passes_first, by_network, past_network, by_length, past_length}
+use Rattle.spec.specs.Refusal.{number_of, Check, check, first, decide, checked}
+use Rattle.spec.specs.Calls.{Lent, lent, length_check, plain_words, slice_words, wrong_tree, tree_check, beyond_check, total_is_beyond, dangling, dangling_check, dangling_if, follow_up, slice_call, sliced_tree, sliced_flags, workspace_after}
+use Rattle.spec.specs.Slicing.{Plan, slice_loop}
+use Rattle.laws.specs.Booleans.{clash}
+use Rattle.laws.specs.Results.{not_done, refused_same}
+use Rattle.walk.specs.Entry.{network_refused, network_quiet, quiet_words, quiet_list, past_network, too_short, past_length, holds_first, passes_first}
+use Rattle.reconf.specs.declared.Visited.{Visited}
+use Rattle.slicing.specs.Promise.{plan_with}
+use Rattle.slicing.specs.Turns.{Sliced as Turned}
 use Rattle.slicetree.specs.declared.Sliced.{Sliced}
-use Rattle.slicetree.specs.Clear.{flags_for, plan_of, SlicedTo}
+use Rattle.slicetree.specs.Choices.{Stands, ChoicesMade}
+use Rattle.slicetree.specs.Clear.{flags_for, plan_of, SlicedTo, sliced_to, stands_clear}
 
--- refused by number, or the counts
+-- the counts of a plan
+abbrev pub counts : Result Plan Refusal → Result Visited Refusal
+counts (Err r) = Err r
+counts (Ok p) = Ok (record { rebuilt = p.rebuilt; tried = p.tried })
+
+-- the answer of the old entry
+abbrev pub named : Result Visited Refusal → Sliced
+named (Err r) = Sliced.Refused (number_of r)
+named (Ok d) = Sliced.Done d.rebuilt d.tried
+
 abbrev pub sliced_of : Result Plan Refusal → Sliced
 sliced_of (Err r) = Sliced.Refused (number_of r)
 sliced_of (Ok p) = Sliced.Done p.rebuilt p.tried
 
--- the number of the refusal of an unsliced total, or of a dangling index, and 0 for neither
-abbrev pub late_number : Network → Bool → List ℕ → ℕ
-late_number N improving kids = cond (total_is_beyond N (λ j. false) (pairs_of kids)) 10 (cond (improving && dangling N) 11 0)
+pub named_counts : (c : Result Plan Refusal) → named (counts c) ≡ sliced_of c
+named_counts (Err r) = refl
+named_counts (Ok p) = refl
 
--- and of the tree itself before these
-abbrev pub tree_number : Network → Bool → ℕ → List ℕ → ℕ
-tree_number N improving n kids = cond (wrong_tree n kids) 8 (late_number N improving kids)
+-- the tree and the flags that slicing leaves, and its counts
+pub record SlicedBy (N : Network) (improving : Bool) (target : ℕ) (kids₀ flags₀ kids flags : List ℕ) (d : Visited) : Type 0 where
+  pub same : length flags ≡ length flags₀
+  pub bytes : (j : ℕ) → get_or flags j 0 ≤ 1
+  pub plan_is : plan_with flags kids d.rebuilt d.tried ≡ slice_loop N target (follow_up N improving) (index_count N) (plan_with flags₀ kids₀ 0 0)
 
 module _ (N : Network) (improving : Bool) (target : ℕ) (kids : List ℕ) where
   abbrev sliced : Result Plan Refusal
@@ -47,27 +61,31 @@ module _ (N : Network) (improving : Bool) (target : ℕ) (kids : List ℕ) where
   slice_in words places = checked (in_checks words places) sliced
 
   -- the network's own checks
-  pub call_refused : (words places k : ℕ) → k ≡ code_of (refusal_of N) → (k ≡ 0 → ⊥) → Untouched k (slice_call N improving target words places kids)
+  pub call_refused : (words places : ℕ) (r : Refusal) → refusal_of N ≡ Some r → slice_call N improving target words places kids ≡ Err r
   unfolding slice_call
-  call_refused words places k e z = by_network N (in_checks words places) sliced k e z
+  call_refused words places r e = network_refused N (in_checks words places) sliced r e
 
   pub call_accepted : (words places : ℕ) → refusal_of N ≡ None → slice_call N improving target words places kids ≡ slice_in words places
   unfolding slice_call slice_in
   call_accepted words places e = past_network N (in_checks words places) sliced e
 
-pub record Answered (N : Network) (improving : Bool) (target : ℕ) (kids₀ flags₀ kids flags : List ℕ) (r : Sliced) : Type 0 where
-  pub answer : r ≡ sliced_of (rest_call N improving target kids₀)
+-- the checks of the tree alone
+unfoldable pub check_call : Network → Bool → List ℕ → Result (Unit {0}) Refusal
+check_call N improving kids = checked (tree_check N kids ∷ beyond_check N (λ j. false) (pairs_of kids) ∷ dangling_if N improving) (Ok tt)
+
+pub record Answered (N : Network) (improving : Bool) (target : ℕ) (kids₀ flags₀ kids flags : List ℕ) (r : Result Visited Refusal) : Type 0 where
+  pub answer : r ≡ counts (rest_call N improving target kids₀)
   pub tree : kids ≡ sliced_tree (rest_call N improving target kids₀) kids₀
   pub flags_are : flags ≡ sliced_flags N (rest_call N improving target kids₀) flags₀
 
-pub record Answers (N : Network) (improving : Bool) (target : ℕ) (kids₀ flags₀ ws₀ kids flags ws : List ℕ) (r : Sliced) : Type 0 where
-  pub answer : r ≡ sliced_of (slice_in N improving target kids₀ (length ws₀) (length flags₀))
+pub record Answers (N : Network) (improving : Bool) (target : ℕ) (kids₀ flags₀ ws₀ kids flags ws : List ℕ) (r : Result Visited Refusal) : Type 0 where
+  pub answer : r ≡ counts (slice_in N improving target kids₀ (length ws₀) (length flags₀))
   pub tree : kids ≡ sliced_tree (slice_in N improving target kids₀ (length ws₀) (length flags₀)) kids₀
   pub flags_are : flags ≡ sliced_flags N (slice_in N improving target kids₀ (length ws₀) (length flags₀)) flags₀
   pub workspace : ws ≡ workspace_after (slice_words improving) (slice_in N improving target kids₀ (length ws₀) (length flags₀)) ws₀
 
-pub record Slices (N : Network) (improving : Bool) (target : ℕ) (kids₀ flags₀ ws₀ kids flags ws : List ℕ) (r : Sliced) : Type 0 where
-  pub answer : r ≡ sliced_of (slice_call N improving target (length ws₀) (length flags₀) kids₀)
+pub record Slices (N : Network) (improving : Bool) (target : ℕ) (kids₀ flags₀ ws₀ kids flags ws : List ℕ) (r : Result Visited Refusal) : Type 0 where
+  pub answer : r ≡ counts (slice_call N improving target (length ws₀) (length flags₀) kids₀)
   pub tree : kids ≡ sliced_tree (slice_call N improving target (length ws₀) (length flags₀) kids₀) kids₀
   pub flags_are : flags ≡ sliced_flags N (slice_call N improving target (length ws₀) (length flags₀) kids₀) flags₀
   pub workspace : ws ≡ workspace_after (slice_words improving) (slice_call N improving target (length ws₀) (length flags₀) kids₀) ws₀
@@ -75,22 +93,22 @@ pub record Slices (N : Network) (improving : Bool) (target : ℕ) (kids₀ flags
 -- ---- the network's own checks ----
 
 module _ (N : Network) (improving : Bool) (target : ℕ) (kids₀ flags₀ ws₀ : List ℕ) where
-  pub slices_refused : (k : ℕ) → k ≡ code_of (refusal_of N) → (k ≡ 0 → ⊥) → Slices N improving target kids₀ flags₀ ws₀ kids₀ flags₀ ws₀ (Sliced.Refused k)
-  slices_refused k e z =
-      let u = call_refused N improving target kids₀ (length ws₀) (length flags₀) k e z in
+  pub slices_refused : (r : Refusal) → refusal_of N ≡ Some r → Slices N improving target kids₀ flags₀ ws₀ kids₀ flags₀ ws₀ (Err r)
+  slices_refused r e =
+      let c = call_refused N improving target kids₀ (length ws₀) (length flags₀) r e in
       record {
-        answer = answers u sliced_of (λ (k : ℕ). Sliced.Refused k) (λ (r : Refusal). refl);
-        tree = same_list u (λ (p : Plan). flat_of p.tree) kids₀;
-        flags_are = same_list u (flags_for N) flags₀;
-        workspace = same_words u (slice_words improving) ws₀;
+        answer = sym (ap counts c);
+        tree = quiet_list _ r (λ (p : Plan). flat_of p.tree) kids₀ c;
+        flags_are = quiet_list _ r (flags_for N) flags₀ c;
+        workspace = quiet_words (slice_words improving) _ r ws₀ c (network_quiet N r e);
       }
 
-  pub slices_accepted : refusal_of N ≡ None → {kids flags ws : List ℕ} {r : Sliced}
+  pub slices_accepted : refusal_of N ≡ None → {kids flags ws : List ℕ} {r : Result Visited Refusal}
       → Answers N improving target kids₀ flags₀ ws₀ kids flags ws r → Slices N improving target kids₀ flags₀ ws₀ kids flags ws r
   slices_accepted h q =
       let e = call_accepted N improving target kids₀ (length ws₀) (length flags₀) h in
       record {
-        answer = q.answer ∙ sym (ap sliced_of e);
+        answer = q.answer ∙ sym (ap counts e);
         tree = q.tree ∙ sym (ap (λ (c : Result Plan Refusal). sliced_tree c kids₀) e);
         flags_are = q.flags_are ∙ sym (ap (λ (c : Result Plan Refusal). sliced_flags N c flags₀) e);
         workspace = q.workspace ∙ sym (ap (λ (c : Result Plan Refusal). workspace_after (slice_words improving) c ws₀) e);
@@ -102,108 +120,128 @@ pub words_as_is : (improving : Bool) (l : ℕ) → slice_words improving ≤ l �
 words_as_is true l h = omega arith
 words_as_is false l h = h
 
-pub words_improved : (improving : Bool) (l : ℕ) → improving ≡ true → slice_words improving ≤ l → slice_words true ≤ l
+pub words_improved : (improving : Bool) (l : ℕ) → improving ≡ true → slice_words improving ≤ l → 6144 ≤ l
 words_improved improving l e h = rw e at h
 
--- ---- 10 and 11 ----
+-- ---- the checks of the tree ----
 
 module _ (N : Network) (improving : Bool) (kids : List ℕ) where
-  pub late_beyond : total_is_beyond N (λ j. false) (pairs_of kids) ≡ true → 10 ≡ late_number N improving kids
-  late_beyond b = rw b
+  abbrev later : List Check
+  later = beyond_check N (λ j. false) (pairs_of kids) ∷ dangling_if N improving
 
-  module _ (b : total_is_beyond N (λ j. false) (pairs_of kids) ≡ false) where
-    pub late_as_is : improving ≡ false → 0 ≡ late_number N improving kids
-    late_as_is e = rw (b, e)
+  pub check_wrong : wrong_tree (leaf_count N) kids ≡ true → Err InvalidTree ≡ check_call N improving kids
+  unfolding check_call
+  check_wrong w = sym (holds_first (tree_check N kids) later (Ok tt) w)
 
-    pub late_improved : improving ≡ true → (d : Bool) → dangling N ≡ d → ◌≡◌ {A = ℕ} (cond d 11 0) (late_number N improving kids)
-    late_improved e d h = rw (b, e, h)
+  module _ (right : wrong_tree (leaf_count N) kids ≡ false) where
+    past_tree : check_call N improving kids ≡ checked later (Ok tt)
+    unfolding check_call
+    past_tree = passes_first (tree_check N kids) later (Ok tt) right
 
-  pub late_exact : 0 ≡ late_number N improving kids → (total_is_beyond N (λ j. false) (pairs_of kids) ≡ false) × (improving ≡ true → dangling N ≡ false)
-  late_exact e = go (total_is_beyond N (λ j. false) (pairs_of kids)) improving (dangling N) e
-    where
-      go : (b i d : Bool) → ◌≡◌ {A = ℕ} 0 (cond b 10 (cond (i && d) 11 0)) → (b ≡ false) × (i ≡ true → d ≡ false)
-      go true i d e = absurd (omega arith)
-      go false true true e = absurd (omega arith)
-      go false true false e = (refl, λ h. refl)
-      go false false true e = (refl, λ h. sym h)
-      go false false false e = (refl, λ h. refl)
+    pub check_beyond : total_is_beyond N (λ j. false) (pairs_of kids) ≡ true → Err TotalBeyond ≡ check_call N improving kids
+    check_beyond b = sym (past_tree ∙ holds_first (beyond_check N (λ j. false) (pairs_of kids)) (dangling_if N improving) (Ok tt) b)
 
--- ---- 8, 10 and 11 ----
+    module _ (exact : total_is_beyond N (λ j. false) (pairs_of kids) ≡ false) where
+      past_total : check_call N improving kids ≡ checked (dangling_if N improving) (Ok tt)
+      past_total = past_tree ∙ passes_first (beyond_check N (λ j. false) (pairs_of kids)) (dangling_if N improving) (Ok tt) exact
 
-module _ (N : Network) (improving : Bool) (n : ℕ) (kids : List ℕ) where
-  pub number_wrong : wrong_tree n kids ≡ true → 8 ≡ tree_number N improving n kids
-  number_wrong w = rw w
+      pub check_as_is : improving ≡ false → Ok tt ≡ check_call N improving kids
+      check_as_is e = sym (past_total ∙ ap (λ (b : Bool). checked (dangling_if N b) (Ok tt)) e)
 
-  pub number_late : wrong_tree n kids ≡ false → {x : ℕ} → x ≡ late_number N improving kids → x ≡ tree_number N improving n kids
-  number_late w e = e ∙ sym (ap (λ (b : Bool). cond b 8 (late_number N improving kids)) w)
+      pub check_dangling : improving ≡ true → dangling N ≡ true → Err DanglingIndex ≡ check_call N improving kids
+      check_dangling e d =
+          sym (past_total ∙ ap (λ (b : Bool). checked (dangling_if N b) (Ok tt)) e ∙ holds_first (dangling_check N) [] (Ok tt) d)
 
-  pub number_none : 0 ≡ tree_number N improving n kids → (wrong_tree n kids ≡ false) × (0 ≡ late_number N improving kids)
-  number_none e = go (wrong_tree n kids) (late_number N improving kids) e
-    where
-      go : (b : Bool) (x : ℕ) → ◌≡◌ {A = ℕ} 0 (cond b 8 x) → (b ≡ false) × (0 ≡ x)
-      go true x e = absurd (omega arith)
-      go false x e = (refl, e)
+      pub check_closed : improving ≡ true → dangling N ≡ false → Ok tt ≡ check_call N improving kids
+      check_closed e d =
+          sym (past_total ∙ ap (λ (b : Bool). checked (dangling_if N b) (Ok tt)) e ∙ passes_first (dangling_check N) [] (Ok tt) d)
+
+-- what holds where none refuses
+pub record Passed (N : Network) (improving : Bool) (kids : List ℕ) : Type 0 where
+  pub right : wrong_tree (leaf_count N) kids ≡ false
+  pub exact : total_is_beyond N (λ j. false) (pairs_of kids) ≡ false
+  pub closed : improving ≡ true → dangling N ≡ false
+
+unit_done {ℓ} : {P : Type ℓ} (k : Refusal) → ◌≡◌ {A = Result (Unit {0}) Refusal} (Ok tt) (Err k) → P
+unit_done k e = not_done k tt (sym e)
+
+pub passed : (N : Network) (improving : Bool) (kids : List ℕ) → Ok tt ≡ check_call N improving kids → Passed N improving kids
+unfolding check_call
+passed N improving kids e = let (w, b, d) = go (wrong_tree (leaf_count N) kids) (total_is_beyond N (λ j. false) (pairs_of kids)) improving e in
+    record { right = w; exact = b; closed = d }
+  where
+    closed : (d : Bool) → ◌≡◌ {A = Result (Unit {0}) Refusal} (Ok (tt {0})) (checked (check d DanglingIndex ∷ []) (Ok (tt {0}))) → d ≡ false
+    closed true e = unit_done DanglingIndex e
+    closed false e = refl
+
+    go : (w b i : Bool) → ◌≡◌ {A = Result (Unit {0}) Refusal} (Ok (tt {0})) (checked (check w InvalidTree ∷ check b TotalBeyond ∷ dangling_if N i) (Ok (tt {0})))
+        → (w ≡ false) × (b ≡ false) × (i ≡ true → dangling N ≡ false)
+    go true b i e = unit_done InvalidTree e
+    go false true i e = unit_done TotalBeyond e
+    go false false true e = (refl, refl, λ z. closed (dangling N) e)
+    go false false false e = (refl, refl, λ z. clash z refl)
+
+-- the whole call refuses and passes with them
+decide_err : {A : Type 0} (o : Option Refusal) (x : Result A Refusal) (r : Refusal) → Err r ≡ decide {A = Unit {0}} o (Ok tt) → decide o x ≡ Err r
+decide_err None x r e = unit_done r (sym e)
+decide_err (Some s) x r e = ap Err (sym (refused_same {A = Unit {0}} r s e))
+
+decide_ok : {A : Type 0} (o : Option Refusal) (x : Result A Refusal) → Ok tt ≡ decide {A = Unit {0}} o (Ok tt) → decide o x ≡ x
+decide_ok None x e = refl
+decide_ok (Some s) x e = unit_done s e
 
 module _ (N : Network) (improving : Bool) (target : ℕ) (kids₀ flags₀ : List ℕ) where
-  answered : (c : Result Plan Refusal) (kids flags : List ℕ) (r : Sliced) → rest_call N improving target kids₀ ≡ c → r ≡ sliced_of c → kids ≡ sliced_tree c kids₀
-      → flags ≡ sliced_flags N c flags₀ → Answered N improving target kids₀ flags₀ kids flags r
-  answered c kids flags r e f g h =
+  abbrev checks : List Check
+  checks = tree_check N kids₀ ∷ beyond_check N (λ j. false) (pairs_of kids₀) ∷ dangling_if N improving
+
+  pub answered_refused : (r : Refusal) → Err r ≡ check_call N improving kids₀ → Answered N improving target kids₀ flags₀ kids₀ flags₀ (Err r)
+  unfolding rest_call check_call
+  answered_refused r e =
+      let c : rest_call N improving target kids₀ ≡ Err r = decide_err (first checks) (sliced N improving target kids₀) r e in
       record {
-        answer = f ∙ ap sliced_of (sym e);
-        tree = g ∙ ap (λ x. sliced_tree x kids₀) (sym e);
-        flags_are = h ∙ ap (λ x. sliced_flags N x flags₀) (sym e);
+        answer = sym (ap counts c);
+        tree = quiet_list _ r (λ (p : Plan). flat_of p.tree) kids₀ c;
+        flags_are = quiet_list _ r (flags_for N) flags₀ c;
       }
 
-  answered_tree : (n : ℕ) → leaf_count N ≡ n → wrong_tree n kids₀ ≡ true → Answered N improving target kids₀ flags₀ kids₀ flags₀ (Sliced.Refused 8)
-  unfolding rest_call
-  answered_tree n q h =
-      answered (Err InvalidTree) kids₀ flags₀ (Sliced.Refused 8)
-      (holds_first (tree_check N kids₀) (late N improving target kids₀) (sliced N improving target kids₀) (rw q h)) refl refl refl
+  pub answered_done : Ok tt ≡ check_call N improving kids₀ → {kids flags : List ℕ} (d : Visited) → SlicedTo N improving target kids₀ flags₀ kids flags d.rebuilt d.tried
+      → Answered N improving target kids₀ flags₀ kids flags (Ok d)
+  unfolding rest_call check_call
+  answered_done e {kids} {flags} d s =
+      let c : rest_call N improving target kids₀ ≡ sliced N improving target kids₀ = decide_ok (first checks) (sliced N improving target kids₀) e in
+      record {
+        answer = rw (s.is_rebuilt, s.is_tried) (sym (ap counts c));
+        tree = s.tree ∙ sym (ap (λ x. sliced_tree x kids₀) c);
+        flags_are = s.flags_are ∙ sym (ap (λ x. sliced_flags N x flags₀) c);
+      }
 
-  module _ (n : ℕ) (q : leaf_count N ≡ n) (right : wrong_tree n kids₀ ≡ false) where
-    past_tree : rest_call N improving target kids₀ ≡ checked (late N improving target kids₀) (sliced N improving target kids₀)
-    unfolding rest_call
-    past_tree = passes_first (tree_check N kids₀) (late N improving target kids₀) (sliced N improving target kids₀) (rw q right)
+module _ {N : Network} {improving : Bool} {target : ℕ} {kids₀ flags₀ kids flags : List ℕ} where
+  pub by_choices : {n : ℕ} (d : Visited) → improving ≡ true → ChoicesMade N n target kids₀ flags₀ (index_count N) kids flags d.rebuilt d.tried
+      → SlicedBy N improving target kids₀ flags₀ kids flags d
+  by_choices d e s =
+      let y : SlicedBy N true target kids₀ flags₀ kids flags d = record { same = s.same; bytes = s.stands.within.bytes; plan_is = s.plan_is } in
+      subst (λ (i : Bool). SlicedBy N i target kids₀ flags₀ kids flags d) (sym e) y
 
-    late_cases : (b i : Bool) (p : Result Plan Refusal) (x : ℕ) → x ≡ cond b 10 (cond (i && dangling N) 11 0) → (x ≡ 0 → ⊥)
-        → rest_call N improving target kids₀ ≡ checked (check b TotalBeyond ∷ dangling_if N i) p
-        → Answered N improving target kids₀ flags₀ kids₀ flags₀ (Sliced.Refused x)
-    late_cases true i p x e z f = answered (Err TotalBeyond) kids₀ flags₀ (Sliced.Refused x) f (rw e) refl refl
-    late_cases false false p x e z f = absurd (z e)
-    late_cases false true p x e z f =
-        by_cases (dangling N)
-        (λ h. answered (Err DanglingIndex) kids₀ flags₀ (Sliced.Refused x) (f ∙ holds_first (dangling_check N) [] p h)
-        (ap (λ (k : ℕ). Sliced.Refused k) (e ∙ ap (λ (d : Bool). cond d 11 0) h)) refl refl)
-        (λ h. absurd (z (e ∙ ap (λ (d : Bool). cond d 11 0) h)))
+module _ {N : Network} {improving : Bool} {target : ℕ} {kids₀ flags₀ flags : List ℕ} where
+  pub by_turns : improving ≡ false → Turned N target kids₀ flags₀ (index_count N) flags
+      → SlicedBy N improving target kids₀ flags₀ kids₀ flags (record { rebuilt = 0; tried = 0 })
+  by_turns e s =
+      let y : SlicedBy N false target kids₀ flags₀ kids₀ flags (record { rebuilt = 0; tried = 0 }) = record { same = s.same; bytes = s.within.bytes; plan_is = s.plan_is } in
+      subst (λ (i : Bool). SlicedBy N i target kids₀ flags₀ kids₀ flags (record { rebuilt = 0; tried = 0 })) (sym e) y
 
-    answered_late : (x : ℕ) → x ≡ late_number N improving kids₀ → (x ≡ 0 → ⊥)
-        → Answered N improving target kids₀ flags₀ kids₀ flags₀ (Sliced.Refused x)
-    answered_late x e z =
-        late_cases (total_is_beyond N (λ j. false) (pairs_of kids₀)) improving (sliced N improving target kids₀) x e z past_tree
+-- slicing begins with clear flags, and ends with those that go out
+module _ (N : Network) (improving : Bool) (target m : ℕ) (kids₀ zeros : List ℕ) (q : index_count N ≡ m) (h : m ≤ length zeros)
+    (z : (j : ℕ) → get_or zeros j 0 ≡ 0) (ok : Ok tt ≡ check_call N improving kids₀) where
+  pub stands_first : Stands N (leaf_count N) kids₀ zeros
+  stands_first = let p = passed N improving kids₀ ok in stands_clear N (leaf_count N) m kids₀ zeros z q h p.exact p.right
 
-    none_dangling : (i : Bool) (p : Result Plan Refusal) → (i ≡ true → dangling N ≡ false) → checked (dangling_if N i) p ≡ p
-    none_dangling false p f = refl
-    none_dangling true p f = passes_first (dangling_check N) [] p (f refl)
-
-    pub answered_done : 0 ≡ late_number N improving kids₀ → {on : Bool} → improving ≡ on → {kids flags : List ℕ} {rebuilt tried : ℕ}
-        → SlicedTo N on target kids₀ flags₀ kids flags rebuilt tried → Answered N improving target kids₀ flags₀ kids flags (Sliced.Done rebuilt tried)
-    answered_done e i {kids} {flags} {rebuilt} {tried} t =
-        let (b, d) = late_exact N improving kids₀ e in
-        let s : SlicedTo N improving target kids₀ flags₀ kids flags rebuilt tried =
-        subst (λ (on : Bool). SlicedTo N on target kids₀ flags₀ kids flags rebuilt tried) (sym i) t in
-        answered (sliced N improving target kids₀) kids flags (Sliced.Done rebuilt tried)
-        (past_tree
-        ∙ passes_first (beyond_check N (λ j. false) (pairs_of kids₀)) (dangling_if N improving) (sliced N improving target kids₀) b
-        ∙ none_dangling improving (sliced N improving target kids₀) d)
-        (rw (s.is_rebuilt, s.is_tried)) s.tree s.flags_are
-
-  pub answered_number : (n : ℕ) → leaf_count N ≡ n → (x : ℕ) → x ≡ tree_number N improving n kids₀ → (x ≡ 0 → ⊥)
-      → Answered N improving target kids₀ flags₀ kids₀ flags₀ (Sliced.Refused x)
-  answered_number n q x e z =
-      by_cases (wrong_tree n kids₀)
-      (λ w. subst (λ (k : ℕ). Answered N improving target kids₀ flags₀ kids₀ flags₀ (Sliced.Refused k))
-      (sym (e ∙ sym (number_wrong N improving n kids₀ w))) (answered_tree n q w))
-      (λ w. answered_late n q w x (e ∙ ap (λ (b : Bool). cond b 8 (late_number N improving kids₀)) w) z)
+  pub answered_sliced : {kids sliced : List ℕ} (d : Visited) → length kids ≡ length kids₀ → SlicedBy N improving target kids₀ zeros kids sliced d
+      → (flags₀ new : List ℕ) → new ≡ copied flags₀ sliced m → Answered N improving target kids₀ flags₀ kids new (Ok d)
+  answered_sliced {kids} {sliced} d long s flags₀ new c =
+      answered_done N improving target kids₀ flags₀ ok d
+      (sliced_to N improving (leaf_count N) m target kids₀ zeros z q (passed N improving kids₀ ok).right kids sliced long
+      (s.plan_is ∙ ap (λ (x : ℕ). slice_loop N target (follow_up N improving) x (plan_with zeros kids₀ 0 0)) q)
+      flags₀ new (omega (arith, s.same, h)) s.bytes c)
 
 -- ---- 7, and the rest ----
 
@@ -226,28 +264,28 @@ module _ (N : Network) (improving : Bool) (target : ℕ) (kids flags ws : List �
   abbrev rest : List Check
   rest = tree_check N kids ∷ late N improving target kids
 
-  quiet : Untouched 7 (slice_in N improving target kids (length ws) (length flags))
-      → Answers N improving target kids flags ws kids flags ws (Sliced.Refused 7)
-  quiet u =
+  quiet : slice_in N improving target kids (length ws) (length flags) ≡ Err ShortBuffer
+      → Answers N improving target kids flags ws kids flags ws (Err ShortBuffer)
+  quiet c =
       record {
-        answer = answers u sliced_of (λ (k : ℕ). Sliced.Refused k) (λ (r : Refusal). refl);
-        tree = same_list u (λ (p : Plan). flat_of p.tree) kids;
-        flags_are = same_list u (flags_for N) flags;
-        workspace = same_words u (slice_words improving) ws;
+        answer = sym (ap counts c);
+        tree = quiet_list _ ShortBuffer (λ (p : Plan). flat_of p.tree) kids c;
+        flags_are = quiet_list _ ShortBuffer (flags_for N) flags c;
+        workspace = quiet_words (slice_words improving) _ ShortBuffer ws c refl;
       }
 
-  pub few_words : length ws < slice_words improving → Answers N improving target kids flags ws kids flags ws (Sliced.Refused 7)
+  pub few_words : length ws < slice_words improving → Answers N improving target kids flags ws kids flags ws (Err ShortBuffer)
   unfolding slice_in
-  few_words h = quiet (by_length lents rest (sliced N improving target kids) (rw (lt-ltb (length ws) (slice_words improving) h)))
+  few_words h = quiet (too_short lents rest (sliced N improving target kids) (rw (lt-ltb (length ws) (slice_words improving) h)))
 
   module _ (m : ℕ) (q : index_count N ≡ m) (long : slice_words improving ≤ length ws) where
-    pub few_flags : length flags < m → Answers N improving target kids flags ws kids flags ws (Sliced.Refused 7)
+    pub few_flags : length flags < m → Answers N improving target kids flags ws kids flags ws (Err ShortBuffer)
     unfolding slice_in
     few_flags h =
-        quiet (by_length lents rest (sliced N improving target kids)
+        quiet (too_short lents rest (sliced N improving target kids)
         (rw (le-ltb (length ws) (slice_words improving) long, lt-ltb (length flags) (index_count N) (omega (arith, q)))))
 
-    pub by_rest : m ≤ length flags → {kids' flags' ws' : List ℕ} {r : Sliced} → ws' ≡ cleared ws (slice_words improving)
+    pub by_rest : m ≤ length flags → {kids' flags' ws' : List ℕ} {r : Result Visited Refusal} → ws' ≡ cleared ws (slice_words improving)
         → Answered N improving target kids flags kids' flags' r → Answers N improving target kids flags ws kids' flags' ws' r
     unfolding slice_in rest_call
     by_rest h w a =
@@ -255,7 +293,7 @@ module _ (N : Network) (improving : Bool) (target : ℕ) (kids flags ws : List �
         past_length lents rest (sliced N improving target kids)
         (rw (le-ltb (length ws) (slice_words improving) long, le-ltb (length flags) (index_count N) (omega (arith, q)))) in
         record {
-          answer = a.answer ∙ ap sliced_of (sym e);
+          answer = a.answer ∙ ap counts (sym e);
           tree = a.tree ∙ ap (λ c. sliced_tree c kids) (sym e);
           flags_are = a.flags_are ∙ ap (λ c. sliced_flags N c flags) (sym e);
           workspace = w

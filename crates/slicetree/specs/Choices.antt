@@ -1,5 +1,5 @@
 -- A choice and the pass after it, and choice after choice. Assumes nothing.
-use Rattle.std.specs.Prelude.{Bool, true, false, List, ◌≡◌, refl, ℕ, suc, ◌+◌, ◌*◌, ◌≤◌, ◌<◌, length, set, Some}
+use Rattle.std.specs.Prelude.{Bool, true, false, List, ◌≡◌, refl, ℕ, suc, ◌+◌, ◌*◌, ◌≤◌, ◌<◌, length, set, Option, Some, MatchOption}
 use Rattle.std.proofs.Common.{sym, ◌∙◌, ap, subst, arith, length-set}
 use Rattle.spec.specs.Network.{Network}
 use Rattle.spec.specs.Tree.{pairs_of}
@@ -9,6 +9,7 @@ use Rattle.spec.specs.Improve.{improve}
 use Rattle.spec.specs.Slicing.{Plan, also, chosen, slice_loop, one_pass}
 use Rattle.laws.specs.Booleans.{clash}
 use Rattle.passes.specs.Made.{most_tried}
+use Rattle.reconf.specs.declared.Visited.{Visited}
 use Rattle.slicing.specs.Promise.{plan_with}
 use Rattle.slicing.specs.Turns.{Within, Turned, also_flag, slicing_none, slicing_next}
 use Rattle.slicetree.specs.Once.{limit_for, Once}
@@ -28,6 +29,11 @@ pub record Choice (N : Network) (n target : ℕ) (kids₀ flags₀ kids flags : 
   pub goes : r ≡ true → (x y fuel : ℕ)
       → slice_loop N target (one_pass N) (suc fuel) (plan_with flags₀ kids₀ x y)
       ≡ slice_loop N target (one_pass N) fuel (plan_with flags kids (x + rebuilt) (y + tried))
+
+-- the same by what the pass after the choice did, if there was one
+abbrev pub Taken : (N : Network) (n target : ℕ) (kids₀ flags₀ kids flags : List ℕ) → Option Visited → Type 0
+Taken N n target kids₀ flags₀ kids flags v =
+    MatchOption v (Choice N n target kids₀ flags₀ kids flags false 0 0) (λ d. Choice N n target kids₀ flags₀ kids flags true d.rebuilt d.tried)
 
 module _ {N : Network} {n target : ℕ} {kids₀ flags₀ flags : List ℕ} {r : Bool} (s : Stands N n kids₀ flags₀) (t : Turned N target kids₀ flags₀ flags r) where
   pub choice_none : r ≡ false → Choice N n target kids₀ flags₀ kids₀ flags false 0 0

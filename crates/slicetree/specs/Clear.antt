@@ -4,20 +4,16 @@ use Rattle.std.proofs.Math.Path.{sym, ap, fun_ext}
 use Rattle.std.proofs.Common.{◌∙◌, arith, ext_get_or, length-take-le, get_or-take, eq-eqb}
 use Rattle.spec.specs.Lists.{range}
 use Rattle.spec.specs.Memory.{over, copied}
-use Rattle.spec.specs.Network.{Network, leaf_count, index_count}
+use Rattle.spec.specs.Network.{Network, index_count}
 use Rattle.spec.specs.Tree.{pairs_of, flat_of}
-use Rattle.spec.specs.Price.{up_to, listing, work}
-use Rattle.spec.specs.Calls.{plain_words, flag_at, wrong_tree, is_beyond, total_is_beyond, follow_up}
+use Rattle.spec.specs.Price.{listing, work}
+use Rattle.spec.specs.Calls.{flag_at, wrong_tree, total_is_beyond, follow_up}
 use Rattle.spec.specs.Slicing.{Plan, slice_loop, slice}
 use Rattle.laws.specs.SliceCallLaws.{byte_back}
 use Rattle.laws.specs.LayoutLaws.{map_range_at, map_range_length}
-use Rattle.nodesets.specs.Lists.{Ordered, ordered_steps}
-use Rattle.pricing.specs.Promise.{Room}
-use Rattle.pricing.specs.Sums.{work_sum}
-use Rattle.reprice.specs.Held.{PriceHeld}
 use Rattle.slicing.specs.Promise.{plan_with}
 use Rattle.slicing.specs.Turns.{Within}
-use Rattle.reconfigure.specs.Improves.{flat_pairs, tree_length, beyond_is}
+use Rattle.reconfigure.specs.Improves.{flat_pairs, tree_length}
 use Rattle.slicetree.specs.Once.{exact_below}
 use Rattle.slicetree.specs.Choices.{Stands}
 use Rattle.cells.specs.Cells.{over_all}
@@ -55,13 +51,6 @@ pub stands_clear : (N : Network) (n m : ℕ) (kids zeros : List ℕ) → ((j : �
     → total_is_beyond N (λ j. false) (pairs_of kids) ≡ false → wrong_tree n kids ≡ false → Stands N n kids zeros
 stands_clear N n m kids zeros z q h b right = record { right = right; within = within_clear N m kids zeros z q h b }
 
--- the sum of the works decides
-pub clear_beyond : {N : Network} {kids sets sizes works : List ℕ} (zeros : List ℕ) → ((j : ℕ) → get_or zeros j 0 ≡ 0) → (n : ℕ) → leaf_count N ≡ n
-    → wrong_tree n kids ≡ false → PriceHeld N (flag_at zeros) kids sets sizes works → (r : Bool) → r ≡ is_beyond (up_to (work_sum works n (n - 1)))
-    → total_is_beyond N (λ j. false) (pairs_of kids) ≡ r
-clear_beyond {N} {kids} zeros z n q right h r e =
-    ap (λ g. total_is_beyond N g (pairs_of kids)) (sym (clear_flags zeros z)) ∙ sym (beyond_is n q right h) ∙ sym e
-
 -- ---- the flags go out ----
 
 bytes_are : (N : Network) (flags : List ℕ) (m : ℕ) → index_count N ≡ m → m ≤ length flags → ((j : ℕ) → get_or flags j 0 ≤ 1)
@@ -96,16 +85,3 @@ module _ (N : Network) (improving : Bool) (n m target : ℕ) (kids₀ zeros : Li
         is_rebuilt = ap (λ (p : Plan). p.rebuilt) plan_is;
         is_tried = ap (λ (p : Plan). p.tried) plan_is;
       }
-
--- ---- the lists are long enough ----
-
-pub local_room : {n words : ℕ} {kids order : List ℕ} → n ≤ 128 → plain_words ≤ words → Ordered n kids order → Room 4 n kids order words 1024 256 256 640
-local_room few h o =
-    let s = ordered_steps o in
-    record {
-      for_outside = omega (arith, s.numbers);
-      for_sets = omega (arith, s.numbers);
-      for_sizes = omega (arith, s.numbers);
-      for_works = omega (arith, s.numbers);
-      for_steps = omega (arith, s.steps);
-    }

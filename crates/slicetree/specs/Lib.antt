@@ -1,5 +1,4 @@
 -- Slicing with a pass of improvement after each choice; the entry of slicing: what it answers, and that its parts make the call. Assumes nothing.
-pub mod Asks
 pub mod Widest
 pub mod Once
 pub mod Choices

@@ -38,12 +38,12 @@ pub record Once (N : Network) (n target : ℕ) (flag : ℕ → Bool) (kids₀ ki
 pub exact_below : (x : ℕ) → is_beyond (up_to x) ≡ false → x < 9007199254740992
 exact_below x e =
     elim (dec_le 9007199254740992 x) [
-      | yes q ↦ clash (ap (λ b. is_beyond (cond b (Total.exact x) Total.beyond)) (le-ltb x (2 ^ 53) q)) e
+      | yes q ↦ clash (ap (λ b. is_beyond (cond b (Total.Exact x) Total.Beyond)) (le-ltb x (2 ^ 53) q)) e
       | no q ↦ omega arith
     ]
 
 pub below_exact : (x : ℕ) → x < 9007199254740992 → is_beyond (up_to x) ≡ false
-below_exact x h = ap (λ b. is_beyond (cond b (Total.exact x) Total.beyond)) (lt-ltb x (2 ^ 53) h)
+below_exact x h = ap (λ b. is_beyond (cond b (Total.Exact x) Total.Beyond)) (lt-ltb x (2 ^ 53) h)
 
 -- ---- the price list ----
 

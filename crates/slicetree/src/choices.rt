@@ -1,143 +1,94 @@
 // Slicing on lent lists with improvement: one pass follows each choice.
-ghost use Rattle.std.specs.Prelude.{◌≡◌, ◌+◌, ◌-◌, ◌≤◌, max, length, Some};
-ghost use Rattle.spec.specs.Layout.{firsts, network_of};
-ghost use Rattle.spec.specs.Calls.{flag_at};
-ghost use Rattle.spec.specs.Slicing.{or_zero};
-ghost use Rattle.pricing.specs.Answers.{widest_in};
-ghost use Rattle.subset.specs.Search.{limit_of};
-ghost use Rattle.slicetree.specs.Asks.{Asks};
+ghost use Rattle.std.specs.Prelude.{false, ◌≡◌, ◌≤◌, length};
+ghost use Rattle.spec.specs.Network.{leaf_count, index_count};
+ghost use Rattle.spec.specs.Calls.{dangling, flag_at, slice_words};
+ghost use Rattle.network.specs.Views.{net_in};
 ghost use Rattle.slicetree.specs.Once.{Once};
-ghost use Rattle.slicetree.specs.Choices.{Stands, Choice, ChoicesMade};
+ghost use Rattle.slicetree.specs.Choices.{Stands, Taken, ChoicesMade};
 
-use reconf::Visited;
-use reconfigure::Limit;
-
-// A turn of slicing: was an index flagged, and what the pass after it did.
-#[derive(Clone, Copy)]
-pub struct Turned {
-    pub flagged: bool,
-    pub rebuilt: u64,
-    pub tried: u64,
-}
-
-// The limit of the pass after a choice, as the search takes it: by the sizes of all nodes of a tree of `n` leaves, and the target.
-fn pass_limit(sizes: &[u16], n: usize, target: u16) -> u64
-    requires { (n ≤ 128) × (n + (n - 1) ≤ length sizes.now) }
-    ensures { limit_of result ≡ Some (max (or_zero (widest_in (firsts (n + (n - 1)) sizes.now))) target) }
-{
-    let widest = pricing::widest_of(sizes, n + cells::less(n, 1));
-    let bits = slicing::limit(widest, target);
-    reconfigure::limit_bits(Limit::Bits(bits))
-}
+use network::Accepted;
+use pricing::list::PriceList;
+use reconf::{Search, Visited};
+use walk::Tree;
 
 // One pass at k = 8 with the limit that the widest table or the target sets.
-fn improve_once<'a>(
-    words: &mut [u64],
+fn improve_once(
+    network: &Accepted,
     kids: &mut [u16],
-    m: usize,
-    n: usize,
-    o: usize,
-    weights: &'a [u8],
-    counts: &'a [u8],
-    legs: &'a [u16],
-    outputs: &'a [u16],
     flags: &[u8],
     target: u16,
+    words: &mut [u64],
 ) -> Visited
-    requires { Asks m n o (length words.old) weights.now counts.now legs.now outputs.now × Stands (network_of m n o weights.now counts.now legs.now outputs.now) n kids.old flags.now }
-    ensures { Once (network_of m n o weights.now counts.now legs.now outputs.now) n target (flag_at flags.now) kids.old kids.new result.rebuilt result.tried }
+    requires words { 6144 ≤ length words.old }
+    requires closed { dangling (net_in network.now) ≡ false }
+    requires stands { Stands (net_in network.now) (leaf_count (net_in network.now)) kids.old flags.now }
+    ensures { Once (net_in network.now) (leaf_count (net_in network.now)) target (flag_at flags.now) kids.old kids.new result.rebuilt result.tried }
 {
     let mut sets = [0u64; 1020];
     let mut sizes = [0u16; 255];
     let mut works = [0u16; 255];
-    reprice::reprice(
-        words, &mut sets, &mut sizes, &mut works, m, n, o, weights, counts, legs, outputs, flags,
-        kids,
-    );
-    let limit = pass_limit(&sizes, n, target);
-    passes::passes(
-        words, &mut sets, &mut sizes, &mut works, kids, m, n, o, weights, counts, legs, outputs,
-        flags, 8, limit, 1,
-    )
+    let mut list = PriceList {
+        sets: &mut sets,
+        sizes: &mut sizes,
+        works: &mut works,
+    };
+    reconf::price(words, &mut list, kids, network, flags);
+    let n = network.leaf_count();
+    let widest = list.widest(n + n.saturating_sub(1));
+    let search = Search {
+        flags,
+        k: 8,
+        limit: Some(slicing::limit(widest, target)),
+    };
+    passes::improve(words, &mut list, kids, network, &search, 1)
 }
 
-// A turn on the tree as it stands: flags one index more, unless slicing is done, and improves the tree.
-fn turn<'a>(
-    words: &mut [u64],
+// A turn on the tree as it stands: flags one index more, unless slicing is done, and improves the tree; what the pass did.
+fn turn(
+    network: &Accepted,
     kids: &mut [u16],
     flags: &mut [u8],
-    m: usize,
-    n: usize,
-    o: usize,
-    weights: &'a [u8],
-    counts: &'a [u8],
-    legs: &'a [u16],
-    outputs: &'a [u16],
     target: u16,
-) -> Turned
-    requires { Asks m n o (length words.old) weights.now counts.now legs.now outputs.now × Stands (network_of m n o weights.now counts.now legs.now outputs.now) n kids.old flags.old }
-    ensures { Choice (network_of m n o weights.now counts.now legs.now outputs.now) n target kids.old flags.old kids.new flags.new result.flagged result.rebuilt result.tried }
+    words: &mut [u64],
+) -> Option<Visited>
+    requires words { 6144 ≤ length words.old }
+    requires closed { dangling (net_in network.now) ≡ false }
+    requires stands { Stands (net_in network.now) (leaf_count (net_in network.now)) kids.old flags.old }
+    ensures { Taken (net_in network.now) (leaf_count (net_in network.now)) target kids.old flags.old kids.new flags.new result }
 {
     let mut order = [0u16; 128];
-    let c = walk::post_order(kids, n, words, &mut order);
-    if !slicing::turn(
-        words,
-        flags,
-        m,
-        n,
-        o,
-        weights,
-        counts,
-        legs,
-        outputs,
+    let tree = Tree {
         kids,
-        &order[..c],
-        target,
-    ) {
-        return Turned {
-            flagged: false,
-            rebuilt: 0,
-            tried: 0,
-        };
+        leaves: network.leaf_count(),
+    };
+    let c = tree.post_order(words, &mut order);
+    if !slicing::turn(words, flags, network, &tree, &order[..c], target) {
+        return None;
     }
-    let d = improve_once(
-        words, kids, m, n, o, weights, counts, legs, outputs, flags, target,
-    );
-    Turned {
-        flagged: true,
-        rebuilt: d.rebuilt,
-        tried: d.tried,
-    }
+    Some(improve_once(network, kids, flags, target, words))
 }
 
-// Slices the tree, improved after each choice; the counts are summed over all passes.
-pub fn slice<'a>(
-    words: &mut [u64],
+/// Slices the tree, improved after each choice; the counts are summed over all passes.
+pub fn slice(
+    network: &Accepted,
     kids: &mut [u16],
     flags: &mut [u8],
-    m: usize,
-    n: usize,
-    o: usize,
-    weights: &'a [u8],
-    counts: &'a [u8],
-    legs: &'a [u16],
-    outputs: &'a [u16],
     target: u16,
+    words: &mut [u64],
 ) -> Visited
-    requires { Asks m n o (length words.old) weights.now counts.now legs.now outputs.now × Stands (network_of m n o weights.now counts.now legs.now outputs.now) n kids.old flags.old }
-    ensures { ChoicesMade (network_of m n o weights.now counts.now legs.now outputs.now) n target kids.old flags.old m kids.new flags.new result.rebuilt result.tried }
+    requires words { 6144 ≤ length words.old }
+    requires closed { dangling (net_in network.now) ≡ false }
+    requires stands { Stands (net_in network.now) (leaf_count (net_in network.now)) kids.old flags.old }
+    ensures { ChoicesMade (net_in network.now) (leaf_count (net_in network.now)) target kids.old flags.old (index_count (net_in network.now)) kids.new flags.new result.rebuilt result.tried }
 {
     let mut rebuilt: u64 = 0;
     let mut tried: u64 = 0;
-    for i in 0..m {
-        let t = turn(
-            words, kids, flags, m, n, o, weights, counts, legs, outputs, target,
-        );
-        if !t.flagged {
+    for _ in 0..network.weights.len() {
+        let Some(pass) = turn(network, kids, flags, target, words) else {
             return Visited { rebuilt, tried };
-        }
-        rebuilt += t.rebuilt;
-        tried += t.tried;
+        };
+        rebuilt += pass.rebuilt;
+        tried += pass.tried;
     }
     Visited { rebuilt, tried }
 }

@@ -1,26 +1,21 @@
 #![tactic(auto)]
 // Slicing of a network's tree to a target, with improvement or without.
-ghost use Rattle.std.specs.Prelude.{◌≡◌, true, false, ◌≤◌, length};
-ghost use Rattle.spec.specs.Layout.{network_of};
+ghost use Rattle.std.specs.Prelude.{◌≡◌, true, false, ◌+◌, ◌≤◌, length};
+ghost use Rattle.spec.specs.Network.{leaf_count, index_count};
 ghost use Rattle.spec.specs.Tree.{pairs_of};
 ghost use Rattle.spec.specs.Calls.{plain_words, slice_words, wrong_tree, total_is_beyond, dangling, slice_call, sliced_tree, sliced_flags, workspace_after};
 ghost use Rattle.network.specs.Record.{net_of};
-ghost use Rattle.network.specs.Checks.{Lent};
-ghost use Rattle.network.specs.Codes.{Facts};
-ghost use Rattle.slicetree.specs.Clear.{SlicedTo};
-ghost use Rattle.slicetree.specs.Answers.{sliced_of, tree_number, Answered, Slices};
+ghost use Rattle.network.specs.Views.{net_in};
+ghost use Rattle.slicetree.specs.Choices.{Stands};
+ghost use Rattle.slicetree.specs.Answers.{counts, check_call, SlicedBy, Answered, Slices, sliced_of, named};
 
 mod choices; // choices.rt: slicing on lent lists, a pass of improvement after each choice
 
-use network::{Network, checks, refusal};
+use network::{Accepted, Network};
+use pricing::list::PriceList;
 use reconf::Visited;
-
-// The answer of slicing: how many subtrees were rebuilt, and how many splits were tried.
-#[derive(Clone, Copy)]
-pub enum Sliced {
-    Refused(u8),
-    Done { rebuilt: u64, tried: u64 },
-}
+use spec::Refusal;
+use walk::Tree;
 
 // The stated workspace, in words.
 fn stated(improving: bool) -> usize
@@ -29,206 +24,160 @@ fn stated(improving: bool) -> usize
     if improving { 6144 } else { 4096 }
 }
 
-// The number of the refusal of a tree, of its unsliced total or, with improvement, of a dangling index, and 0 for none.
-fn tree_number<'a>(
-    ws: &mut [u64],
-    m: usize,
-    n: usize,
-    o: usize,
-    weights: &'a [u8],
-    counts: &'a [u8],
-    legs: &'a [u16],
-    outputs: &'a [u16],
-    improving: bool,
-    tree: &[u16],
-) -> u8
-    requires { Lent weights.now counts.now legs.now outputs.now × Facts m n o weights.now counts.now legs.now outputs.now × (plain_words ≤ length ws.old) }
-    ensures { result ≡ tree_number (network_of m n o weights.now counts.now legs.now outputs.now) improving n tree.now }
+// Is the tree's unsliced total beyond.
+fn is_beyond(network: &Accepted, kids: &[u16], words: &mut [u64]) -> bool
+    requires right { wrong_tree (leaf_count (net_in network.now)) kids.now ≡ false }
+    requires words { plain_words ≤ length words.old }
+    ensures { result ≡ total_is_beyond (net_in network.now) (λ j. false) (pairs_of kids.now) }
 {
-    if !walk::is_tree(tree, n, ws) {
-        return refusal::INVALID_TREE;
-    }
-    let clear = [0u8; 256];
     let mut sets = [0u64; 1020];
     let mut sizes = [0u16; 255];
     let mut works = [0u16; 255];
-    reprice::reprice(
-        ws, &mut sets, &mut sizes, &mut works, m, n, o, weights, counts, legs, outputs, &clear,
-        tree,
-    );
-    if reconfigure::is_beyond(&works, n) {
-        return refusal::TOTAL_BEYOND;
+    let mut list = PriceList {
+        sets: &mut sets,
+        sizes: &mut sizes,
+        works: &mut works,
+    };
+    reconf::price(words, &mut list, kids, network, &[]);
+    reconfigure::is_beyond(list.works, network.leaf_count())
+}
+
+// Refuses what is no tree of the network, a tree whose unsliced total is beyond, and with improvement a dangling index.
+fn check(
+    network: &Accepted,
+    improving: bool,
+    kids: &[u16],
+    words: &mut [u64],
+) -> Result<(), Refusal>
+    requires words { plain_words ≤ length words.old }
+    ensures { result ≡ check_call (net_in network.now) improving kids.now }
+{
+    let tree = Tree::check(kids, network.leaf_count(), words)?;
+    if is_beyond(network, tree.kids, words) {
+        return Err(Refusal::TotalBeyond);
     }
     if !improving {
-        return refusal::NONE;
+        return Ok(());
     }
-    if reconfigure::dangling::dangling(m, n, o, counts, legs, outputs) {
-        return refusal::DANGLING_INDEX;
+    if reconfigure::dangling::is_dangling(network) {
+        return Err(Refusal::DanglingIndex);
     }
-    refusal::NONE
+    Ok(())
 }
 
-// Slices a tree that no check refuses, as it is, and writes the flags.
-fn slice_as_is<'a>(
-    ws: &mut [u64],
-    flags: &mut [u8],
-    m: usize,
-    n: usize,
-    o: usize,
-    weights: &'a [u8],
-    counts: &'a [u8],
-    legs: &'a [u16],
-    outputs: &'a [u16],
-    tree: &[u16],
-    target: u16,
-)
-    requires { Lent weights.now counts.now legs.now outputs.now × Facts m n o weights.now counts.now legs.now outputs.now × (plain_words ≤ length ws.old) × (wrong_tree n tree.now ≡ false) × (total_is_beyond (network_of m n o weights.now counts.now legs.now outputs.now) (λ j. false) (pairs_of tree.now) ≡ false) }
-    ensures { SlicedTo (network_of m n o weights.now counts.now legs.now outputs.now) false target tree.now flags.old tree.now flags.new 0 0 }
-{
-    let mut order = [0u16; 128];
-    let mut sliced = [0u8; 256];
-    let c = walk::post_order(tree, n, ws, &mut order);
-    slicing::slice(
-        ws,
-        &mut sliced,
-        m,
-        n,
-        o,
-        weights,
-        counts,
-        legs,
-        outputs,
-        tree,
-        &order[..c],
-        target,
-    );
-    cells::copy8(flags, &sliced, m);
-}
-
-// Slices a tree that no check refuses, improved after each choice, and writes the flags.
-fn slice_improved<'a>(
-    ws: &mut [u64],
-    tree: &mut [u16],
-    flags: &mut [u8],
-    m: usize,
-    n: usize,
-    o: usize,
-    weights: &'a [u8],
-    counts: &'a [u8],
-    legs: &'a [u16],
-    outputs: &'a [u16],
-    target: u16,
-) -> Visited
-    requires { Lent weights.now counts.now legs.now outputs.now × Facts m n o weights.now counts.now legs.now outputs.now × (slice_words true ≤ length ws.old) × (wrong_tree n tree.old ≡ false) × (total_is_beyond (network_of m n o weights.now counts.now legs.now outputs.now) (λ j. false) (pairs_of tree.old) ≡ false) × (dangling (network_of m n o weights.now counts.now legs.now outputs.now) ≡ false) }
-    ensures { SlicedTo (network_of m n o weights.now counts.now legs.now outputs.now) true target tree.old flags.old tree.new flags.new result.rebuilt result.tried }
-{
-    let mut sliced = [0u8; 256];
-    let d = choices::slice(
-        ws,
-        tree,
-        &mut sliced,
-        m,
-        n,
-        o,
-        weights,
-        counts,
-        legs,
-        outputs,
-        target,
-    );
-    cells::copy8(flags, &sliced, m);
-    d
-}
-
-// The answer where the network is accepted and the lists are long enough. On a refusal only `ws` is written.
-fn slice_checked<'a>(
-    ws: &mut [u64],
-    tree: &mut [u16],
-    flags: &mut [u8],
-    m: usize,
-    n: usize,
-    o: usize,
-    weights: &'a [u8],
-    counts: &'a [u8],
-    legs: &'a [u16],
-    outputs: &'a [u16],
+// Slices a tree that no check refuses: as it is, or improved after each choice.
+fn slice_with(
+    network: &Accepted,
     improving: bool,
+    kids: &mut [u16],
+    flags: &mut [u8],
     target: u16,
-) -> Sliced
-    requires { Lent weights.now counts.now legs.now outputs.now × Facts m n o weights.now counts.now legs.now outputs.now × (slice_words improving ≤ length ws.old) }
-    ensures { Answered (network_of m n o weights.now counts.now legs.now outputs.now) improving target tree.old flags.old tree.new flags.new result }
+    words: &mut [u64],
+) -> Visited
+    requires words { slice_words improving ≤ length words.old }
+    requires closed { improving ≡ true → dangling (net_in network.now) ≡ false }
+    requires stands { Stands (net_in network.now) (leaf_count (net_in network.now)) kids.old flags.old }
+    ensures { SlicedBy (net_in network.now) improving target kids.old flags.old kids.new flags.new result }
 {
-    let k = tree_number(ws, m, n, o, weights, counts, legs, outputs, improving, tree);
-    if k != refusal::NONE {
-        return Sliced::Refused(k);
-    }
     if improving {
-        let d = slice_improved(
-            ws, tree, flags, m, n, o, weights, counts, legs, outputs, target,
-        );
-        return Sliced::Done {
-            rebuilt: d.rebuilt,
-            tried: d.tried,
-        };
+        return choices::slice(network, kids, flags, target, words);
     }
-    slice_as_is(
-        ws, flags, m, n, o, weights, counts, legs, outputs, tree, target,
-    );
-    Sliced::Done {
+    let mut order = [0u16; 128];
+    let tree = Tree {
+        kids,
+        leaves: network.leaf_count(),
+    };
+    let c = tree.post_order(words, &mut order);
+    slicing::slice(words, flags, network, &tree, &order[..c], target);
+    Visited {
         rebuilt: 0,
         tried: 0,
     }
 }
 
-// The answer on lists that a record holds, the network's own check first.
-fn slice_of<'a>(
-    m: usize,
-    n: usize,
-    o: usize,
-    weights: &'a [u8],
-    counts: &'a [u8],
-    legs: &'a [u16],
-    outputs: &'a [u16],
+// The answer where the lists are long enough. On a refusal only `words` is written.
+fn slice_in(
+    network: &Accepted,
+    improving: bool,
+    kids: &mut [u16],
+    target: u16,
+    flags: &mut [u8],
+    words: &mut [u64],
+) -> Result<Visited, Refusal>
+    requires words { slice_words improving ≤ length words.old }
+    ensures { Answered (net_in network.now) improving target kids.old flags.old kids.new flags.new result }
+{
+    check(network, improving, kids, words)?;
+    let mut sliced = [0u8; 256];
+    let made = slice_with(network, improving, kids, &mut sliced, target, words);
+    cells::copy(flags, &sliced, network.weights.len());
+    Ok(made)
+}
+
+/// Slices the tree of an accepted network, as `slice` does. Refusals, in this order: `ShortBuffer`, `InvalidTree`, `TotalBeyond`, and with
+/// improvement `DanglingIndex`.
+pub fn slice_of(
+    network: &Accepted,
     improving: bool,
     tree: &mut [u16],
     target: u16,
     flags: &mut [u8],
     ws: &mut [u64],
-) -> Sliced
-    requires { Lent weights.now counts.now legs.now outputs.now }
-    ensures { Slices (network_of m n o weights.now counts.now legs.now outputs.now) improving target tree.old flags.old ws.old tree.new flags.new ws.new result }
+) -> Result<Visited, Refusal>
+    ensures { Slices (net_in network.now) improving target tree.old flags.old ws.old tree.new flags.new ws.new result }
 {
-    let k = checks::number(m, n, o, weights, counts, legs, outputs);
-    if k != refusal::NONE {
-        return Sliced::Refused(k);
-    }
     let words = stated(improving);
     if ws.len() < words {
-        return Sliced::Refused(refusal::SHORT_BUFFER);
+        return Err(Refusal::ShortBuffer);
     }
-    if flags.len() < m {
-        return Sliced::Refused(refusal::SHORT_BUFFER);
+    if flags.len() < network.weights.len() {
+        return Err(Refusal::ShortBuffer);
     }
-    let r = slice_checked(
-        &mut ws[..words],
-        tree,
-        flags,
-        m,
-        n,
-        o,
-        weights,
-        counts,
-        legs,
-        outputs,
-        improving,
-        target,
-    );
+    let answer = slice_in(network, improving, tree, target, flags, &mut ws[..words]);
     cells::clear(ws, words);
-    r
+    answer
 }
 
-// Slices the tree of a network until its widest table is within a target or no candidate is left: one flag an index, to the front of `flags`.
-// With improvement a pass over the tree, where it stands, follows each choice; without it the tree stays.
+/// Slices the tree of a network until its widest table is within a target or no candidate is left: one flag an index, to the front of `flags`.
+/// With improvement a pass over the tree, where it stands, follows each choice; without it the tree stays. The answer has how many subtrees were
+/// rebuilt, and how many splits were tried. The network's own refusals come first, then those of `slice_of`.
+pub fn slice(
+    network: &Network,
+    improving: bool,
+    tree: &mut [u16],
+    target: u16,
+    flags: &mut [u8],
+    ws: &mut [u64],
+) -> Result<Visited, Refusal>
+    ensures answer { result ≡ counts (slice_call (net_of network.now) improving target (length ws.old) (length flags.old) tree.old) }
+    ensures tree { tree.new ≡ sliced_tree (slice_call (net_of network.now) improving target (length ws.old) (length flags.old) tree.old) tree.old }
+    ensures sliced { flags.new ≡ sliced_flags (net_of network.now) (slice_call (net_of network.now) improving target (length ws.old) (length flags.old) tree.old) flags.old }
+    ensures workspace { ws.new ≡ workspace_after (slice_words improving) (slice_call (net_of network.now) improving target (length ws.old) (length flags.old) tree.old) ws.old }
+{
+    let network = network.accepted()?;
+    slice_of(&network, improving, tree, target, flags, ws)
+}
+
+// The answer of the old entry, a refusal by its number.
+#[derive(Clone, Copy)]
+pub enum Sliced {
+    Refused(u8),
+    Done { rebuilt: u64, tried: u64 },
+}
+
+fn numbered(answer: Result<Visited, Refusal>) -> Sliced
+    ensures { result ≡ named answer }
+{
+    match answer {
+        Ok(done) => Sliced::Done {
+            rebuilt: done.rebuilt,
+            tried: done.tried,
+        },
+        Err(refusal) => Sliced::Refused(refusal.number()),
+    }
+}
+
+// The same as `slice`, for callers of the old entry.
 pub fn slice_tree(
     network: Network,
     improving: bool,
@@ -242,21 +191,5 @@ pub fn slice_tree(
     ensures sliced { flags.new ≡ sliced_flags (net_of network) (slice_call (net_of network) improving target (length ws.old) (length flags.old) tree.old) flags.old }
     ensures workspace { ws.new ≡ workspace_after (slice_words improving) (slice_call (net_of network) improving target (length ws.old) (length flags.old) tree.old) ws.old }
 {
-    let m = network.index_count;
-    let n = network.leaf_count;
-    let o = network.output_count;
-    slice_of(
-        m,
-        n,
-        o,
-        &network.weights,
-        &network.leg_counts,
-        &network.legs,
-        &network.outputs,
-        improving,
-        tree,
-        target,
-        flags,
-        ws,
-    )
+    numbered(slice(&network, improving, tree, target, flags, ws))
 }

@@ -1,30 +1,36 @@
 -- The best candidate as a loop finds it, from each index's weight, work and size. Assumes nothing.
-use Rattle.std.specs.Prelude.{Bool, true, false, cond, ◌&&◌, ◌≡◌, List, ℕ, ◌+◌, ◌-◌, ◌*◌, ◌%◌, ◌^◌, ◌≤◌, ◌<◌, ltb, get_or}
+use Rattle.std.specs.Prelude.{Bool, true, false, cond, ◌&&◌, ◌≡◌, List, ℕ, ◌+◌, ◌-◌, ◌*◌, ◌%◌, ◌^◌, ◌≤◌, ◌<◌, ltb, get_or, Option, None, Some}
 use Rattle.std.proofs.Math.Bool.{and-false}
 use Rattle.std.proofs.Common.{sym, ◌∙◌, ap, arith, mul-le-mul_right, pow_mono, lt-ltb}
 use Rattle.spec.specs.Slicing.{Rank, rank_before}
 use Rattle.cells.specs.Loop.{turns}
 use Rattle.bits.specs.Bit.{one_shl}
-use Rattle.slicing.specs.declared.ranks.Best.{Best}
-use Rattle.slicing.specs.declared.ranks.Best.TheVariants.{Nothing, Index}
+use Rattle.slicing.specs.declared.ranks.Rank.{Rank as Found}
+
+-- a rank as the loop keeps it, and back
+abbrev pub rank_from : Found → Rank
+rank_from f = record { cost = f.cost; touched_size = f.touched_size.0; index = f.index }
+
+abbrev pub found : Rank → Found
+found r = record { cost = r.cost; touched_size = record { 0 = r.touched_size }; index = r.index }
 
 -- an index with its rank
-abbrev pub ranked : Rank → Best
-ranked r = Index r.index r.cost r.touched_size
+abbrev pub ranked : Rank → Option Found
+ranked r = Some (found r)
 
 -- the better of a rank and the best so far
-abbrev pub better : Rank → Best → Best
-better r Nothing = ranked r
-better r (Index i c s) = cond (rank_before r (record { cost = c; touched_size = s; index = i })) (ranked r) (Index i c s)
+abbrev pub better : Rank → Option Found → Option Found
+better r None = ranked r
+better r (Some f) = cond (rank_before r (rank_from f)) (ranked r) (Some f)
 
 module _ (candidate : ℕ → Bool) (rank : ℕ → Rank) where
   -- the best so far, when j is looked at too
-  abbrev pub considered : Best → ℕ → Best
+  abbrev pub considered : Option Found → ℕ → Option Found
   considered b j = cond (candidate j) (better (rank j) b) b
 
   -- the best of the indices below m
-  unfoldable pub best_of : ℕ → Best
-  best_of m = turns (λ j b. considered b j) Nothing m
+  unfoldable pub best_of : ℕ → Option Found
+  best_of m = turns (λ j b. considered b j) None m
 
 -- a candidate, by the weights of unsliced non-outputs and the summed sizes of tables above the target
 abbrev pub candidate_in : (sliceable sizes : List ℕ) → ℕ → Bool
@@ -36,8 +42,8 @@ rank_in total sliceable touching sizes j =
 
 -- ---- one index ----
 
-module _ (total : ℕ) (sliceable touching sizes : List ℕ) (b : Best) (j : ℕ) where
-  abbrev pub next : Best
+module _ (total : ℕ) (sliceable touching sizes : List ℕ) (b : Option Found) (j : ℕ) where
+  abbrev pub next : Option Found
   next = considered (candidate_in sliceable sizes) (rank_in total sliceable touching sizes) b j
 
   -- no candidate
@@ -55,16 +61,16 @@ module _ (total : ℕ) (sliceable touching sizes : List ℕ) (b : Best) (j : ℕ
       let y : ltb 0 (get_or sizes j 0) ≡ true = lt-ltb 0 (get_or sizes j 0) (omega (arith, ef)) in
       rw (x, y, ea, ew, ef, et)
 
-module _ (r : Rank) (b : Best) where
-  pub first : b ≡ Nothing → ranked r ≡ better r b
+module _ (r : Rank) (b : Option Found) where
+  pub first : b ≡ None → ranked r ≡ better r b
   first e = rw e
 
-  module _ (i c s : ℕ) (t : Bool) (e : b ≡ Index i c s) (f : t ≡ rank_before r (record { cost = c; touched_size = s; index = i })) where
+  module _ (o : Found) (t : Bool) (e : b ≡ Some o) (f : t ≡ rank_before r (rank_from o)) where
     pub replaced : t ≡ true → ranked r ≡ better r b
-    replaced g = sym (ap (better r) e ∙ ap (λ (x : Bool). cond x (ranked r) (Index i c s)) (sym f ∙ g))
+    replaced g = sym (ap (better r) e ∙ ap (λ (x : Bool). cond x (ranked r) (Some o)) (sym f ∙ g))
 
-    pub stays : t ≡ false → Index i c s ≡ better r b
-    stays g = sym (ap (better r) e ∙ ap (λ (x : Bool). cond x (ranked r) (Index i c s)) (sym f ∙ g))
+    pub stays : t ≡ false → Some o ≡ better r b
+    stays g = sym (ap (better r) e ∙ ap (λ (x : Bool). cond x (ranked r) (Some o)) (sym f ∙ g))
 
 -- ---- the cost fits a word ----
 

@@ -1,5 +1,5 @@
 -- The loop's best is the definition's, over the list of candidates. Assumes nothing.
-use Rattle.std.specs.Prelude.{Bool, true, false, cond, ◌≡◌, List, [], ◌∷◌, ◌++◌}
+use Rattle.std.specs.Prelude.{Bool, true, false, cond, ◌≡◌, List, [], ◌∷◌, ◌++◌, Option, None}
 use Rattle.std.proofs.Math.Path.{refl, sym, ap}
 use Rattle.std.proofs.Common.{◌∙◌, append-nil, arith, add-one}
 use Prim.Native.Nat.{ℕ, zero, suc, ◌+◌, ◌<◌}
@@ -9,26 +9,25 @@ use Rattle.spec.specs.Slicing.{Rank, rank_before, Plan, rank_of, best}
 use Rattle.laws.specs.Booleans.{by_cases}
 use Rattle.slots.specs.Rising.{keep-add}
 use Rattle.cells.specs.Loop.{turns, turns_none, turns_next, turns_ext}
-use Rattle.slicing.specs.declared.ranks.Best.{Best}
-use Rattle.slicing.specs.declared.ranks.Best.TheVariants.{Nothing}
+use Rattle.slicing.specs.declared.ranks.Rank.{Rank as Found}
 use Rattle.slicing.specs.Best.{ranked, better, considered, best_of}
 
 -- ---- the loop ----
 
 module _ (candidate : ℕ → Bool) (rank : ℕ → Rank) where
-  pub best_none : Nothing ≡ best_of candidate rank 0
+  pub best_none : None ≡ best_of candidate rank 0
   unfolding best_of
   best_none = sym (turns_none _ _)
 
-  pub best_next : (k : ℕ) (b r : Best) → b ≡ best_of candidate rank k → r ≡ considered candidate rank b k → r ≡ best_of candidate rank (k + 1)
+  pub best_next : (k : ℕ) (b r : Option Found) → b ≡ best_of candidate rank k → r ≡ considered candidate rank b k → r ≡ best_of candidate rank (k + 1)
   unfolding best_of
-  best_next k b r e f = turns_next (λ j b. considered candidate rank b j) Nothing k e f
+  best_next k b r e f = turns_next (λ j b. considered candidate rank b j) None k e f
 
 pub best_same : (c d : ℕ → Bool) (r q : ℕ → Rank) (m : ℕ) → ((j : ℕ) → j < m → c j ≡ d j) → ((j : ℕ) → j < m → d j ≡ true → r j ≡ q j)
     → best_of c r m ≡ best_of d q m
 unfolding best_of
 best_same c d r q m h k =
-    turns_ext (λ j b. considered c r b j) (λ j b. considered d q b j) Nothing m
+    turns_ext (λ j b. considered c r b j) (λ j b. considered d q b j) None m
     (λ j b l. ap (λ (x : Bool). cond x (better (r j) b) b) (h j l)
     ∙ by_cases (d j) (λ e. rw (e, k j l e)) (λ e. rw e))
 
@@ -39,8 +38,8 @@ module _ (N : Network) (target : ℕ) (p : Plan) where
   rank = rank_of N target p
 
   -- the definition's best of a list, with its rank; nothing where there is none
-  abbrev pub best_in : List ℕ → Best
-  best_in [] = Nothing
+  abbrev pub best_in : List ℕ → Option Found
+  best_in [] = None
   best_in (i ∷ l) = ranked (rank (best N target p i l))
 
   pick : (b : Bool) (j i : ℕ) → cond b (ranked (rank j)) (ranked (rank i)) ≡ ranked (rank (cond b j i))
@@ -70,4 +69,4 @@ module _ (N : Network) (target : ℕ) (p : Plan) where
     pub best_is : (m : ℕ) → best_of candidate rank m ≡ best_in (keep candidate (range m))
     unfolding best_of turns
     best_is zero = refl
-    best_is (suc m) = ap (λ (b : Best). considered candidate rank b m) (best_is m) ∙ sym (in_next m)
+    best_is (suc m) = ap (λ (b : Option Found). considered candidate rank b m) (best_is m) ∙ sym (in_next m)

@@ -1,75 +1,131 @@
 -- After pricing the lists have what the choice asks. Assumes nothing.
-use Rattle.std.specs.Prelude.{◌≡◌, List, ℕ, ◌<◌, length}
-use Rattle.std.proofs.Common.{sym, ◌∙◌, ap, arith}
-use Rattle.spec.specs.Lists.{memb}
-use Rattle.spec.specs.Layout.{network_of}
-use Rattle.spec.specs.Network.{Network}
-use Rattle.spec.specs.Tree.{pairs_of}
-use Rattle.spec.specs.Price.{list_at, listing, work, up_to, widest, size_at, work_at}
-use Rattle.spec.specs.Calls.{flag_at, node_places}
+use Rattle.std.specs.Prelude.{◌≡◌, refl, false, List, ℕ, ◌+◌, ◌*◌, ◌≤◌, ◌<◌, length, Option}
+use Rattle.std.proofs.Common.{sym, ◌∙◌, ap, subst, arith}
+use Rattle.spec.specs.Lists.{memb, range, sum_of}
+use Rattle.spec.specs.Layout.{firsts}
+use Rattle.spec.specs.Network.{Network, leaf_count, index_count}
+use Rattle.spec.specs.Tree.{pairs_of, step_order}
+use Rattle.spec.specs.Price.{list_at, listing, work, up_to, widest, size_at, work_at, price_of}
+use Rattle.spec.specs.declared.Total.{Total}
+use Rattle.spec.specs.declared.Prices.{Prices}
+use Rattle.spec.specs.Calls.{flag_at, node_places, wrong_tree}
 use Rattle.cells.specs.Cells.{over_length}
 use Rattle.slots.specs.Slots.{held}
+use Rattle.walk.specs.Wrong.{not_wrong}
+use Rattle.network.specs.Lists.{Holds}
+use Rattle.network.specs.Views.{net_in, in_facts, in_leaves, in_indices}
+use Rattle.network.specs.declared.accepted.Accepted.{Accepted}
+use Rattle.nodesets.specs.Passes.{nodes}
+use Rattle.nodesets.specs.Steps.{Steps}
 use Rattle.nodesets.specs.Sets.{held-with_sets, with_sets_length}
-use Rattle.nodesets.specs.Lists.{ordered_steps}
+use Rattle.nodesets.specs.Lists.{Ordered, ordered_steps}
 use Rattle.nodebits.specs.Stepped.{over_front}
-use Rattle.pricing.specs.declared.Prices.{Prices}
-use Rattle.pricing.specs.Promise.{Priceable, Room, Pricing}
-use Rattle.pricing.specs.Final.{weights_light, leaf_count_lem, places}
-use Rattle.cost.specs.Back.{total_from, widest_from, total_back, widest_back, exact_of}
+use Rattle.pricing.specs.declared.list.PriceList.{PriceList}
+use Rattle.pricing.specs.Lists.{HasRoom}
+use Rattle.pricing.specs.Answers.{widest_in}
+use Rattle.pricing.specs.Sums.{work_sum, slice_share}
+use Rattle.pricing.specs.Promise.{Priceable, Filled}
+use Rattle.pricing.specs.Accept.{accepted_priceable, accepted_places}
+use Rattle.pricing.specs.Final.{weights_light, price_answer}
+use Rattle.cost.specs.Back.{exact_of}
 use Rattle.slicing.specs.Promise.{Rankable, PricedTree, node_sums}
 use Rattle.slicing.specs.Turns.{exact_total}
 
-module _ {W m n o : ℕ} {weights counts rows outputs kids order : List ℕ} (p : Priceable W m n o weights counts rows outputs kids order)
-    {outside : ℕ} {sets₀ sizes₀ works₀ steps₀ : List ℕ}
-    (room : Room W n kids order outside (length sets₀) (length sizes₀) (length works₀) (length steps₀))
-    (flags sets sizes works steps : List ℕ) (r : Prices)
-    (q : Pricing W (network_of m n o weights counts rows outputs) (flag_at flags) (pairs_of kids) sets₀ sizes₀ works₀ steps₀ sets sizes works steps r) where
-  abbrev N : Network
-  N = network_of m n o weights counts rows outputs
+module _ (a : Accepted) (h : Holds a.weights.now a.leg_counts.now a.legs.now a.outputs.now) where
+  -- four words a set, and the places of a turn's lists
+  pub turn_fits : index_count (net_in a) ≤ 4 * 64
+  turn_fits = omega (arith, in_indices a, (in_facts a h).few_indices)
 
-  pub priced_tree : PricedTree W N n (flag_at flags) kids order sets sizes works
-  priced_tree =
+  pub turn_room : (p : PriceList) → 1020 ≤ length p.sets.now → 255 ≤ length p.sizes.now → 255 ≤ length p.works.now → HasRoom 4 (node_places (net_in a)) p
+  turn_room p s z w =
       record {
-        leaf_count_lem = leaf_count_lem p;
-        ordered = p.ordered;
-        holds = λ v j h b. ap (λ (l : List ℕ). held l W v j) q.list.sets_are ∙ held-with_sets sets₀ W (λ v j. memb j (list_at N (pairs_of kids) v)) (node_places N) v j (rw (places p) room.for_sets) (omega (arith, (places p))) b;
-        sizes_are = λ v h. over_front sizes₀ sizes (size_at N (flag_at flags) (pairs_of kids)) (node_places N) (omega (arith, places p, room.for_sizes)) q.list.sizes_are v (omega (arith, (places p)));
-        works_are = λ v h. over_front works₀ works (work_at N (flag_at flags) (pairs_of kids)) (node_places N) (omega (arith, places p, room.for_works)) q.list.works_are v (omega (arith, (places p)));
+        for_sets = omega (arith, in_leaves a, (in_facts a h).few_leaves);
+        for_sizes = omega (arith, in_leaves a, (in_facts a h).few_leaves);
+        for_works = omega (arith, in_leaves a, (in_facts a h).few_leaves);
       }
 
-  pub widest_is : widest_from r.widest ≡ widest N (flag_at flags) (listing N (flag_at flags) (pairs_of kids))
-  widest_is = ap (λ (x : Prices). widest_from x.widest) q.answer ∙ widest_back _
+  module _ (n : ℕ) (kids order : List ℕ) (leaves : n ≡ leaf_count (net_in a)) (right : wrong_tree n kids ≡ false) (in_order : order ≡ step_order kids n) where
+    abbrev N : Network
+    N = net_in a
 
-  pub total_handed : total_from r.total ≡ up_to (work (listing N (flag_at flags) (pairs_of kids)))
-  total_handed = ap (λ (x : Prices). total_from x.total) q.answer ∙ total_back _
+    ready : Priceable 4 (length a.weights.now) (length a.leg_counts.now) (length a.outputs.now) a.weights.now a.leg_counts.now a.legs.now a.outputs.now kids order
+    ready = accepted_priceable a h 4 n kids order (omega arith) turn_fits leaves right in_order
 
-  module _ (exact : work (listing N (flag_at flags) (pairs_of kids)) < 9007199254740992) where
-    pub total_is : exact_of (total_from r.total) ≡ work (listing N (flag_at flags) (pairs_of kids))
-    total_is = exact_total (total_from r.total) _ total_handed exact
+    leaves_are : length a.leg_counts.now ≡ n
+    leaves_are = sym (leaves ∙ in_leaves a)
 
-    pub rankable : (total : ℕ) → total ≡ exact_of (total_from r.total) → Rankable W m n weights kids order sets sizes works total
-    rankable total e =
-        record {
-          narrow = p.narrow;
-          fits = p.fits;
-          steps = ordered_steps p.ordered;
-          few = omega (arith, p.few, (ordered_steps p.ordered).numbers);
-          room = omega (arith, room.for_sets, ap length q.list.sets_are ∙ with_sets_length sets₀ W (λ v j. memb j (list_at N (pairs_of kids) v)) (node_places N));
-          sizes_in = omega (arith, room.for_sizes, ap length q.list.sizes_are ∙ over_length sizes₀ _);
-          works_in = omega (arith, room.for_works, ap length q.list.works_are ∙ over_length works₀ _);
-          weight_places = p.weight_places;
-          light = weights_light p;
-          total_is = (node_sums flags 0 0 0 priced_tree).totals ∙ sym total_is ∙ sym e;
-          exact = omega (arith, e, total_is);
-        }
+    places_are : node_places N ≡ nodes (length a.leg_counts.now) kids
+    places_are = accepted_places a h 4 n kids order (omega arith) turn_fits leaves right in_order
 
--- words of the same length
-pub same_room : {W n : ℕ} {kids order : List ℕ} {a b c d e : ℕ} (a' : ℕ) → Room W n kids order a b c d e → a' ≡ a → Room W n kids order a' b c d e
-same_room a' r p =
-    record {
-      for_outside = rw p r.for_outside;
-      for_sets = r.for_sets;
-      for_sizes = r.for_sizes;
-      for_works = r.for_works;
-      for_steps = r.for_steps;
-    }
+    pub places_of : node_places N ≡ nodes n kids
+    places_of = subst (λ (k : ℕ). node_places N ≡ nodes k kids) leaves_are places_are
+
+    ordered : Ordered n kids order
+    ordered = record { is_valid = not_wrong n kids right; in_order = in_order }
+
+    steps : Steps n kids order
+    steps = ordered_steps ordered
+
+    -- the numbers of the nodes are in the lists
+    pub nodes_in : length a.leg_counts.now + length order ≡ node_places N
+    nodes_in = omega (arith, steps.steps, steps.numbers, leaves_are, places_of)
+
+    module _ (flags : List ℕ) {sets₀ sizes₀ works₀ sets sizes works : List ℕ} (in_sets : 1020 ≤ length sets₀) (in_sizes : 255 ≤ length sizes₀) (in_works : 255 ≤ length works₀)
+        (f : Filled 4 N (flag_at flags) (pairs_of kids) sets₀ sizes₀ works₀ sets sizes works) where
+      for_sets : node_places N * 4 ≤ length sets₀
+      for_sets = omega (arith, in_leaves a, (in_facts a h).few_leaves)
+
+      for_sizes : node_places N ≤ length sizes₀
+      for_sizes = omega (arith, in_leaves a, (in_facts a h).few_leaves)
+
+      for_works : node_places N ≤ length works₀
+      for_works = omega (arith, in_leaves a, (in_facts a h).few_leaves)
+
+      pub sizes_long : length a.leg_counts.now + length order ≤ length sizes
+      sizes_long = omega (arith, nodes_in, for_sizes, ap length f.sizes_are ∙ over_length sizes₀ _)
+
+      pub works_long : length a.leg_counts.now + length order ≤ length works
+      works_long = omega (arith, nodes_in, for_works, ap length f.works_are ∙ over_length works₀ _)
+
+      pub priced_tree : PricedTree 4 N n (flag_at flags) kids order sets sizes works
+      priced_tree =
+          record {
+            leaf_count_lem = sym leaves;
+            ordered = ordered;
+            holds = λ v j h b. ap (λ (l : List ℕ). held l 4 v j) f.sets_are ∙ held-with_sets sets₀ 4 (λ v j. memb j (list_at N (pairs_of kids) v)) (node_places N) v j for_sets (omega (arith, places_of)) b;
+            sizes_are = λ v h. over_front sizes₀ sizes (size_at N (flag_at flags) (pairs_of kids)) (node_places N) for_sizes f.sizes_are v (omega (arith, places_of));
+            works_are = λ v h. over_front works₀ works (work_at N (flag_at flags) (pairs_of kids)) (node_places N) for_works f.works_are v (omega (arith, places_of));
+          }
+
+      module _ (t : Total) (w : Option ℕ) (et : t ≡ up_to (work_sum works (length a.leg_counts.now) (length order)))
+          (ew : w ≡ widest_in (firsts (length a.leg_counts.now + length order) sizes)) where
+        answer : ◌≡◌ {A = Prices} (record { total = t; widest = w; slice_bits = sum_of (slice_share a.weights.now flags) (range (length a.weights.now)) }) (price_of N (flag_at flags) (pairs_of kids))
+        answer =
+            price_answer ready flags (omega (arith, places_are, for_sizes)) (omega (arith, places_are, for_works)) f t w _ et
+            (ew ∙ ap (λ (x : ℕ). widest_in (firsts x sizes)) (nodes_in ∙ places_are)) refl
+
+        pub widest_is : w ≡ widest N (flag_at flags) (listing N (flag_at flags) (pairs_of kids))
+        widest_is = ap (λ (x : Prices). x.widest) answer
+
+        pub total_handed : t ≡ up_to (work (listing N (flag_at flags) (pairs_of kids)))
+        total_handed = ap (λ (x : Prices). x.total) answer
+
+        module _ (exact : work (listing N (flag_at flags) (pairs_of kids)) < 9007199254740992) where
+          pub total_is : exact_of t ≡ work (listing N (flag_at flags) (pairs_of kids))
+          total_is = exact_total t _ total_handed exact
+
+          pub rankable : (total : ℕ) → total ≡ exact_of t → Rankable 4 (length a.weights.now) n a.weights.now kids order sets sizes works total
+          rankable total e =
+              record {
+                narrow = omega arith;
+                fits = omega (arith, in_indices a, turn_fits);
+                steps = steps;
+                few = omega (arith, places_of, in_leaves a, (in_facts a h).few_leaves);
+                room = omega (arith, places_of, for_sets, ap length f.sets_are ∙ with_sets_length sets₀ 4 (λ v j. memb j (list_at N (pairs_of kids) v)) (node_places N));
+                sizes_in = omega (arith, nodes_in, places_of, sizes_long);
+                works_in = omega (arith, nodes_in, places_of, works_long);
+                weight_places = omega arith;
+                light = weights_light ready;
+                total_is = (node_sums flags 0 0 0 priced_tree).totals ∙ sym total_is ∙ sym e;
+                exact = omega (arith, e, total_is);
+              }

@@ -1,5 +1,5 @@
 -- One turn of slicing, and turn after turn, in the terms of a lent list of flags. Assumes nothing.
-use Rattle.std.specs.Prelude.{Bool, true, false, cond, ◌≡◌, refl, List, [], ◌∷◌, ℕ, zero, suc, ◌^◌, ◌≤◌, ◌<◌, length, get_or, set}
+use Rattle.std.specs.Prelude.{Bool, true, false, cond, ◌≡◌, refl, List, [], ◌∷◌, ℕ, zero, suc, ◌^◌, ◌≤◌, ◌<◌, length, get_or, set, Option, None, Some}
 use Rattle.std.proofs.Common.{sym, ◌∙◌, ap, arith, length-set, get_or-set_same, get_or-set_other, eq-eqb, ne_eqb, lt-ltb}
 use Rattle.std.proofs.Math.Path.{fun_ext}
 use Rattle.std.proofs.Math.Decide.{ℕ_discrete}
@@ -15,19 +15,23 @@ use Rattle.laws.specs.Booleans.{clash, and_right}
 use Rattle.laws.specs.ListLaws.{memb-keep, from_memb}
 use Rattle.laws.specs.SlicingOrder.{best_is_best}
 use Rattle.laws.specs.SlicingLaws.{flag_falls}
-use Rattle.slicing.specs.declared.ranks.Best.{Best}
-use Rattle.slicing.specs.declared.ranks.Best.TheVariants.{Nothing, Index}
+use Rattle.slicing.specs.declared.ranks.Rank.{Rank as Found}
 use Rattle.slicing.specs.Folds.{best_in}
 use Rattle.slicing.specs.Promise.{plan_with}
 
-abbrev pub is_index : Best → Bool
-is_index Nothing = false
-is_index (Index i c s) = true
+-- its number, 0 for none
+abbrev found_index : Option Found → ℕ
+found_index None = 0
+found_index (Some f) = f.index
+
+abbrev pub is_index : Option Found → Bool
+is_index None = false
+is_index (Some f) = true
 
 -- the flags with one more
-abbrev pub with_flag : Best → List ℕ → List ℕ
-with_flag Nothing l = l
-with_flag (Index i c s) l = set l i 1
+abbrev pub with_flag : Option Found → List ℕ → List ℕ
+with_flag None l = l
+with_flag (Some f) l = set l f.index 1
 
 -- the flags have a place an index, each 0 or 1, and with them the total is exact
 pub record Within (N : Network) (kids flags : List ℕ) : Type 0 where
@@ -58,36 +62,37 @@ module _ (N : Network) (target : ℕ) (improve : FollowUp) (p : Plan) where
     on : (fuel : ℕ) → slice_loop N target improve (suc fuel) p ≡ choose N target improve p (candidates N target p) (λ q. slice_loop N target improve fuel q)
     on fuel = ap (λ (b : Bool). cond b p (choose N target improve p (candidates N target p) (λ q. slice_loop N target improve fuel q))) e
 
-    pub loop_none : Nothing ≡ best_in N target p (candidates N target p) → (fuel : ℕ) → slice_loop N target improve fuel p ≡ p
+    pub loop_none : None ≡ best_in N target p (candidates N target p) → (fuel : ℕ) → slice_loop N target improve fuel p ≡ p
     loop_none f zero = refl
     loop_none f (suc fuel) = on fuel ∙ go (candidates N target p) f
       where
-        go : (l : List ℕ) → Nothing ≡ best_in N target p l → choose N target improve p l (λ q. slice_loop N target improve fuel q) ≡ p
+        go : (l : List ℕ) → None ≡ best_in N target p l → choose N target improve p l (λ q. slice_loop N target improve fuel q) ≡ p
         go [] f = refl
         go (i ∷ l) f = absurd (let z : ◌≡◌ {A = ℕ} 0 1 = cc in omega arith)
 
-    pub loop_next : (i c s : ℕ) → Index i c s ≡ best_in N target p (candidates N target p) → (fuel : ℕ)
-        → slice_loop N target improve (suc fuel) p ≡ slice_loop N target improve fuel (chosen N target improve p i)
-    loop_next i c s f fuel = on fuel ∙ go (candidates N target p) f
+    pub loop_next : (b : Found) → Some b ≡ best_in N target p (candidates N target p) → (fuel : ℕ)
+        → slice_loop N target improve (suc fuel) p ≡ slice_loop N target improve fuel (chosen N target improve p b.index)
+    loop_next b f fuel = on fuel ∙ go (candidates N target p) f
       where
-        go : (l : List ℕ) → Index i c s ≡ best_in N target p l
-            → choose N target improve p l (λ q. slice_loop N target improve fuel q) ≡ slice_loop N target improve fuel (chosen N target improve p i)
+        go : (l : List ℕ) → Some b ≡ best_in N target p l
+            → choose N target improve p l (λ q. slice_loop N target improve fuel q) ≡ slice_loop N target improve fuel (chosen N target improve p b.index)
         go [] f = absurd (let z : ◌≡◌ {A = ℕ} 0 1 = cc in omega arith)
         go (k ∷ l) f =
-            let z : best N target p k l ≡ i = cc in
+            let z : best N target p k l ≡ b.index = sym (ap found_index f) in
             ap (λ (x : ℕ). slice_loop N target improve fuel (chosen N target improve p x)) z
 
-pub best_low : (N : Network) (target : ℕ) (p : Plan) (i c s : ℕ) → Index i c s ≡ best_in N target p (candidates N target p) → i < index_count N
-best_low N target p i c s f = go (candidates N target p) refl f
+pub best_low : (N : Network) (target : ℕ) (p : Plan) (b : Found) → Some b ≡ best_in N target p (candidates N target p) → b.index < index_count N
+best_low N target p b f = go (candidates N target p) refl f
   where
-    go : (l : List ℕ) → candidates N target p ≡ l → Index i c s ≡ best_in N target p l → i < index_count N
+    go : (l : List ℕ) → candidates N target p ≡ l → Some b ≡ best_in N target p l → b.index < index_count N
     go [] e f = absurd (let z : ◌≡◌ {A = ℕ} 0 1 = cc in omega arith)
     go (k ∷ l) e f =
-        let z : best N target p k l ≡ i = cc in
+        let i = b.index in
+        let z : best N target p k l ≡ i = sym (ap found_index f) in
         let m : memb i (candidates N target p) ≡ true = ap (memb i) e ∙ ap (λ (x : ℕ). memb x (k ∷ l)) (sym z) ∙ (best_is_best N target p k l).member in
-        let b : memb i (range (index_count N)) ≡ true =
+        let y : memb i (range (index_count N)) ≡ true =
         and_right (candidate N target p i) (memb i (range (index_count N))) (sym (memb-keep i (candidate N target p) (range (index_count N))) ∙ m) in
-        omega (arith, from_memb i 0 (index_count N) b)
+        omega (arith, from_memb i 0 (index_count N) y)
 
 -- the exact total of a plan
 pub exact_total : (t : Total) (x : ℕ) → t ≡ up_to x → x < 9007199254740992 → exact_of t ≡ x
@@ -107,10 +112,10 @@ module _ (N : Network) (target : ℕ) (kids flags : List ℕ) where
         goes = λ z. clash z refl;
       }
 
-  pub turned : (b : Best) (r : Bool) (new : List ℕ) → within_target target (widest_of N (plan_with flags kids 0 0)) ≡ false
+  pub turned : (b : Option Found) (r : Bool) (new : List ℕ) → within_target target (widest_of N (plan_with flags kids 0 0)) ≡ false
       → ((x y : ℕ) → b ≡ best_in N target (plan_with flags kids x y) (candidates N target (plan_with flags kids x y)))
       → r ≡ is_index b → new ≡ with_flag b flags → Turned N target kids flags new r
-  turned Nothing r new e f g h =
+  turned None r new e f g h =
       record {
         index = 0;
         low = λ z. clash z g;
@@ -118,13 +123,13 @@ module _ (N : Network) (target : ℕ) (kids flags : List ℕ) where
         stops = λ z x y improve fuel. loop_none N target improve (plan_with flags kids x y) e (f x y) fuel;
         goes = λ z. clash z g;
       }
-  turned (Index i c s) r new e f g h =
+  turned (Some b) r new e f g h =
       record {
-        index = i;
-        low = λ z. best_low N target (plan_with flags kids 0 0) i c s (f 0 0);
+        index = b.index;
+        low = λ z. best_low N target (plan_with flags kids 0 0) b (f 0 0);
         flags_are = h ∙ rw g;
         stops = λ z. clash g z;
-        goes = λ z x y improve fuel. loop_next N target improve (plan_with flags kids x y) e i c s (f x y) fuel;
+        goes = λ z x y improve fuel. loop_next N target improve (plan_with flags kids x y) e b (f x y) fuel;
       }
 
 -- ---- turn after turn ----

@@ -1,120 +1,99 @@
 #![tactic(auto)]
 // Slicing on lent lists: turn after turn one index more is flagged, until the widest table is within the target or no candidate is left.
-ghost use Rattle.std.specs.Prelude.{◌≡◌, max, length};
-ghost use Rattle.spec.specs.Layout.{network_of};
+ghost use Rattle.std.specs.Prelude.{◌≡◌, ◌*◌, ◌≤◌, max, length};
+ghost use Rattle.spec.specs.Network.{leaf_count, index_count};
+ghost use Rattle.spec.specs.Calls.{node_places};
+ghost use Rattle.spec.specs.Tree.{step_order};
 ghost use Rattle.spec.specs.Slicing.{or_zero, within_target};
-ghost use Rattle.cost.specs.Back.{widest_from};
-ghost use Rattle.pricing.specs.Promise.{Priceable, Room};
+ghost use Rattle.network.specs.Views.{net_in};
 ghost use Rattle.slicing.specs.Turns.{with_flag, is_index, Within, Turned, Sliced};
 
 mod ranks; // ranks.rt: the index that is sliced next
 mod tallies; // tallies.rt: sums by index over the steps and the tables of a tree
 
-use pricing::Widest;
-use ranks::Best;
+use network::Accepted;
+use pricing::list::PriceList;
+use ranks::Rank;
+use walk::Tree;
 
 // Is the widest table within the target. Without leaves there is none.
-fn within(widest: Widest, target: u16) -> bool
-    ensures { result ≡ within_target target (widest_from widest) }
+fn within(widest: Option<u16>, target: u16) -> bool
+    ensures { result ≡ within_target target widest }
 {
-    match widest {
-        Widest::NoLeaves => true,
-        Widest::Bits(w) => w <= target,
-    }
+    widest.is_none_or(|w| w <= target)
 }
 
-// The limit of improvement after a choice: the widest table, or the target where that is larger.
-pub fn limit(widest: Widest, target: u16) -> u16
-    ensures { result ≡ max (or_zero (widest_from widest)) target }
+/// The limit of improvement after a choice: the widest table, or the target where that is larger.
+pub fn limit(widest: Option<u16>, target: u16) -> u16
+    ensures { result ≡ max (or_zero widest) target }
 {
-    match widest {
-        Widest::NoLeaves => target,
-        Widest::Bits(w) => {
-            if w < target {
-                return target;
-            }
-            w
-        }
-    }
+    widest.unwrap_or(0).max(target)
 }
 
 // Flags the index, if there is one.
-fn flag(flags: &mut [u8], best: Best) -> bool
+fn flag(flags: &mut [u8], best: Option<Rank>) -> bool
     ensures { (result ≡ is_index best) × (flags.new ≡ with_flag best flags.old) }
 {
     match best {
-        Best::Nothing => false,
-        Best::Index {
-            index,
-            cost: _,
-            size: _,
-        } => {
-            cells::put8(flags, index, 1);
+        None => false,
+        Some(rank) => {
+            cells::put(flags, rank.index, 1);
             true
         }
     }
 }
 
-// Prices the tree, and flags one index more, unless the widest table is within the target or no candidate is left. Was one flagged.
+/// Prices the tree, and flags one index more, unless the widest table is within the target or no candidate is left. Was one flagged.
 pub fn turn(
     outside: &mut [u64],
     flags: &mut [u8],
-    m: usize,
-    n: usize,
-    o: usize,
-    weights: &[u8],
-    counts: &[u8],
-    legs: &[u16],
-    outputs: &[u16],
-    kids: &[u16],
+    network: &Accepted,
+    tree: &Tree,
     order: &[u16],
     target: u16,
 ) -> bool
-    requires { Priceable 4 m n o weights.now counts.now legs.now outputs.now kids.now order.now × Room 4 n kids.now order.now (length outside.old) 1024 256 256 640 × Within (network_of m n o weights.now counts.now legs.now outputs.now) kids.now flags.old }
-    ensures { Turned (network_of m n o weights.now counts.now legs.now outputs.now) target kids.now flags.old flags.new result }
+    requires leaves { tree.now.leaves ≡ leaf_count (net_in network.now) }
+    requires order { order.now ≡ step_order tree.now.kids.now tree.now.leaves }
+    requires outside { node_places (net_in network.now) * 4 ≤ length outside.old }
+    requires within { Within (net_in network.now) tree.now.kids.now flags.old }
+    ensures { Turned (net_in network.now) target tree.now.kids.now flags.old flags.new result }
 {
     let mut sets = [0u64; 1024];
     let mut sizes = [0u16; 256];
     let mut works = [0u16; 256];
-    let mut steps = [0u16; 640];
-    let p = pricing::price(
-        outside, &mut sets, &mut sizes, &mut works, &mut steps, 4, m, n, o, weights, counts, legs,
-        outputs, flags, kids, order,
-    );
-    let widest = p.widest;
-    let handed = p.total;
-    if within(widest, target) {
+    let mut list = PriceList {
+        sets: &mut sets,
+        sizes: &mut sizes,
+        works: &mut works,
+    };
+    list.price::<256>(outside, 4, network, flags, tree, order);
+    let n = network.leg_counts.len();
+    let c = order.len();
+    if within(list.widest(n + c), target) {
         return false;
     }
-    let total = cost::exact(handed);
-    let best = ranks::choose(
-        &sets, &sizes, &works, 4, m, n, o, weights, outputs, flags, kids, order, total, target,
-    );
+    let total = cost::exact(list.total(n, c));
+    let best = ranks::choose(&list, network, flags, tree, order, total, target);
     flag(flags, best)
 }
 
-// Slices the tree as it is.
+/// Slices the tree as it is.
 pub fn slice(
     outside: &mut [u64],
     flags: &mut [u8],
-    m: usize,
-    n: usize,
-    o: usize,
-    weights: &[u8],
-    counts: &[u8],
-    legs: &[u16],
-    outputs: &[u16],
-    kids: &[u16],
+    network: &Accepted,
+    tree: &Tree,
     order: &[u16],
     target: u16,
 )
-    requires { Priceable 4 m n o weights.now counts.now legs.now outputs.now kids.now order.now × Room 4 n kids.now order.now (length outside.old) 1024 256 256 640 × Within (network_of m n o weights.now counts.now legs.now outputs.now) kids.now flags.old }
-    ensures { Sliced (network_of m n o weights.now counts.now legs.now outputs.now) target kids.now flags.old m flags.new }
+    requires leaves { tree.now.leaves ≡ leaf_count (net_in network.now) }
+    requires order { order.now ≡ step_order tree.now.kids.now tree.now.leaves }
+    requires outside { node_places (net_in network.now) * 4 ≤ length outside.old }
+    requires within { Within (net_in network.now) tree.now.kids.now flags.old }
+    ensures { Sliced (net_in network.now) target tree.now.kids.now flags.old (index_count (net_in network.now)) flags.new }
 {
-    for k in 0..m {
-        if !turn(
-            outside, flags, m, n, o, weights, counts, legs, outputs, kids, order, target,
-        ) {
+    for _ in 0..network.weights.len() {
+        if !turn(outside, flags, network, tree, order, target) {
             return;
         }
     }

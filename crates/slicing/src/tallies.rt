@@ -8,12 +8,8 @@ ghost use Rattle.laws.specs.FlatLaws.{left_of, right_of};
 ghost use Rattle.slicing.specs.Sums.{Added, Summed, Small};
 ghost use Rattle.slicing.specs.Nodes.{StepsKnown, TablesKnown, step_share, table_share, size_above};
 
-// A number as an index.
-fn index16(x: u16) -> usize
-    ensures { (result ≡ x) × (result < 65536) }
-{
-    x as usize
-}
+use pricing::list::PriceList;
+use walk::Tree;
 
 // Adds `amount` at place `base` + i for each set digit i of `x`.
 fn add_word(sums: &mut [u64], x: u64, base: usize, amount: u64)
@@ -23,7 +19,7 @@ fn add_word(sums: &mut [u64], x: u64, base: usize, amount: u64)
     let mut rest = x;
     while rest != 0 {
         let j = base + bits::low(rest);
-        sums[j] = sums[j] + amount;
+        sums[j] += amount;
         rest = rest & (rest - 1);
     }
 }
@@ -47,24 +43,16 @@ fn exp2(b: usize) -> u64
     1 << b
 }
 
-// Adds 2 to the work bits of each step at the places of the indices that its children list.
-pub fn add_works(
-    sums: &mut [u64],
-    sets: &[u64],
-    works: &[u16],
-    w: usize,
-    n: usize,
-    kids: &[u16],
-    order: &[u16],
-)
-    requires { StepsKnown w n kids.now order.now sets.now works.now sums.old }
-    ensures { Summed (step_share w (left_of kids.now n) (right_of kids.now n) sets.now works.now) sums.old order.now sums.new }
+/// Adds 2 to the work bits of each step at the places of the indices that its children list.
+pub fn add_works(sums: &mut [u64], list: &PriceList, w: usize, tree: &Tree, order: &[u16])
+    requires { StepsKnown w tree.now.leaves tree.now.kids.now order.now list.now.sets.now list.now.works.now sums.old }
+    ensures { Summed (step_share w (left_of tree.now.kids.now tree.now.leaves) (right_of tree.now.kids.now tree.now.leaves) list.now.sets.now list.now.works.now) sums.old order.now sums.new }
 {
-    for k in 0..order.len() {
-        let v = index16(order[k]);
-        let l = nodesets::left(kids, n, v);
-        let r = nodesets::right(kids, n, v);
-        add_slots(sums, sets, w, l, r, exp2(index16(works[v])));
+    for &node in order {
+        let v = usize::from(node);
+        let l = nodesets::left(tree.kids, tree.leaves, v);
+        let r = nodesets::right(tree.kids, tree.leaves, v);
+        add_slots(sums, list.sets, w, l, r, exp2(usize::from(list.works[v])));
     }
 }
 
@@ -76,15 +64,15 @@ fn add_size(sums: &mut [u64], sets: &[u64], w: usize, v: usize, size: u16, targe
     if size <= target {
         return;
     }
-    add_slots(sums, sets, w, v, v, size as u64);
+    add_slots(sums, sets, w, v, v, u64::from(size));
 }
 
-// Adds the size bits of each of the `m` tables that is above the target at the places of the indices that it lists.
+/// Adds the size bits of each of the `m` tables that is above the target at the places of the indices that it lists.
 pub fn add_sizes(sums: &mut [u64], sets: &[u64], sizes: &[u16], w: usize, m: usize, target: u16)
     requires { TablesKnown w m sets.now sizes.now sums.old }
     ensures { Summed (table_share w target sets.now sizes.now) sums.old (range m) sums.new }
 {
-    for v in 0..m {
-        add_size(sums, sets, w, v, sizes[v], target);
+    for (v, &size) in sizes[..m].iter().enumerate() {
+        add_size(sums, sets, w, v, size, target);
     }
 }

@@ -1,18 +1,10 @@
+use Rattle.std.proofs.Common.{◌∙◌, ap, length}
+use Rattle.spec.specs.Calls.{slice_call}
 use Rattle.network.specs.Record.{net_of}
+use Rattle.slicetree.specs.Answers.{named, named_counts}
 use Rattle.slicetree.proofs.slice_tree.Goals as goal
 
 pub returns-clause-answer : goal.returns-clause-answer
-unfolding net_of
-returns-clause-answer c = let q = c.slice_of.ensures in q.answer
-
-pub returns-clause-tree : goal.returns-clause-tree
-unfolding net_of
-returns-clause-tree c = let q = c.slice_of.ensures in q.tree
-
-pub returns-clause-sliced : goal.returns-clause-sliced
-unfolding net_of
-returns-clause-sliced c = let q = c.slice_of.ensures in q.flags_are
-
-pub returns-clause-workspace : goal.returns-clause-workspace
-unfolding net_of
-returns-clause-workspace c = let q = c.slice_of.ensures in q.workspace
+returns-clause-answer c =
+    let a = c.args in
+    c.numbered.ensures ∙ ap named c.slice.ensures.answer ∙ named_counts (slice_call (net_of a.network) a.improving a.target (length a.ws.now) (length a.flags.now) a.tree.now)

@@ -1,11 +1,41 @@
-use Rattle.slicing.specs.Turns.{Slicing, slicing_next}
-use borrow.Author.Tests.{not-false}
-use Rattle.spec.specs.Layout.{network_of}
+use Rattle.slicing.specs.Turns.{Slicing, slicing_next, slicing_stops, slicing_ends}
+use borrow.Author.Tests.{not-true, not-false}
+use Rattle.network.specs.Views.{net_in, in_indices}
+use Rattle.spec.specs.Network.{index_count}
 use Prim.Native.Nat.{ℕ, suc, ◌+◌, ◌-◌}
 use native.Mathlib.Omega.{arith}
 use mathlib.Core.Path.{◌≡◌, subst}
-use Rattle.std.proofs.lemmas.Bool.{not_from_true}
+use Rattle.std.proofs.lemmas.Bool.{not_from_true, not_from_false}
 use Rattle.slicing.proofs.slice.Goals as goal
 
-pub loop-k-preserved : goal.loop-k-preserved
-loop-k-preserved c = let a = c.args in let l = c.loop-k in let N = network_of a.m a.n a.o a.weights.now a.counts.now a.legs.now a.outputs.now in let e : a.m - l.k ≡ suc (a.m - (l.k + 1)) = omega (arith, c.loop-k-test.true) in (omega (arith, c.loop-k-test.true), omega arith, slicing_next N a.target a.kids.now a.flags.now a.m (a.m - (l.k + 1)) l.flags _ c.turn.result (not-false c.turn.result (not_from_true _ c.if-not-turn.false)) c.turn.ensures (subst (λ (x : ℕ). Slicing N a.target a.kids.now a.flags.now a.m x l.flags) e l.invariant.2))
+pub turn-requires-clause-within : goal.turn-requires-clause-within
+turn-requires-clause-within c = c.loop.invariant.1.within
+
+pub returns-then-not-turn : goal.returns-then-not-turn
+returns-then-not-turn c =
+    let a = c.args in
+    let l = c.loop in
+    let N = net_in a.network.now in
+    slicing_stops N a.target a.tree.now.kids.now a.flags.now (index_count N) (index_count N - l.counter) l.flags _ c.turn.result
+    (not-true c.turn.result (not_from_false _ c.if-not-turn.true)) c.turn.ensures l.invariant.1
+
+pub loop-preserved : goal.loop-preserved
+loop-preserved c =
+    let a = c.args in
+    let l = c.loop in
+    let N = net_in a.network.now in
+    let m = index_count N in
+    let kids = a.tree.now.kids.now in
+    let e : m - l.counter ≡ suc (m - (l.counter + 1)) = omega (arith, in_indices a.network.now) in (
+      omega arith,
+      slicing_next N a.target kids a.flags.now m (m - (l.counter + 1)) l.flags _ c.turn.result
+          (not-false c.turn.result (not_from_true _ c.if-not-turn.false)) c.turn.ensures
+          (subst (λ (x : ℕ). Slicing N a.target kids a.flags.now m x l.flags) e l.invariant.1),
+    )
+
+pub returns : goal.returns
+returns c =
+    let a = c.args in
+    let l = c.loop in
+    let N = net_in a.network.now in
+    slicing_ends N a.target a.tree.now.kids.now a.flags.now (index_count N) (index_count N - l.counter) l.flags (omega (arith, in_indices a.network.now)) l.invariant.1

@@ -1,12 +1,24 @@
-use Rattle.network.specs.Layouts.{layout_leaf_count}
-use Rattle.subset.specs.Search.{limit_of}
+use Rattle.std.proofs.Common.{◌∙◌, ℕ, ◌+◌, ◌-◌, refl, ap, Some, arith}
+use Rattle.spec.specs.Layout.{firsts}
+use Rattle.spec.specs.Slicing.{or_zero}
+use Rattle.std.specs.Prelude.{max, Option}
+use Rattle.pricing.specs.Answers.{widest_in}
+use Rattle.network.specs.Views.{net_in, in_facts, in_leaves}
 use Rattle.slicetree.specs.Once.{standing_of, once, limit_is}
-use Rattle.slicetree.specs.Asks.{asks_ready}
-use native.Mathlib.Omega.{arith}
 use Rattle.slicetree.proofs.choices.improve_once.Goals as goal
 
-pub passes-requires : goal.passes-requires
-passes-requires c = let a = c.args in let kept = c.reprice.auto in (asks_ready c.requires.0 _ _ _ _ kept.words (omega (arith, kept.sets)) (omega (arith, kept.sizes)) (omega (arith, kept.works)), standing_of (layout_leaf_count a.m a.n a.o a.weights.now a.counts.now a.legs.now a.outputs.now) c.reprice.ensures c.requires.1.right c.requires.1.within.total, omega arith)
+pub improve-requires-clause-standing : goal.improve-requires-clause-standing
+improve-requires-clause-standing c = standing_of refl c.price.ensures.held c.requires.stands.right c.requires.stands.within.total
 
 pub returns : goal.returns
-returns c = let a = c.args in let q = layout_leaf_count a.m a.n a.o a.weights.now a.counts.now a.legs.now a.outputs.now in once a.target q c.requires.0.facts.few_leaves (standing_of q c.reprice.ensures c.requires.1.right c.requires.1.within.total) (limit_of c.pass_limit-limit.result) (limit_is a.target q c.reprice.ensures c.requires.1.right (limit_of c.pass_limit-limit.result) c.pass_limit-limit.ensures) c.passes.auto.kids c.passes.ensures
+returns c =
+    let a = c.args in
+    let n = a.network.now in
+    let N = net_in n in
+    let held = c.price.ensures.held in
+    let e = c.limit.ensures
+    ∙ ap (λ (w : Option ℕ). max (or_zero w) a.target) c.widest-widest.ensures
+    ∙ ap (λ (x : ℕ). max (or_zero (widest_in (firsts (c.leaf_count-n.result + x) c.price.new.list.sizes.now))) a.target) c.saturating_sub.ensures
+    ∙ ap (λ (x : ℕ). max (or_zero (widest_in (firsts (x + (x - 1)) c.price.new.list.sizes.now))) a.target) c.leaf_count-n.ensures in
+    once a.target refl (omega (arith, in_leaves n, (in_facts n n.holds).few_leaves)) (standing_of refl held c.requires.stands.right c.requires.stands.within.total)
+    (Some c.limit.result) (limit_is a.target refl held c.requires.stands.right (Some c.limit.result) (ap Some e)) c.improve.auto.kids c.improve.ensures.improves

@@ -2,6 +2,7 @@ use Rattle.spec.specs.Memory.{filled}
 use Rattle.spec.specs.Layout.{firsts}
 use Rattle.slicing.specs.Weights.{unlisted_light}
 use Rattle.slicing.specs.Whole.{steps_known, tables_known, touching_most, chosen_is}
+use lib.ListN.{length}
 use Rattle.slicing.proofs.ranks.choose.Goals as goal
 
 pub add_works-requires : goal.add_works-requires
@@ -12,10 +13,14 @@ pub add_sizes-requires : goal.add_sizes-requires
 unfolding filled
 add_sizes-requires c = tables_known c.requires
 
-pub best_of-requires : goal.best_of-requires
+pub best-requires : goal.best-requires
 unfolding filled
-best_of-requires c = (unlisted_light (firsts c.args.m c.args.weights.now) c.args.flags.now c.args.outputs.now c.args.o c.sliceable_weights.new.sliceable c.requires.light c.sliceable_weights.ensures, touching_most c.requires c.add_works.new.sums c.add_works.ensures, c.requires.exact)
+best-requires c = let n = c.args.network.now in (
+  unlisted_light (firsts (length n.weights.now) n.weights.now) c.args.flags.now n.outputs.now (length n.outputs.now) c.sliceable_weights.new.sliceable c.requires.light c.sliceable_weights.ensures,
+  touching_most c.requires c.add_works.new.sums c.add_works.ensures,
+  c.requires.exact,
+)
 
 pub returns : goal.returns
 unfolding filled
-returns c = chosen_is c.requires c.args.o c.args.outputs.now c.args.flags.now c.args.target c.sliceable_weights.new.sliceable c.add_works.new.sums c.add_sizes.new.sums c.best_of.result c.sliceable_weights.ensures c.add_works.ensures c.add_sizes.ensures c.best_of.ensures
+returns c = chosen_is c.args.network.now c.requires c.args.flags.now c.args.target c.sliceable_weights.new.sliceable c.add_works.new.sums c.add_sizes.new.sums c.best.result c.sliceable_weights.ensures c.add_works.ensures c.add_sizes.ensures c.best.ensures

@@ -1,6 +1,6 @@
 use Rattle.slicing.specs.Folds.{best_none, best_next}
 use native.Mathlib.Omega.{arith}
-use Rattle.slicing.proofs.ranks.best_of.Goals as goal
+use Rattle.slicing.proofs.ranks.Merits.best.Goals as goal
 
 pub loop-j-init : goal.loop-j-init
 loop-j-init c = (omega arith, best_none _ _)
