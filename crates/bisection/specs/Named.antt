@@ -3,6 +3,7 @@ use Rattle.std.specs.Prelude.{◌≡◌, List, ◌++◌, ℕ, ◌+◌, ◌-◌, 
 use Rattle.std.proofs.Common.{sym, ap, ◌∙◌, arith, take-append-drop}
 use Rattle.spec.specs.Lists.{memb, count}
 use Rattle.spec.specs.Network.{Network}
+use Rattle.spec.specs.Draws.{Words}
 use Rattle.spec.specs.Bisection.{left_half, right_half}
 use Rattle.laws.specs.Booleans.{by_cases}
 use Rattle.laws.specs.ListLaws.{count_memb, count_not_memb, count-append}
@@ -34,14 +35,14 @@ named_some {leaves = leaves} s l h =
 count_parts : (m v : ℕ) (l : List ℕ) → count v (take m l) + count v (drop m l) ≡ count v l
 count_parts m v l = sym (count-append v (take m l) (drop m l)) ∙ ap (count v) (take-append-drop m l)
 
-module _ (weights counts legs leaves : List ℕ) (s : Named weights counts legs leaves) (eps : Float) (words : List ℕ) (at : ℕ) (l : List ℕ) (left next : ℕ)
-    (cut : CutBy s.network leaves eps words at l left next)
+module _ (weights counts legs leaves : List ℕ) (s : Named weights counts legs leaves) (eps : Float) (at : Words) (l : List ℕ) (left : ℕ) (next : Words)
+    (cut : CutBy s.network leaves eps at l left next)
   where
     -- the leaves are put in another order
     same_count : (v : ℕ) → count v l ≡ count v leaves
     same_count v = go cut
       where
-        go : CutBy s.network leaves eps words at l left next → count v l ≡ count v leaves
+        go : CutBy s.network leaves eps at l left next → count v l ≡ count v leaves
         go (is_exhausted z part ep d same) = ap (count v) same
         go (is_whole z part ep d q same) = ap (count v) same
         go (is_cut z m part ep d q same) =

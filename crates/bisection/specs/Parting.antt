@@ -3,10 +3,9 @@ use Rattle.std.specs.Prelude.{◌≡◌, List, ◌++◌, ℕ, ◌+◌, ◌≤◌
 use Rattle.std.proofs.Common.{sym, ap, ◌∙◌, arith, length-append, take-append-drop, take_at, length-take-le}
 use Rattle.std.proofs.lemmas.List.{length-replicate}
 use Rattle.spec.specs.Network.{Network}
-use Rattle.spec.specs.Draws.{drawn}
+use Rattle.spec.specs.Draws.{Words, drawn}
 use Rattle.spec.specs.Hypergraph.{Hypergraph}
 use Rattle.spec.specs.Bisection.{bisect}
-use Rattle.draws.specs.Cursor.{words_at}
 use Rattle.partition.specs.Layout.{graph_in}
 use Rattle.bisect.specs.Whole.{IsOf}
 use Rattle.bisect.specs.Cuts.{Partitioned}
@@ -42,12 +41,12 @@ module _ (N : Network) (leaves ws : List ℕ) (k : ℕ) (ws' netw : List ℕ) (m
         places_fit = hc;
       }
 
-  pub partitioned : (vw : List Float) (part part₁ : List ℕ) (eps : Float) (draws : List ℕ) (at next : ℕ) → length leaves ≤ length vw → length leaves ≤ length part
+  pub partitioned : (vw : List Float) (part part₁ : List ℕ) (eps : Float) (at next : Words) → length leaves ≤ length vw → length leaves ≤ length part
       → length vw₁ ≡ length (take (length leaves) vw) → length part₁ ≡ length (take (length leaves) part)
-      → drawn part₁ (words_at draws next) ≡ bisect (graph_in ws' 0 netw m (take (length leaves) (vw₁ ++ drop (length leaves) vw))) eps (words_at draws at)
-      → Partitioned N leaves eps draws at (part₁ ++ drop (length leaves) part) next
-  partitioned vw part part₁ eps draws at next hv hp ev ep q =
-      ap (λ (l : List ℕ). drawn l (words_at draws next)) (front_back part part₁ (length leaves) hp ep)
+      → drawn part₁ next ≡ bisect (graph_in ws' 0 netw m (take (length leaves) (vw₁ ++ drop (length leaves) vw))) eps at
+      → Partitioned N leaves eps at (part₁ ++ drop (length leaves) part) next
+  partitioned vw part part₁ eps at next hv hp ev ep q =
+      ap (λ (l : List ℕ). drawn l next) (front_back part part₁ (length leaves) hp ep)
       ∙ q
-      ∙ ap (λ (l : List Float). bisect (graph_in ws' 0 netw m l) eps (words_at draws at)) (front_back vw vw₁ (length leaves) hv ev)
-      ∙ ap (λ (G : Hypergraph). bisect G eps (words_at draws at)) is.graph_is
+      ∙ ap (λ (l : List Float). bisect (graph_in ws' 0 netw m l) eps at) (front_back vw vw₁ (length leaves) hv ev)
+      ∙ ap (λ (G : Hypergraph). bisect G eps at) is.graph_is

@@ -1,89 +1,81 @@
 // Leaves halved by a partition of their hypergraph.
-ghost use Rattle.std.specs.Prelude.{◌<◌, ◌≤◌, length};
+ghost use Rattle.std.specs.Prelude.{◌<◌, ◌≤◌, length, IfSome};
 ghost use Rattle.spec.specs.Network.{Network as Net};
 ghost use Rattle.bisect.specs.Whole.{Names};
-ghost use Rattle.bisect.specs.Cuts.{Partitioned, CutBy};
+ghost use Rattle.bisect.specs.Cuts.{Partitioned, CutBy, left_of};
 ghost use Rattle.bisection.specs.Named.{Named};
 
 use bisect::{halves, hypergraph};
-
-// How many leaves go left, 0 where they are not halved; and the cursor.
-#[derive(Clone, Copy)]
-pub struct Cut {
-    pub left: usize,
-    pub at: usize,
-}
+use coarsen::{Size, Slots};
+use draws::Draws;
+use levels::Levels;
+use network::Accepted;
 
 // A partition of the leaves, to the front of `part`. The local lists hold the weights of nets and of vertices and the map to the next level, of each level.
-// Returns the cursor.
 fn partition_of(
     ws: &mut [u64],
-    weights: &[u8],
-    counts: &[u8],
-    legs: &[u16],
+    network: &Accepted,
     leaves: &[u16],
     eps: f64,
-    draws: &[u64],
-    at: usize,
+    draws: &mut Draws,
     part: &mut [u8],
-) -> usize
-    requires { (length weights.now ≤ 256) × (2 < length leaves.now) × (length leaves.now ≤ 128) × Named weights.now counts.now legs.now leaves.now × (32768 ≤ length ws.old) × (128 ≤ length part.old) }
-    ensures { (N : Net) → Names N weights.now counts.now legs.now leaves.now → Partitioned N leaves.now eps draws.now at part.new result }
+)
+    requires { (length network.now.weights.now ≤ 256) × (2 < length leaves.now) × (length leaves.now ≤ 128) × Named network.now.weights.now network.now.leg_counts.now network.now.legs.now leaves.now × (32768 ≤ length ws.old) × (128 ≤ length part.old) }
+    ensures { (N : Net) → Names N network.now.weights.now network.now.leg_counts.now network.now.legs.now leaves.now → Partitioned N leaves.now eps draws.old part.new draws.new }
 {
-    let mut netw = [0u8; 7168];
-    let mut vw = [0.0f64; 3584];
+    let mut net_weights = [0u8; 7168];
+    let mut vertex_weights = [0.0f64; 3584];
     let mut places = [0u16; 3584];
     let n = leaves.len();
-    let m = hypergraph::hypergraph_of(
+    let slots = Slots {
+        nets: 0,
+        vertices: 128,
+    };
+    let nets = hypergraph::hypergraph_of(
         ws,
-        0,
-        128,
-        weights,
-        counts,
-        legs,
+        slots,
+        network,
         leaves,
-        &mut netw,
-        &mut vw[..n],
+        &mut net_weights,
+        &mut vertex_weights[..n],
     );
-    bisect::bisect(
-        ws,
-        m,
-        n,
-        &mut netw,
-        &mut vw,
-        eps,
-        draws,
-        at,
-        &mut part[..n],
-        &mut places,
-    )
+    let size = Size {
+        nets,
+        vertices: n,
+    };
+    let mut lists = Levels {
+        net_weights: &mut net_weights,
+        vertex_weights: &mut vertex_weights,
+        places: &mut places,
+    };
+    bisect::bisect(ws, &mut lists, size, eps, draws, &mut part[..n]);
 }
 
-// Halves the leaves by a partition, side 0 first.
+// Halves the leaves by a partition, side 0 first. Returns how many go left; none where the leaves are not halved.
 pub(crate) fn cut_leaves(
     leaves: &mut [u16],
     ws: &mut [u64],
-    weights: &[u8],
-    counts: &[u8],
-    legs: &[u16],
+    network: &Accepted,
     eps: f64,
-    draws: &[u64],
-    at: usize,
-) -> Cut
-    requires { (length weights.now ≤ 256) × (2 < length leaves.old) × (length leaves.old ≤ 128) × Named weights.now counts.now legs.now leaves.old × (32768 ≤ length ws.old) }
-    ensures left_in_bounds { result.left < length leaves.old }
-    ensures cut_by { (N : Net) → Names N weights.now counts.now legs.now leaves.old → CutBy N leaves.old eps draws.now at leaves.new result.left result.at }
+    draws: &mut Draws,
+) -> Option<usize>
+    requires { (length network.now.weights.now ≤ 256) × (2 < length leaves.old) × (length leaves.old ≤ 128) × Named network.now.weights.now network.now.leg_counts.now network.now.legs.now leaves.old × (32768 ≤ length ws.old) }
+    ensures left_in_bounds { IfSome result (λ left. (0 < left) × (left < length leaves.old)) }
+    ensures cut_by { (N : Net) → Names N network.now.weights.now network.now.leg_counts.now network.now.legs.now leaves.old → CutBy N leaves.old eps draws.old leaves.new (left_of result) draws.new }
 {
     let mut part = [0u8; 128];
-    let next = partition_of(ws, weights, counts, legs, leaves, eps, draws, at, &mut part);
-    if draws::is_exhausted(draws, next) {
-        return Cut { left: 0, at: next };
+    partition_of(ws, network, leaves, eps, draws, &mut part);
+    if draws.is_exhausted() {
+        return None;
     }
     let n = leaves.len();
     let mut others = [0u16; 128];
     let left = halves::halve(leaves, &part[..n], &mut others);
     if left == n {
-        return Cut { left: 0, at: next };
+        return None;
     }
-    Cut { left, at: next }
+    if left == 0 {
+        return None;
+    }
+    Some(left)
 }

@@ -1,45 +1,83 @@
-use lib.ListN.{length}
-use native.Mathlib.Omega.{arith}
+use Rattle.std.proofs.Common.{rules, ℕ, ◌≡◌, ◌≤◌, ◌+◌, ◌-◌, arith, refl, sym, subst, ap, length, length-take-le}
+use Rattle.std.specs.Prelude.{Err, Ok}
 use Rattle.bisect.specs.Recursion.{rest_part, rec_small, cut_same, rec_unsplit, left_asks, rec_left, rec_joined}
-use Rattle.bisect.specs.Cases.{Halves}
+use Rattle.bisect.specs.Cases.{is_right, is_node}
 use Rattle.greedynodes.specs.Begin.{Asks}
 use Rattle.bisection.specs.Calls.{rest_length, fits_again, names_of}
 use Rattle.bisection.specs.Named.{left_named, right_named}
-use lib.Seq.{length-take-le}
-use mathlib.Core.Path.{refl, sym, subst}
-use Prim.Native.Nat.{◌≤◌}
 use Rattle.bisection.proofs.+bisect_rec.Goals as goal
 
 pub returns-then-all-most : goal.returns-then-all-most
-returns-then-all-most t c = let a = c.args in λ N b s. rec_small N a.eps a.cutoff b a.leaves.now a.draws.now a.at a.kids.now (omega (arith, c.if-all-most.true, c.small-most.ensures)) _ _ (c.greedy_nodes-top.ensures N b s)
+returns-then-all-most t c = let a = c.args in λ N b s. rec_small N a.eps a.cutoff b a.leaves.now a.draws.now a.kids.now (omega (arith, c.if-all-most.true, c.small-most.ensures)) _ _ (c.small_end.ensures N b s)
 
-pub returns-then-left-eq0 : goal.returns-then-left-eq0
-returns-then-left-eq0 t c = let a = c.args in λ N b s. let cut = c.cut_leaves-cut.ensures.cut_by N (names_of s) in subst (Halves N a.eps a.cutoff b a.leaves.now a.draws.now a.at a.kids.now _ c.unsplit.result.top) (sym c.unsplit.ensures.cursor_stays) (rec_unsplit N a.eps a.cutoff b a.leaves.now a.draws.now a.at a.kids.now (omega (arith, c.if-all-most.false, c.small-most.ensures)) _ _ _ cut c.if-left-eq0.true _ _ (c.unsplit.ensures.unsplit N b (subst (λ l. Asks N b a.n a.count a.weights.now a.counts.now a.legs.now a.outputs.now l a.kids.now) (sym (cut_same N a.eps a.cutoff b a.leaves.now a.draws.now a.at a.kids.now _ _ _ cut c.if-left-eq0.true)) s)))
+pub returns-in-None : goal.returns-in-None
+returns-in-None t c = let a = c.args in let n = a.network.now in λ N b s.
+    let cut = c.in-None.ensures.cut_by N (names_of s) in
+    rec_unsplit N a.eps a.cutoff b a.leaves.now a.draws.now a.kids.now (omega (arith, c.if-all-most.false, c.small-most.ensures)) _ 0 _ cut refl _ _
+    (c.unsplit.ensures N b (subst (λ l. Asks N b (length n.leg_counts.now) a.count n.weights.now n.leg_counts.now n.legs.now n.outputs.now l a.kids.now) (sym (cut_same N a.eps a.cutoff b a.leaves.now a.draws.now a.kids.now _ 0 _ cut refl)) s))
 
-pub bisect_rec-first-requires : goal.bisect_rec-first-requires
-bisect_rec-first-requires t c = let l = c.cut_leaves-cut.new.leaves in let z = length-take-le c.cut_leaves-cut.result.left l (omega (arith, c.cut_leaves-cut.ensures.left_in_bounds)) in (omega (arith, z, c.cut_leaves-cut.ensures.left_in_bounds, c.decreases), (fits_again c.requires.0 (omega (arith, z, c.cut_leaves-cut.ensures.left_in_bounds)) (omega arith) c.requires.0.array, c.requires.1, omega (arith, z, c.cut_leaves-cut.ensures.left_in_bounds, c.requires.2), left_named _ _ _ _ c.requires.3 _ _ _ l _ _ (c.cut_leaves-cut.ensures.cut_by _ c.requires.3.names), omega (arith, c.requires.4)))
+pub bisect_rec-requires : goal.bisect_rec-requires
+bisect_rec-requires t c =
+    let a = c.args in let n = a.network.now in let cut = c.cut_leaves in let cl = cut.new.leaves in let left = c.in-Some.left in let lb = c.in-Some.ensures.left_in_bounds in
+    let z = length-take-le left cl (omega (arith, lb.1)) in (
+      omega (arith, z, lb.1, c.decreases),
+      (fits_again c.requires.0 (omega (arith, z, lb.1)) (omega arith) c.requires.0.array, c.requires.1, omega (arith, z, lb.1, c.requires.2), left_named _ _ _ _ c.requires.3 _ _ cl _ _ (c.in-Some.ensures.cut_by _ c.requires.3.names), omega (arith, c.requires.4)),
+    )
 
-pub returns-then-first-ge-REFUSED : goal.returns-then-first-ge-REFUSED
-returns-then-first-ge-REFUSED t c = let a = c.args in λ N b s. rec_left N a.eps a.cutoff b a.n a.count a.weights.now a.counts.now a.legs.now a.outputs.now a.leaves.now a.draws.now a.at a.kids.now s _ _ _ (c.cut_leaves-cut.ensures.cut_by N (names_of s)) c.if-left-eq0.false _ _ _ (c.bisect_rec-first.ensures N b (left_asks N a.eps a.cutoff b a.n a.count a.weights.now a.counts.now a.legs.now a.outputs.now a.leaves.now a.draws.now a.at a.kids.now s _ _ _ (c.cut_leaves-cut.ensures.cut_by N (names_of s)) c.if-left-eq0.false)) (omega (arith, c.if-all-most.false, c.small-most.ensures)) (omega (arith, c.if-first-ge-REFUSED.true))
+pub returns-in_err-first-in-Some : goal.returns-in_err-first-in-Some
+returns-in_err-first-in-Some t c =
+    let a = c.args in let n = a.network.now in let cut = c.cut_leaves in let cl = cut.new.leaves in let left = c.in-Some.left in let lb = c.in-Some.ensures.left_in_bounds in
+    let r = c.in_err-first-in-Some.field-0.0 in
+    let t₁ : c.bisect_rec.result ≡ Err r = search rules in
+    let e : c.from_residual.result ≡ Err r = search rules in
+    λ N b s.
+    let k = c.in-Some.ensures.cut_by N (names_of s) in
+    let n₀ : left ≡ 0 → ⊥ = λ q. omega (arith, q, lb.0) in
+    rec_left N a.eps a.cutoff b (length n.leg_counts.now) a.count n.weights.now n.leg_counts.now n.legs.now n.outputs.now a.leaves.now a.draws.now a.kids.now s cl left cut.new.draws k n₀ _ _ _ (c.bisect_rec.ensures N b (left_asks N a.eps a.cutoff b (length n.leg_counts.now) a.count n.weights.now n.leg_counts.now n.legs.now n.outputs.now a.leaves.now a.draws.now a.kids.now s cl left cut.new.draws k n₀)) (omega (arith, c.if-all-most.false, c.small-most.ensures)) r t₁ _ e
 
-pub bisect_rec-second-requires : goal.bisect_rec-second-requires
-bisect_rec-second-requires t c = let cut = c.cut_leaves-cut in let l = cut.new.leaves in let y = c.bisect_rec-first.new.leaves in
-    let h : cut.result.left ≤ length l = omega (arith, cut.ensures.left_in_bounds) in
-    let z = rest_length l y cut.result.left _ h c.bisect_rec-first.auto.leaves refl in (
-      omega (arith, z, c.if-left-eq0.false, cut.ensures.left_in_bounds, c.decreases),
+pub bisect_rec-requires-in-Some : goal.bisect_rec-requires-in-Some
+bisect_rec-requires-in-Some t c =
+    let a = c.args in let n = a.network.now in let cut = c.cut_leaves in let cl = cut.new.leaves in let left = c.in-Some.left in let lb = c.in-Some.ensures.left_in_bounds in
+    let y = c.bisect_rec.new.leaves in
+    let h : left ≤ length cl = omega (arith, lb.1) in
+    let z = rest_length cl y left _ h c.bisect_rec.auto.leaves refl in (
+      omega (arith, z, lb.0, lb.1, c.decreases),
       (
-        fits_again c.requires.0 (omega (arith, z)) (omega arith) (omega (arith, cut.ensures.left_in_bounds, c.requires.2)),
+        fits_again c.requires.0 (omega (arith, z)) (omega arith) (omega (arith, lb.1, c.requires.2)),
         c.requires.1,
-        omega (arith, z, cut.ensures.left_in_bounds, c.requires.2),
-        right_named _ _ _ _ c.requires.3 _ _ _ l _ _ (cut.ensures.cut_by _ c.requires.3.names) y _ h c.bisect_rec-first.auto.leaves refl,
+        omega (arith, z, lb.0, lb.1, c.requires.2),
+        right_named _ _ _ _ c.requires.3 _ _ cl _ _ (c.in-Some.ensures.cut_by _ c.requires.3.names) y _ h c.bisect_rec.auto.leaves refl,
         omega (arith, c.requires.4),
       ),
     )
 
-pub returns : goal.returns
-returns t c = let a = c.args in let cut = c.cut_leaves-cut in let l = cut.new.leaves in let y = c.bisect_rec-first.new.leaves in
-    let h : cut.result.left ≤ length l = omega (arith, cut.ensures.left_in_bounds) in λ N b s.
-    let k = cut.ensures.cut_by N (names_of s) in
-    rec_joined N a.eps a.cutoff b a.n a.count a.weights.now a.counts.now a.legs.now a.outputs.now a.leaves.now a.draws.now a.at a.kids.now s l cut.result.left cut.result.at k c.if-left-eq0.false _ c.bisect_rec-first.result.top c.bisect_rec-first.result.at
-    (c.bisect_rec-first.ensures N b (left_asks N a.eps a.cutoff b a.n a.count a.weights.now a.counts.now a.legs.now a.outputs.now a.leaves.now a.draws.now a.at a.kids.now s l cut.result.left cut.result.at k c.if-left-eq0.false)) (omega (arith, c.if-all-most.false, c.small-most.ensures))
-    h (omega (arith, c.if-first-ge-REFUSED.false)) _ (rest_part l y cut.result.left _ h c.bisect_rec-first.auto.leaves refl) _ _ refl refl (omega (arith, c.requires.2, c.requires.0.leaf_sets)) _ _ _ _ _ _ (λ x q. c.bisect_rec-second.ensures N x q) c.join_halves.ensures
+pub returns-in_err-second-in-Some : goal.returns-in_err-second-in-Some
+returns-in_err-second-in-Some t c =
+    let a = c.args in let n = a.network.now in let cut = c.cut_leaves in let cl = cut.new.leaves in let left = c.in-Some.left in let lb = c.in-Some.ensures.left_in_bounds in
+    let y = c.bisect_rec.new.leaves in
+    let h : left ≤ length cl = omega (arith, lb.1) in
+    let top = c.in_ok-first-in-Some.first in
+    let r = c.in_err-second-in-Some.field-0.0 in
+    let t₁ : c.bisect_rec.result ≡ Ok top = search rules in
+    let t₂ : c.bisect_rec-in-Some.result ≡ Err r = search rules in
+    let e : c.from_residual-in_err-second-in-Some.result ≡ Err r = search rules in
+    λ N b s.
+    let k = c.in-Some.ensures.cut_by N (names_of s) in
+    let n₀ : left ≡ 0 → ⊥ = λ q. omega (arith, q, lb.0) in
+    rec_joined N a.eps a.cutoff b (length n.leg_counts.now) a.count n.weights.now n.leg_counts.now n.legs.now n.outputs.now a.leaves.now a.draws.now a.kids.now s cl left cut.new.draws k n₀ _ _ _ (c.bisect_rec.ensures N b (left_asks N a.eps a.cutoff b (length n.leg_counts.now) a.count n.weights.now n.leg_counts.now n.legs.now n.outputs.now a.leaves.now a.draws.now a.kids.now s cl left cut.new.draws k n₀)) (omega (arith, c.if-all-most.false, c.small-most.ensures))
+    h top t₁ _ (rest_part cl y left _ h c.bisect_rec.auto.leaves refl) _ _ refl refl _ _ _ _ _ (λ x q. c.bisect_rec-in-Some.ensures N x q) (is_right r t₂ e)
+
+pub returns-in_ok-second-in-Some : goal.returns-in_ok-second-in-Some
+returns-in_ok-second-in-Some t c =
+    let a = c.args in let n = a.network.now in let cut = c.cut_leaves in let cl = cut.new.leaves in let left = c.in-Some.left in let lb = c.in-Some.ensures.left_in_bounds in
+    let y = c.bisect_rec.new.leaves in
+    let h : left ≤ length cl = omega (arith, lb.1) in
+    let top = c.in_ok-first-in-Some.first in
+    let top₂ = c.in_ok-second-in-Some.second in
+    let t₁ : c.bisect_rec.result ≡ Ok top = search rules in
+    let t₂ : c.bisect_rec-in-Some.result ≡ Ok top₂ = search rules in
+    λ N b s.
+    let k = c.in-Some.ensures.cut_by N (names_of s) in
+    let n₀ : left ≡ 0 → ⊥ = λ q. omega (arith, q, lb.0) in
+    rec_joined N a.eps a.cutoff b (length n.leg_counts.now) a.count n.weights.now n.leg_counts.now n.legs.now n.outputs.now a.leaves.now a.draws.now a.kids.now s cl left cut.new.draws k n₀ _ _ _ (c.bisect_rec.ensures N b (left_asks N a.eps a.cutoff b (length n.leg_counts.now) a.count n.weights.now n.leg_counts.now n.legs.now n.outputs.now a.leaves.now a.draws.now a.kids.now s cl left cut.new.draws k n₀)) (omega (arith, c.if-all-most.false, c.small-most.ensures))
+    h top t₁ _ (rest_part cl y left _ h c.bisect_rec.auto.leaves refl) _ _ refl refl _ _ _ _ _ (λ x q. c.bisect_rec-in-Some.ensures N x q) (is_node top₂ t₂ (ap (λ (x : ℕ). Ok x) c.join_halves.ensures.top) c.join_halves.ensures.node)

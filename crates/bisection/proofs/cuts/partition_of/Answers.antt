@@ -12,8 +12,8 @@ bisect-requires c =
     let a = c.args in
     let p = c.requires in
     let s = p.3 in
-    let b = put_back zero_float 3584 (length a.leaves.now) c.hypergraph_of-m.new.vw (omega arith) in (
-      stage_of _ _ _ _ _ _ _ _ (c.hypergraph_of-m.ensures s.network s.names) p.1 p.2
+    let b = put_back zero_float 3584 (length a.leaves.now) c.hypergraph_of-nets.new.vw (omega arith) in (
+      stage_of _ _ _ _ _ _ _ _ (c.hypergraph_of-nets.ensures s.network s.names) p.1 p.2
           (omega (arith, p.4)) _ _ _ (omega arith) (omega (arith, b)) (omega arith),
       length-take-le (length a.leaves.now) a.part.now (omega (arith, p.2, p.5)),
     )
