@@ -5,7 +5,6 @@ ghost use Rattle.std.specs.Float.Ieee.{lt};
 ghost use Rattle.std.specs.Float.{fin};
 ghost use Rattle.spec.specs.Floats.{round_away, round_to};
 ghost use Rattle.spec.specs.Draws.{unit_of};
-ghost use Rattle.draws.specs.Cursor.{words_at};
 
 mod lent;
 
@@ -16,13 +15,6 @@ pub fn unit_draw(word: u64) -> f64
     ensures { result ≡ unit_of word }
 {
     ((word / 2048) as f64) * 1.1102230246251565e-16
-}
-
-/// Was a draw due past the end of the words, of which `at` were taken. For the callers that keep the two apart.
-pub fn is_exhausted(words: &[u64], at: usize) -> bool
-    ensures { result ≡ (words_at words.now at).exhausted }
-{
-    words.len() < at
 }
 
 /// The nearest whole number to a y above 0 and below 2^52: its whole part n is a u64, and n + 1/2 is an f64 exactly.
