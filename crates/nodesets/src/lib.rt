@@ -7,10 +7,13 @@ ghost use Rattle.spec.specs.Price.{list_at};
 ghost use Rattle.network.specs.Views.{net_in};
 ghost use Rattle.laws.specs.FlatLaws.{left_of, right_of};
 ghost use Rattle.slots.specs.Writes.{leaf_has};
-ghost use Rattle.nodesets.specs.Passes.{nodes, with_sets, joined, widened, cut, ups, downs, cuts};
+ghost use Rattle.nodesets.specs.Passes.{nodes, with_sets, joined, ups, downs, cuts};
 ghost use Rattle.nodesets.specs.Steps.{Steps};
 ghost use Rattle.nodesets.specs.Lists.{Ordered};
 
+mod mix; // mix.rt: a slot made of one of its own list and one of another list
+
+use mix::{Both, Either, combine_with};
 use network::Accepted;
 
 /// The left child of inner node `v`, of `n` leaves.
@@ -71,20 +74,6 @@ fn join_up(sets: &mut [u64], w: usize, n: usize, kids: &[u16], order: &[u16])
     }
 }
 
-// Makes slot `c` of `outside` the union of its slot `a` and of slot `b` of `sets`.
-fn widen(outside: &mut [u64], w: usize, a: usize, c: usize, sets: &[u64], b: usize)
-    requires { (a * w + w ≤ length outside.old) × (c * w + w ≤ length outside.old) × (b * w + w ≤ length sets.now) }
-    ensures { outside.new ≡ widened w outside.old a c sets.now b }
-{
-    let p = a * w;
-    let q = b * w;
-    let r = c * w;
-    // word by word: a zip with a list that is written says only its length
-    for k in 0..w {
-        outside[r + k] = outside[p + k] | sets[q + k];
-    }
-}
-
 // From the root down, makes slot c of `outside` what is wanted outside node c, for the children c of each node.
 fn want_down(outside: &mut [u64], sets: &[u64], w: usize, n: usize, kids: &[u16], order: &[u16])
     requires { Steps n kids.now order.now × (nodes n kids.now * w ≤ length outside.old) × (nodes n kids.now * w ≤ length sets.now) }
@@ -94,20 +83,8 @@ fn want_down(outside: &mut [u64], sets: &[u64], w: usize, n: usize, kids: &[u16]
         let v = usize::from(node);
         let l = left(kids, n, v);
         let r = right(kids, n, v);
-        widen(outside, w, v, l, sets, r);
-        widen(outside, w, v, r, sets, l);
-    }
-}
-
-// Cuts slot `s` of `sets` to what the same slot of `outside` has.
-fn trim(sets: &mut [u64], outside: &[u64], w: usize, s: usize)
-    requires { (s * w + w ≤ length sets.old) × (s * w + w ≤ length outside.now) }
-    ensures { sets.new ≡ cut w sets.old outside.now s }
-{
-    let p = s * w;
-    // word by word: a zip with a list that is written says only its length
-    for k in 0..w {
-        sets[p + k] = sets[p + k] & outside[p + k];
+        combine_with::<Either>(outside, w, v, l, sets, r);
+        combine_with::<Either>(outside, w, v, r, sets, l);
     }
 }
 
@@ -117,7 +94,8 @@ fn trim_all(sets: &mut [u64], outside: &[u64], w: usize, n: usize, kids: &[u16],
     ensures { sets.new ≡ cuts w order.now outside.now sets.old (length order.now) }
 {
     for &node in order {
-        trim(sets, outside, w, usize::from(node));
+        let v = usize::from(node);
+        combine_with::<Both>(sets, w, v, v, outside, v);
     }
 }
 

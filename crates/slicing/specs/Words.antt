@@ -1,56 +1,54 @@
--- An amount at the set digits of a word, from the lowest on, and at the indices of two slots, word by word. Assumes nothing.
+-- An amount at the set digits of a word, one after another, and at the indices of two slots, word by word. Assumes nothing.
 use Rattle.std.specs.Prelude.{◌≡◌, refl, List, [], ◌∷◌, ℕ, ◌+◌, ◌-◌, ◌*◌, ◌^◌, ◌≤◌, ◌<◌, length, get_or, set}
 use Rattle.std.proofs.Common.{sym, ◌∙◌, ap, arith, length-set, get_or-set_same, get_or-set_other, eq-eqb, ne_eqb}
 use Rattle.std.proofs.Math.Decide.{ℕ_discrete}
-use Rattle.std.specs.Int.Bits.{bit_and, bit_or}
-use Rattle.std.specs.Int.Count.{count_trailing_zeros}
+use Rattle.std.specs.Int.Bits.{bit_or}
 use Rattle.spec.specs.Lists.{keep, range}
 use Rattle.laws.specs.ListLaws.{sum_append}
 use Rattle.bits.specs.Digits.{digit}
-use Rattle.bits.specs.Lowest.{places, places_step, places_none, tz_small}
+use Rattle.bits.specs.Lowest.{places}
 use Rattle.slots.specs.Rising.{word_more}
 use Rattle.slots.specs.Weigh.{either, either_tests}
 use Rattle.slicing.specs.Sums.{Small, amount_at, share, Added, summed_more, share_most}
 
 -- ---- one word ----
 
--- what is still to be added leads to all that the word adds
-pub record Adding (a : ℕ) (old : List ℕ) (base x : ℕ) (new : List ℕ) (rest : ℕ) : Type 0 where
+-- what is still to be added, at the places of a list, leads to all that the word adds
+pub record Adding (a : ℕ) (old : List ℕ) (base x : ℕ) (new : List ℕ) (left : List ℕ) : Type 0 where
   pub same : length new ≡ length old
-  pub at : (j : ℕ) → get_or new j 0 + share a j (places base 64 rest) ≡ get_or old j 0 + share a j (places base 64 x)
+  pub at : (j : ℕ) → get_or new j 0 + share a j left ≡ get_or old j 0 + share a j (places base 64 x)
+
+pub adding_none : {a : ℕ} {old : List ℕ} {base x : ℕ} {left : List ℕ} → left ≡ places base 64 x → Adding a old base x old left
+adding_none {a} {old} e = record { same = refl; at = λ j. ap (λ (l : List ℕ). get_or old j 0 + share a j l) e }
 
 pub share_word : (a j base x : ℕ) → share a j (places base 64 x) ≤ a
 unfolding places
 share_word a j base x = share_most a j (λ i. digit x (i - base)) base 64
 
-module _ {a : ℕ} {old : List ℕ} {base x : ℕ} {now : List ℕ} {rest : ℕ} (d : Adding a old base x now rest) where
+module _ {a : ℕ} {old : List ℕ} {base x : ℕ} {now : List ℕ} {left : List ℕ} (d : Adding a old base x now left) where
   pub adding_small : (b : ℕ) → Small b old → Small (b + a) now
   adding_small b s j = omega (arith, d.at j, s j, share_word a j base x)
 
-  pub adding_next : (t i : ℕ) → 0 < rest → rest < 2 ^ 64 → base + 64 ≤ length old → t ≡ count_trailing_zeros 64 rest → i ≡ base + t
-      → Adding a old base x (set now i (get_or now i 0 + a)) (bit_and rest (rest - 1))
-  adding_next t i pos lt room e f =
-      let z : places base 64 rest ≡ i ∷ places base 64 (bit_and rest (rest - 1)) = rw (f, e) (places_step base 64 rest pos lt) in
-      let h : i < length now = omega (arith, d.same, tz_small 64 rest pos lt) in
+  pub adding_next : (i : ℕ) (m : List ℕ) → left ≡ i ∷ m → i < length old → Adding a old base x (set now i (get_or now i 0 + a)) m
+  adding_next i m z lt =
+      let h : i < length now = omega (arith, d.same) in
       record {
         same = simp length-set d.same;
         at = λ j. elim (ℕ_discrete j i) [
           | yes q ↦ rw q (
-              let g : share a i (places base 64 rest) ≡ a + share a i (places base 64 (bit_and rest (rest - 1))) =
-              ap (share a i) z ∙ rw (eq-eqb i i refl) in
+              let g : share a i left ≡ a + share a i m = ap (share a i) z ∙ rw (eq-eqb i i refl) in
               omega (arith, d.at i, get_or-set_same now i (get_or now i 0 + a) 0 h, g))
           | no q ↦ (
-              let g : share a j (places base 64 rest) ≡ share a j (places base 64 (bit_and rest (rest - 1))) =
-              ap (share a j) z ∙ rw (ne_eqb i j (λ y. q (sym y))) (omega arith) in
+              let g : share a j left ≡ share a j m = ap (share a j) z ∙ rw (ne_eqb i j (λ y. q (sym y))) (omega arith) in
               omega (arith, d.at j, get_or-set_other now i j (get_or now i 0 + a) 0 q, g))
         ];
       }
 
-  pub adding_end : rest ≡ 0 → Added a old (places base 64 x) now
+  pub adding_end : left ≡ [] → Added a old (places base 64 x) now
   adding_end e =
       record {
         same = d.same;
-        at = λ j. let z : share a j (places base 64 rest) ≡ 0 = rw e (ap (share a j) (places_none base 64)) in omega (arith, d.at j, z);
+        at = λ j. let z : share a j left ≡ 0 = ap (share a j) e in omega (arith, d.at j, z);
       }
 
 -- ---- two slots ----

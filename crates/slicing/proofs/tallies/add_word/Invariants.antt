@@ -1,9 +1,11 @@
+use Rattle.std.proofs.Common.{◌+◌, ◌<◌}
+use Rattle.spec.specs.Members.{All}
+use Rattle.bits.specs.Lowest.{places}
 use Rattle.slicing.specs.Words.{Adding}
-use Prim.Native.Nat.{◌≤◌}
 use Rattle.slicing.proofs.tallies.add_word.Given as goal
 
-abbrev pub invariant-loop-rest : goal.invariant-loop-rest
-invariant-loop-rest l = Adding l.amount l.initial.sums l.base l.x l.sums l.rest × (l.rest ≤ l.x)
-
-abbrev pub decreases-loop-rest : goal.decreases-loop-rest
-decreases-loop-rest l = l.rest
+abbrev pub invariant-loop-i : goal.invariant-loop-i
+invariant-loop-i l =
+    (goal.iterator-loop-i).can_next l.i-iterator
+    × Adding l.amount l.fn.sums l.base l.x l.sums (places l.i-iterator.base 64 l.i-iterator.rest)
+    × All (λ i. i < l.base + 64) (places l.i-iterator.base 64 l.i-iterator.rest)
