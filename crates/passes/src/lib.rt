@@ -1,17 +1,15 @@
 #![tactic(auto)]
 //! Improvement of a valid tree: the nodes of a pass, by falling work, each visited once; passes until one rebuilds nothing.
 ghost use Rattle.std.specs.Prelude.{false, ◌≡◌, ℕ, ◌+◌, ◌-◌, ◌<◌, ◌≤◌, length, get_or, take};
-ghost use Rattle.spec.specs.Layout.{network_of};
 ghost use Rattle.spec.specs.Network.{leaf_count};
 ghost use Rattle.spec.specs.Tree.{step_order};
 ghost use Rattle.spec.specs.Calls.{flag_at, wrong_tree};
 ghost use Rattle.network.specs.Views.{net_in};
-ghost use Rattle.subset.specs.Search.{limit_of};
 ghost use Rattle.pricing.specs.Lists.{IsSameLoan};
-ghost use Rattle.reprice.specs.Held.{Standing};
-ghost use Rattle.reconf.specs.Benches.{IsReady, IsAsLong};
+ghost use Rattle.reprice.specs.Held.{Standing, IsAsLong};
+ghost use Rattle.reconf.specs.Benches.{IsReady};
 ghost use Rattle.passes.specs.Sorted.{sorted};
-ghost use Rattle.passes.specs.Made.{Ready, VisitsAll, Passes, Improves};
+ghost use Rattle.passes.specs.Made.{VisitsAll, Passes, Improves};
 ghost use Rattle.passes.specs.Loops.{passes_left};
 
 mod falling; // falling.rt: nodes by falling work
@@ -121,52 +119,4 @@ pub fn improve(
         left = passes_left(left, made.rebuilt);
     }
     Visited { rebuilt, tried }
-}
-
-// A limit as a number: none from 65,536 bits on.
-fn limit_of(bits: u64) -> Option<u16>
-    ensures { result ≡ limit_of bits }
-{
-    if bits < 65536 {
-        Some(bits as u16)
-    } else {
-        None
-    }
-}
-
-// The same of lists of a record's lengths, for callers that hold no checked values. The limit is none from 65,536 bits on.
-pub fn passes<'a>(
-    words: &mut [u64],
-    sets: &mut [u64],
-    sizes: &mut [u16],
-    works: &mut [u16],
-    kids: &mut [u16],
-    m: usize,
-    n: usize,
-    o: usize,
-    weights: &'a [u8],
-    counts: &'a [u8],
-    legs: &'a [u16],
-    outputs: &'a [u16],
-    flags: &[u8],
-    k: usize,
-    limit: u64,
-    most: usize,
-) -> Visited
-    requires { Ready m n o k (length words.old) (length sets.old) (length sizes.old) (length works.old) weights.now counts.now legs.now outputs.now × Standing (network_of m n o weights.now counts.now legs.now outputs.now) (flag_at flags.now) kids.old sets.old sizes.old works.old × (most ≤ 255) }
-    ensures { Improves (network_of m n o weights.now counts.now legs.now outputs.now) (flag_at flags.now) k (limit_of limit) most kids.old kids.new sets.new sizes.new works.new result.rebuilt result.tried }
-{
-    let network = Accepted {
-        weights: &weights[..m],
-        leg_counts: &counts[..n],
-        legs,
-        outputs: &outputs[..o],
-    };
-    let search = Search {
-        flags,
-        k,
-        limit: limit_of(limit),
-    };
-    let mut list = PriceList { sets, sizes, works };
-    improve(words, &mut list, kids, &network, &search, most)
 }

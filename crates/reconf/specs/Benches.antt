@@ -1,54 +1,12 @@
--- What a visit asks of the price list that is lent, and what pricing again leaves in it. Assumes nothing.
-use Rattle.std.specs.Prelude.{Bool, false, List, map, ◌≡◌, ℕ, ◌≤◌, length}
-use Rattle.std.proofs.Common.{ap, ◌∙◌, arith}
-use Rattle.spec.specs.Lists.{memb, range}
-use Rattle.spec.specs.Network.{Network}
-use Rattle.spec.specs.Tree.{pairs_of}
-use Rattle.spec.specs.Price.{list_at, size_at, work_at}
-use Rattle.spec.specs.Calls.{node_places, dangling}
-use Rattle.slots.specs.Slots.{held}
-use Rattle.cells.specs.Cells.{over_length}
-use Rattle.nodesets.specs.Sets.{held-with_sets, with_sets_length}
-use Rattle.nodebits.specs.Stepped.{over_front}
-use Rattle.network.specs.Lists.{Holds}
-use Rattle.network.specs.Views.{net_in, in_facts, in_leaves}
+-- What a visit asks of the words and of the price list that is lent. Definitions only. Assumes nothing.
+use Rattle.std.specs.Prelude.{false, ◌≡◌, ℕ, length}
+use Rattle.spec.specs.Calls.{dangling}
+use Rattle.network.specs.Views.{net_in}
 use Rattle.network.specs.declared.accepted.Accepted.{Accepted}
-use Rattle.pricing.specs.Promise.{Filled}
 use Rattle.pricing.specs.declared.list.PriceList.{PriceList}
-use Rattle.reprice.specs.Held.{Room, PriceHeld}
+use Rattle.reprice.specs.Held.{Room}
 use Rattle.reconf.specs.declared.search.Search.{Search}
 
 -- no index is dangling, and the words and lists are long enough
 abbrev pub IsReady : Accepted → Search → ℕ → PriceList → Type 0
 IsReady a s words p = (dangling (net_in a) ≡ false) × Room s.k words (length p.sets.now) (length p.sizes.now) (length p.works.now)
-
--- the lists are as long as before
-abbrev pub IsAsLong : PriceList → PriceList → Type 0
-IsAsLong old new =
-    (length new.sets.now ≡ length old.sets.now) × (length new.sizes.now ≡ length old.sizes.now) × (length new.works.now ≡ length old.works.now)
-
--- a network of at most 128 leaves has at most 255 nodes
-pub few_places : (a : Accepted) → Holds a.weights.now a.leg_counts.now a.legs.now a.outputs.now → node_places (net_in a) ≤ 255
-few_places a h = omega (arith, (in_facts a h).few_leaves, in_leaves a)
-
--- the lists that pricing filled have the price list
-pub filled_held : (N : Network) (flag : ℕ → Bool) (kids sets₀ sizes₀ works₀ sets sizes works : List ℕ) → node_places N ≤ 255
-    → 1020 ≤ length sets₀ → 255 ≤ length sizes₀ → 255 ≤ length works₀
-    → Filled 4 N flag (pairs_of kids) sets₀ sizes₀ works₀ sets sizes works → PriceHeld N flag kids sets sizes works
-filled_held N flag kids sets₀ sizes₀ works₀ sets sizes works few a b c f =
-    record {
-      sets_are = λ v j h k.
-          ap (λ (l : List ℕ). held l 4 v j) f.sets_are
-          ∙ held-with_sets sets₀ 4 (λ v j. memb j (list_at N (pairs_of kids) v)) (node_places N) v j (omega arith) h (omega arith);
-      sizes_are = λ v h. over_front sizes₀ sizes (size_at N flag (pairs_of kids)) (node_places N) (omega arith) f.sizes_are v h;
-      works_are = λ v h. over_front works₀ works (work_at N flag (pairs_of kids)) (node_places N) (omega arith) f.works_are v h;
-    }
-
--- and are as long as they were
-pub filled_long : (N : Network) (flag : ℕ → Bool) (kids sets₀ sizes₀ works₀ sets sizes works : List ℕ) → Filled 4 N flag (pairs_of kids) sets₀ sizes₀ works₀ sets sizes works
-    → (length sets ≡ length sets₀) × (length sizes ≡ length sizes₀) × (length works ≡ length works₀)
-filled_long N flag kids sets₀ sizes₀ works₀ sets sizes works f = (
-  ap length f.sets_are ∙ with_sets_length sets₀ 4 (λ v j. memb j (list_at N (pairs_of kids) v)) (node_places N),
-  ap length f.sizes_are ∙ over_length sizes₀ (map (size_at N flag (pairs_of kids)) (range (node_places N))),
-  ap length f.works_are ∙ over_length works₀ (map (work_at N flag (pairs_of kids)) (range (node_places N))),
-)

@@ -1,16 +1,16 @@
 #![tactic(auto)]
 //! One visit of a node: its frontier, the search over it, the rebuild if it is cheaper, and then pricing again.
-ghost use Rattle.std.specs.Prelude.{false, ◌≡◌, ℕ, ◌+◌, ◌-◌, ◌*◌, ◌^◌, ◌<◌, ◌≤◌, IfSome, length, get_or};
+ghost use Rattle.std.specs.Prelude.{◌≡◌, ℕ, ◌+◌, ◌-◌, ◌*◌, ◌^◌, ◌<◌, ◌≤◌, IfSome, length, get_or};
 ghost use Rattle.std.proofs.lemmas.List.Edits.{sets as put_at};
 ghost use Rattle.spec.specs.Network.{leaf_count};
-ghost use Rattle.spec.specs.Calls.{flag_at, wrong_tree};
+ghost use Rattle.spec.specs.Calls.{flag_at};
 ghost use Rattle.network.specs.Views.{net_in};
 ghost use Rattle.pricing.specs.Lists.{IsSameLoan};
-ghost use Rattle.reprice.specs.Held.{PriceHeld, Standing};
+ghost use Rattle.reprice.specs.Held.{Standing, IsAsLong};
 ghost use Rattle.reconf.specs.Locals.{locals_in};
 ghost use Rattle.reconf.specs.Cases.{accepts};
 ghost use Rattle.reconf.specs.Visits.{Searches, Reconfs, Visits};
-ghost use Rattle.reconf.specs.Benches.{IsReady, IsAsLong};
+ghost use Rattle.reconf.specs.Benches.{IsReady};
 
 mod search; // search.rt: what a search is asked for
 
@@ -21,7 +21,6 @@ use pricing::list::PriceList;
 use rebuild::Freed;
 pub use search::Search;
 use subset::Searched;
-use walk::Tree;
 
 // Writes the unsliced indices that one of the members lists to the front of `local`, rising, and returns how many they are.
 fn local_list(
@@ -151,30 +150,6 @@ pub fn reconf_node(
     }
 }
 
-/// Prices the tree `kids` of a network: each node's set, size bits and work bits. `words` is worked in.
-pub fn price(
-    words: &mut [u64],
-    list: &mut PriceList,
-    kids: &[u16],
-    network: &Accepted,
-    flags: &[u8],
-)
-    requires words { 2048 ≤ length words.old }
-    requires room { (1020 ≤ length list.old.sets.now) × (255 ≤ length list.old.sizes.now) × (255 ≤ length list.old.works.now) }
-    requires right { wrong_tree (leaf_count (net_in network.now)) kids.now ≡ false }
-    ensures lent { IsSameLoan list.old list.new }
-    ensures long { IsAsLong list.old list.new }
-    ensures held { PriceHeld (net_in network.now) (flag_at flags.now) kids.now list.new.sets.now list.new.sizes.now list.new.works.now }
-{
-    let mut order = [0u16; 128];
-    let tree = Tree {
-        kids,
-        leaves: network.leaf_count(),
-    };
-    let c = tree.post_order(words, &mut order);
-    list.price::<256>(words, 4, network, flags, &tree, &order[..c]);
-}
-
 /// Visits node `v` of the tree `kids` of a network, whose price list is at hand: the region below it, down to a frontier of at most as many members as
 /// asked, is rebuilt in `kids` if a tree over the members is cheaper, and the tree is then priced again. `words` is worked in.
 pub fn visit(
@@ -196,6 +171,6 @@ pub fn visit(
     if made.rebuilt == 0 {
         return made;
     }
-    price(words, list, kids, network, search.flags);
+    reprice::price(words, list, kids, network, search.flags);
     made
 }

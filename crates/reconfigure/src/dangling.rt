@@ -50,12 +50,7 @@ fn strike(tally: &mut [u8], row: &[u16])
 fn any_one(tally: &[u8]) -> bool
     ensures { result ≡ anyb (λ x. eqb x 1) tally.now }
 {
-    for &x in tally {
-        if x == 1 {
-            return true;
-        }
-    }
-    false
+    tally.iter().any(|&x| x == 1)
 }
 
 // Does just one of `n` leaves name one of the `m` indices that is none of the `o` outputs.

@@ -8,7 +8,6 @@ ghost use Rattle.spec.specs.Improve.{clamped};
 ghost use Rattle.network.specs.Record.{net_of};
 ghost use Rattle.network.specs.Views.{net_in};
 ghost use Rattle.pricing.specs.Sums.{work_sum};
-ghost use Rattle.subset.specs.Search.{limit_of};
 ghost use Rattle.reconfigure.specs.Answers.{limit_from, rest_call, last_call, Follows, Improving, Reconfigures};
 
 pub mod dangling; // dangling.rt: indices that just one leaf names
@@ -70,23 +69,6 @@ fn limit_of(limit: Limit) -> Option<u16>
     }
 }
 
-// A number of bits, as wide as the old search takes it.
-fn wide(x: u16) -> u64
-    ensures { (result ≡ x) × (result < 65536) }
-{
-    u64::from(x)
-}
-
-// The limit as the old search takes it: none from 65,536 on.
-pub fn limit_bits(limit: Limit) -> u64
-    ensures { limit_of result ≡ limit_from limit }
-{
-    match limit {
-        Limit::Unlimited => 65536,
-        Limit::Bits(x) => wide(x),
-    }
-}
-
 /// Is the total of a tree of `n` leaves, whose nodes' work bits are at hand, beyond.
 pub fn is_beyond(works: &[u16], n: usize) -> bool
     requires { n + (n - 1) ≤ length works.now }
@@ -127,7 +109,7 @@ fn improve_valid(
         sizes: &mut sizes,
         works: &mut works,
     };
-    reconf::price(ws, &mut list, kids, network, search.flags);
+    reprice::price(ws, &mut list, kids, network, search.flags);
     if is_total_beyond(&list, network.leaf_count()) {
         return Err(Refusal::TotalBeyond);
     }

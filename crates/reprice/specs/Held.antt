@@ -1,11 +1,12 @@
 -- A tree in a flat list of children, and its price list in lent lists. Definitions only. Assumes nothing.
-use Rattle.std.specs.Prelude.{Bool, false, List, ◌≡◌, ℕ, ◌+◌, ◌*◌, ◌^◌, ◌≤◌, ◌<◌, get_or, Option, None, Some}
+use Rattle.std.specs.Prelude.{Bool, false, List, ◌≡◌, ℕ, ◌+◌, ◌*◌, ◌^◌, ◌≤◌, ◌<◌, length, get_or, Option, None, Some}
 use Rattle.spec.specs.Lists.{memb}
 use Rattle.spec.specs.Network.{Network, leaf_count}
 use Rattle.spec.specs.Tree.{Tree, leaf, tree_at, root, pairs_of}
 use Rattle.spec.specs.Price.{list_at, size_at, work_at}
 use Rattle.spec.specs.Calls.{node_places, wrong_tree, total_is_beyond}
 use Rattle.slots.specs.Slots.{held}
+use Rattle.pricing.specs.declared.list.PriceList.{PriceList}
 
 -- the tree that a flat list of children has
 abbrev pub or_leaf : Option Tree → Tree
@@ -33,3 +34,8 @@ pub record Standing (N : Network) (flag : ℕ → Bool) (kids sets sizes works :
   pub right : wrong_tree (leaf_count N) kids ≡ false
   pub prices : PriceHeld N flag kids sets sizes works
   pub total : total_is_beyond N flag (pairs_of kids) ≡ false
+
+-- the lists are as long as before
+abbrev pub IsAsLong : PriceList → PriceList → Type 0
+IsAsLong old new =
+    (length new.sets.now ≡ length old.sets.now) × (length new.sizes.now ≡ length old.sizes.now) × (length new.works.now ≡ length old.works.now)

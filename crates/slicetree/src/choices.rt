@@ -32,7 +32,7 @@ fn improve_once(
         sizes: &mut sizes,
         works: &mut works,
     };
-    reconf::price(words, &mut list, kids, network, flags);
+    reprice::price(words, &mut list, kids, network, flags);
     let n = network.leaf_count();
     let widest = list.widest(n + n.saturating_sub(1));
     let search = Search {

@@ -38,7 +38,7 @@ fn is_beyond(network: &Accepted, kids: &[u16], words: &mut [u64]) -> bool
         sizes: &mut sizes,
         works: &mut works,
     };
-    reconf::price(words, &mut list, kids, network, &[]);
+    reprice::price(words, &mut list, kids, network, &[]);
     reconfigure::is_beyond(list.works, network.leaf_count())
 }
 

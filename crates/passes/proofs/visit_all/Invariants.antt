@@ -4,8 +4,7 @@ use Rattle.spec.specs.Calls.{flag_at}
 use Rattle.spec.specs.Improve.{visits}
 use Rattle.network.specs.Views.{net_in}
 use Rattle.pricing.specs.Lists.{IsSameLoan}
-use Rattle.reprice.specs.Held.{tree_of}
-use Rattle.reconf.specs.Benches.{IsAsLong}
+use Rattle.reprice.specs.Held.{tree_of, IsAsLong}
 use Rattle.passes.proofs.visit_all.Given as goal
 
 abbrev pub invariant-loop-v : goal.invariant-loop-v

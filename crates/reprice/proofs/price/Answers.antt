@@ -1,15 +1,15 @@
 use Rattle.spec.specs.Memory.{filled}
 use Rattle.spec.specs.Tree.{step_order}
-use Rattle.spec.specs.Calls.{flag_at, wrong_tree}
-use Rattle.network.specs.Views.{net_in, in_facts, in_leaves}
+use Rattle.spec.specs.Calls.{wrong_tree}
+use Rattle.network.specs.Views.{in_facts, in_leaves}
 use Rattle.walk.specs.Order.{order_length}
 use Rattle.cost.specs.Checks.{order_front}
-use Rattle.reconf.specs.Benches.{few_places, filled_held, filled_long}
+use Rattle.reprice.specs.Prices.{few_places, filled_held, filled_long}
 use native.Mathlib.Omega.{arith}
 use Prim.Native.Nat.{ℕ}
 use mathlib.Core.Bool.{false}
 use mathlib.Core.Path.{◌≡◌, sym, subst, ◌∙◌}
-use Rattle.reconf.proofs.price.Goals as goal
+use Rattle.reprice.proofs.price.Goals as goal
 
 pub price-requires-clause-order : goal.price-requires-clause-order
 unfolding filled
@@ -20,12 +20,9 @@ price-requires-clause-order c = let a = c.args in let n : ℕ = c.leaf_count.res
     (omega (arith, c.post_order-c.ensures.0, c.leaf_count.ensures, (in_facts a.network.now a.network.now.holds).few_leaves, in_leaves a.network.now))
 
 pub returns-clause-long : goal.returns-clause-long
-returns-clause-long c = let a = c.args in
-    filled_long (net_in a.network.now) (flag_at a.flags.now) a.kids.now a.list.now.sets.now a.list.now.sizes.now a.list.now.works.now
-    c.price.new.self.sets.now c.price.new.self.sizes.now c.price.new.self.works.now c.price.ensures.filled
+returns-clause-long c = filled_long c.args.kids.now c.price.ensures.filled
 
 pub returns-clause-held : goal.returns-clause-held
-returns-clause-held c = let a = c.args in
-    filled_held (net_in a.network.now) (flag_at a.flags.now) a.kids.now a.list.now.sets.now a.list.now.sizes.now a.list.now.works.now
-    c.price.new.self.sets.now c.price.new.self.sizes.now c.price.new.self.works.now (few_places a.network.now a.network.now.holds)
-    c.requires.room.0 c.requires.room.1 c.requires.room.2 c.price.ensures.filled
+returns-clause-held c =
+    let few = few_places c.args.network.now c.args.network.now.holds in
+    filled_held c.price.ensures.filled (omega (arith, few, c.requires.room.0)) (omega (arith, few, c.requires.room.1)) (omega (arith, few, c.requires.room.2))
