@@ -15,6 +15,7 @@ use spec::{Prices, Refusal, Total};
 use walk::Tree;
 
 /// The exact total, and 0 where it is beyond.
+// Stays: the C interface writes 0 for a total that is beyond; no conversion, as it is not to be had back.
 pub fn exact(total: Total) -> u64
     ensures { result ≡ exact_of total }
 {
@@ -79,6 +80,7 @@ fn priced_in(
 }
 
 /// Prices the tree `kids` of an accepted network with the given flags. Refusals, in this order: `ShortBuffer`, `InvalidTree`, `InvalidFlags`.
+// Stays: the cost of an accepted network's tree, no conversion.
 pub fn cost_of(
     network: &Accepted,
     flags: &[u8],

@@ -30,6 +30,7 @@ fn more_work(most: Option<Most>, place: usize, v: u16, n: usize, works: &[u16]) 
 }
 
 // The first of the members that has the most work, if one is no leaf.
+// Stays: `n` is the number of the tree's leaves, no list's length.
 fn most_work(members: &[u16], n: usize, works: &[u16]) -> Option<Most>
     ensures { result ≡ ranks n works.now None 0 members.now }
 {
@@ -41,6 +42,7 @@ fn most_work(members: &[u16], n: usize, works: &[u16]) -> Option<Most>
 }
 
 // Opens the member at place `p` of `m`: the last takes its place, then its left and its right child follow.
+// Stays: `n` is the number of the tree's leaves; the C interface lends the tree as a flat list, two children a node.
 fn open(kids: &[u16], n: usize, members: &mut [u16], opened: &mut [u16], m: usize, p: usize)
     requires { (1 ≤ m) × (m ≤ 65536) }
     ensures { state members.new opened.new (m + 1) ≡ open_at kids.now n p (state members.old opened.old m) }
@@ -55,6 +57,7 @@ fn open(kids: &[u16], n: usize, members: &mut [u16], opened: &mut [u16], m: usiz
 }
 
 // Opens the first of the `m` members that has the most work, if one is no leaf, and returns how many there then are.
+// Stays: `n` is the number of the tree's leaves; members and opened nodes are written while the tree is read.
 fn open_most(
     kids: &[u16],
     n: usize,
@@ -76,6 +79,7 @@ fn open_most(
 }
 
 // Opens members of the node `v`, until there are `k` or only leaves are left, and returns how many there are.
+// Stays: a step repeated, over no list; the tree is read and two arrays are written that are no `Frontier` before all is opened.
 fn open_all(
     kids: &[u16],
     n: usize,
@@ -91,7 +95,6 @@ fn open_all(
 {
     cells::put(members, 0, v);
     let mut m: usize = 1;
-    // a step repeated, over no list
     for i in 0..k - 1 {
         m = open_most(kids, n, works, members, opened, m);
     }
@@ -99,6 +102,7 @@ fn open_all(
 }
 
 /// The frontier of a node: `count` members at the front of `members`, and the nodes opened for them at the front of `opened`, one less.
+// Stays: two lists of two lengths, of which the second is one shorter.
 #[derive(Clone, Copy)]
 pub struct Frontier {
     members: [u16; 12],
@@ -109,6 +113,7 @@ pub struct Frontier {
 
 impl Frontier {
     /// The frontier of node `v` of the tree `kids` of `n` leaves, of at most `k` members. Each node's work bits are at hand.
+    // Stays: `n` is the number of the tree's leaves; the two arrays have different lengths in use.
     pub fn of(kids: &[u16], n: usize, works: &[u16], k: usize, v: u16) -> Frontier
         requires { (1 ≤ k) × (k ≤ 12) }
         ensures { state result.members result.opened result.count ≡ openings kids.now works.now n (k - 1) (state (set (filled 12 0) 0 v) (filled 12 0) 1) }

@@ -4,6 +4,7 @@ ghost use Rattle.spec.specs.Memory.{placed};
 ghost use Rattle.spec.specs.Host.{bytes_of, two_each};
 
 /// Writes x in two bytes at `at`, as far as `out` goes.
+// Stays: `to_be_bytes` is a method of each integer type, and of no trait of std; the two differ in the number of bytes.
 #[tactic(auto, using(crate::specs::Bytes::two_be))]
 pub fn put_two(out: &mut [u8], at: usize, x: u16)
     ensures { out.new ≡ placed out.old at (bytes_of 2 x) }
@@ -12,6 +13,7 @@ pub fn put_two(out: &mut [u8], at: usize, x: u16)
 }
 
 /// Writes x in eight bytes at `at`, as far as `out` goes.
+// Stays: `to_be_bytes` is a method of each integer type, and of no trait of std; the two differ in the number of bytes.
 #[tactic(auto, using(crate::specs::Bytes::eight_be))]
 pub fn put_eight(out: &mut [u8], at: usize, x: u64)
     ensures { out.new ≡ placed out.old at (bytes_of 8 x) }

@@ -6,6 +6,7 @@ ghost use Rattle.spec.specs.Host.{total_bytes, widest_bytes, head_bytes};
 use crate::bytes;
 use spec::{Prices, Total};
 
+// Stays: the listing has a byte for each of the two kinds of a total.
 fn put_total(out: &mut [u8], at: usize, total: Total)
     requires { at ≤ 65536 }
     ensures { out.new ≡ placed out.old at (total_bytes total) }

@@ -18,6 +18,7 @@ use pricing::list::PriceList;
 use spec::{Prices, Refusal};
 
 // Writes the head, and ten bytes for each of n steps.
+// Stays: `n` steps stand in a listing that is longer, five numbers each; at most 127, which no type of a `usize` says.
 fn put_listing(out: &mut [u8], n: usize, prices: &Prices, steps: &[u16])
     requires { (n ≤ 127) × (n * 5 ≤ length steps.now) }
     ensures { out.new ≡ placed (placed out.old 0 (head_bytes n prices.now)) 16 (two_each (take (n * 5) steps.now)) }
@@ -28,6 +29,7 @@ fn put_listing(out: &mut [u8], n: usize, prices: &Prices, steps: &[u16])
 }
 
 // With the lists that pricing fills.
+// Stays: workspace, price list and listing are arrays of the one caller, whose memory is fixed.
 fn list_with(
     network: &Network,
     flags: &[u8],
@@ -52,6 +54,7 @@ fn list_with(
 
 /// Prices the tree `kids` of a network with the given flags, with lists of its own, and writes the listing to the front of `out`: a head of 16 bytes,
 /// and ten bytes a step. `ShortBuffer` for `out` comes first, then pricing's refusals.
+// Stays: memory is fixed: the lists of the price list are arrays here, of one length where nodes have an entry each.
 pub fn list(network: &Network, flags: &[u8], kids: &[u16], out: &mut [u8]) -> Result<(), Refusal>
     requires { network.now.leaf_count ≤ 128 }
     ensures { Tells (listing_call (length out.old) (net_of network.now) flags.now kids.now) result out.old out.new }
@@ -97,6 +100,7 @@ pub fn price_file(file: &[u8], out: &mut [u8]) -> Result<(), Refusal>
 }
 
 // The number of an answer's refusal, 0 where there is none.
+// Stays: the C interface answers by number, 0 for no refusal.
 fn number(answer: Result<(), Refusal>) -> u8
     ensures { result ≡ code_of (refusal_in answer) }
 {
@@ -107,6 +111,7 @@ fn number(answer: Result<(), Refusal>) -> u8
 }
 
 // The same by number, for the C host.
+// Stays: the C interface answers by number, 0 for no refusal.
 pub fn price(file: &[u8], out: &mut [u8]) -> u8
     ensures { Answered (host_call (length out.old) file.now) result out.old out.new }
 {

@@ -21,13 +21,13 @@ pub fn flag_set(words: &mut [u64], w: usize, s: usize, flags: &[u8])
 }
 
 // Adds slot `s` of `sets` to slot `c` of `words`.
+// Stays: reads and writes past an end are allowed here: slices of both lists would ask for bounds first.
 fn add_slot(words: &mut [u64], w: usize, c: usize, sets: &[u64], s: usize)
     requires { (w ≤ 16) × (c < 1048576) × (s < 1048576) }
     ensures { words.new ≡ with_set words.old w c (λ j. held words.old w c j || held sets.now w s j) }
 {
     let p = c * w;
     let q = s * w;
-    // reads and writes past an end are allowed here: slices of both lists would ask for bounds first
     for k in 0..w {
         let x = cells::get_or(words, p + k, 0);
         let y = cells::get_or(sets, q + k, 0);
@@ -36,13 +36,13 @@ fn add_slot(words: &mut [u64], w: usize, c: usize, sets: &[u64], s: usize)
 }
 
 // Takes slot `s` of `sets` off slot `c` of `words`.
+// Stays: reads and writes past an end are allowed here: slices of both lists would ask for bounds first.
 fn take_slot(words: &mut [u64], w: usize, c: usize, sets: &[u64], s: usize)
     requires { (w ≤ 16) × (c < 1048576) × (s < 1048576) }
     ensures { words.new ≡ with_set words.old w c (λ j. held words.old w c j && not (held sets.now w s j)) }
 {
     let p = c * w;
     let q = s * w;
-    // reads and writes past an end are allowed here: slices of both lists would ask for bounds first
     for k in 0..w {
         let x = cells::get_or(words, p + k, 0);
         let y = cells::get_or(sets, q + k, 0);

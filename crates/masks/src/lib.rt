@@ -11,6 +11,7 @@ mod tables; // tables.rt: the tables of the masks, once they are weighed
 pub use tables::Tables;
 
 /// What a search over members knows of each mask of them: a place a mask in each list.
+// Stays: the lists are parts of one piece of lent words, each split off where the one before it ends.
 #[derive(Drop)]
 pub struct Masks<'a> {
     /// what the mask's members list together; for the mask of none, what the region's root lists
@@ -26,6 +27,7 @@ pub struct Masks<'a> {
 }
 
 // The indices of either row.
+// Stays: a row is two words, written out; a loop or a zip over two is no plainer.
 fn unite(a: [u64; 2], b: [u64; 2]) -> [u64; 2]
     ensures { (j : ℕ) → j < 128 → row_has result j ≡ (row_has a j || row_has b j) }
 {
@@ -33,6 +35,7 @@ fn unite(a: [u64; 2], b: [u64; 2]) -> [u64; 2]
 }
 
 // The indices of both rows.
+// Stays: a row is two words, written out; a loop or a zip over two is no plainer.
 fn meet(a: [u64; 2], b: [u64; 2]) -> [u64; 2]
     ensures { (j : ℕ) → j < 128 → row_has result j ≡ (row_has a j && row_has b j) }
 {
@@ -40,12 +43,12 @@ fn meet(a: [u64; 2], b: [u64; 2]) -> [u64; 2]
 }
 
 // The summed weights of the indices `base` + i for each set digit i of `x`, place by place.
+// Stays: i is the place of a digit as well as of a weight; and std has no `From` of a `u64` for a `usize`.
 fn weigh_word(x: u64, base: usize, weights: &[u8]) -> usize
     requires { (base + 64 ≤ length weights.now) × Light weights.now }
     ensures { (result ≡ weight_below weights.now base 64 x) × (result ≤ 512) }
 {
     let mut sum: usize = 0;
-    // i is a digit's place as well as a weight's: an iterator over the weights would need it too
     for i in 0..64 {
         sum += ((x >> i) % 2) as usize * weights[base + i] as usize;
     }
@@ -53,6 +56,7 @@ fn weigh_word(x: u64, base: usize, weights: &[u8]) -> usize
 }
 
 // The summed weights of the indices of either row.
+// Stays: a row is two words, written out; std has no `From` of a `usize` for a `u64`.
 fn weigh(a: [u64; 2], b: [u64; 2], weights: &[u8]) -> u64
     requires { (128 ≤ length weights.now) × Light weights.now }
     ensures { (result ≡ weighed weights.now [] (in_either a b) 128) × (result ≤ 1024) }
@@ -63,11 +67,11 @@ fn weigh(a: [u64; 2], b: [u64; 2], weights: &[u8]) -> u64
 }
 
 /// Unites the members' sets of each mask, from the lowest mask up. Those of the masks of one member stand there already.
+// Stays: s is a mask, and rows before it are read: no iterator lends these beside the row that is written.
 pub fn unions(united: &mut [[u64; 2]])
     requires { (1 ≤ length united.old) × (length united.old ≤ 4096) }
     ensures { United united.old united.new (length united.old) (length united.old) }
 {
-    // s is a mask, and rows before it are read: no iterator lends these beside the row that is written
     for s in 1..united.len() {
         let rest = s & (s - 1);
         if rest != 0 {
@@ -77,13 +81,13 @@ pub fn unions(united: &mut [[u64; 2]])
 }
 
 /// What each mask keeps, and its bits: of its members' indices those that the region's root or a member outside lists.
+// Stays: s is a mask, and rows on both sides of it are read, so that its number is needed beside its rows.
 pub fn keep_sets(united: &[[u64; 2]], weights: &[u8], kept: &mut [[u64; 2]], bits: &mut [u64])
     requires room { (length united.now ≤ 4096) × (length kept.old ≡ length united.now) × (length bits.old ≡ length united.now) }
     requires weights { (128 ≤ length weights.now) × Light weights.now }
     ensures { KeptBelow united.now weights.now kept.new bits.new (length united.now) (length united.now) }
 {
     let n = united.len();
-    // s is a mask, and rows on both sides of it are read
     for s in 1..n {
         let outside = unite(united[0], united[n - 1 - s]);
         let row = meet(united[s], outside);

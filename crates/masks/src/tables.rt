@@ -3,6 +3,7 @@ ghost use Rattle.std.specs.Prelude.{◌≡◌, ◌<◌, ◌≤◌, length, get_o
 ghost use Rattle.masks.specs.Tables.{work_at, Sized};
 
 /// The masks' tables, and the bits of each.
+// Stays: parts of one piece of lent words, as in `Masks`; of these a search only reads.
 #[derive(Clone, Copy)]
 pub struct Tables<'a> {
     kept: &'a [[u64; 2]],
@@ -27,6 +28,7 @@ impl<'a> Tables<'a> {
     }
 
     /// How many masks there are.
+    // Stays: std's name for a number of places, with the bound that the search counts on.
     #[inline]
     pub fn len(&self) -> usize
         ensures { (result ≡ length self.now.bits.now) × (result ≤ 4096) }

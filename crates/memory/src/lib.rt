@@ -19,6 +19,7 @@ use pricing::list::PriceList;
 use spec::{Prices, Refusal, Total};
 
 // Is a count above its limit.
+// Stays: a limit that is a `usize` is compared with bytes; std has no `From` between the two.
 pub fn too_large(m: usize, o: usize, counts: &[u8]) -> bool
     ensures { result ≡ large_of m (length counts.now) o counts.now }
 {
@@ -59,6 +60,7 @@ pub fn record_of(weights: &[u8], counts: &[u8], legs: &[u16], outputs: &[u16]) -
 }
 
 // 0 for an exact total, 1 for one that is beyond.
+// Stays: the C interface has 0 and 1 for the two kinds of a total.
 fn total_kind(total: Total) -> u64
     ensures { result ≡ get_or (total_numbers total) 0 0 }
 {
@@ -69,6 +71,7 @@ fn total_kind(total: Total) -> u64
 }
 
 // 0 without leaves, else one more than the size bits.
+// Stays: the C interface has 0 for no table, and else one more than its bits.
 fn widest_number(widest: Option<u16>) -> u64
     ensures { result ≡ widest_number widest }
 {
@@ -103,6 +106,7 @@ pub fn number_or_short(network: Network) -> u8
 }
 
 // Prices a tree of the network, whose list of legs has all its places.
+// Stays: the C interface lends each list apart.
 fn price_lists(
     weights: &[u8],
     leg_counts: &[u8],
@@ -144,6 +148,7 @@ fn short_of_legs(n: usize, legs: usize) -> bool
 /// Prices the tree `kids` of a network in lists that are lent whole, with the given flags: the price list and the listing as `cost::tree_cost`,
 /// and four numbers to the front of `answer`: 0 and the total or 1 and 0, 0 without leaves or one more than the widest table's bits, the slice
 /// bits. A list of legs that ends early reads as 0 past its end. Refusals: the network's own, `ShortBuffer` for `answer`, then pricing's.
+// Stays: the C interface lends each list apart.
 pub fn price(
     weights: &[u8],
     leg_counts: &[u8],

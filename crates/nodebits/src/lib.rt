@@ -15,6 +15,7 @@ use bits::Digits;
 use network::{Accepted, scan};
 
 // The weight, or 0 where it is flagged.
+// Stays: 0 is the weight that a sliced index counts with, no sign of a missing one.
 fn unless(flag: u8, weight: u8) -> u8
     ensures { result ≡ cond (not (eqb flag 0)) 0 weight }
 {
@@ -22,10 +23,10 @@ fn unless(flag: u8, weight: u8) -> u8
 }
 
 // Makes the weight of each flagged index 0.
+// Stays: by index, as a zip with a list that is written tells the proof only its length.
 fn clear_flagged(effective: &mut [u8], flags: &[u8])
     ensures { (j : ℕ) → get_or effective.new j 0 ≡ open_weight effective.old flags.now j }
 {
-    // by index: a zip with a list that is written says only its length
     for j in 0..effective.len().min(flags.len()) {
         effective[j] = unless(flags[j], effective[j]);
     }
@@ -54,11 +55,11 @@ fn leaf_size(effective: &[u8], leaf: &[u16]) -> usize
 }
 
 // Writes each leaf's size bits, and its work bits, which are 0.
+// Stays: by number, as a leaf's number is its place in both lists; the bits are at most 256, which no type of a `usize` says.
 fn leaf_bits(sizes: &mut [u16], works: &mut [u16], network: &Accepted, effective: &[u8])
     requires { Light effective.now × (length network.now.leg_counts.now ≤ length sizes.old) × (length network.now.leg_counts.now ≤ length works.old) }
     ensures { (sizes.new ≡ over sizes.old (map (leaf_size effective.now network.now.leg_counts.now network.now.legs.now) (range (length network.now.leg_counts.now)))) × (works.new ≡ over works.old (filled (length network.now.leg_counts.now) 0)) }
 {
-    // by number: a leaf's number is its place in both lists
     for i in 0..network.leg_counts.len() {
         let size = leaf_size(effective, scan::leaf(network.leg_counts, network.legs, i));
         sizes[i] = size as u16;
@@ -67,6 +68,7 @@ fn leaf_bits(sizes: &mut [u16], works: &mut [u16], network: &Accepted, effective
 }
 
 // The summed weights of the indices `base` + i for each set digit i of `x`.
+// Stays: `masks::weigh_word` goes through all 64 places of a word, this one through its set digits alone.
 fn weigh_word(x: u64, base: usize, effective: &[u8]) -> usize
     requires { (base + 64 ≤ length effective.now) × Light effective.now × (base ≤ 65536) }
     ensures { (result ≡ word_weight effective.now [] base x) × (result ≤ 512) }
@@ -85,6 +87,7 @@ struct Between {
     dropped: usize,
 }
 
+// Stays: three slots of one list are read at the same word, whose number is the base of its indices as well.
 fn overlap(sets: &[u64], w: usize, l: usize, r: usize, v: usize, effective: &[u8]) -> Between
     requires { StepKnown w l r v sets.now effective.now }
     ensures { (result.shared ≡ weighed effective.now [] (λ j. held sets.now w l j && held sets.now w r j) (w * 64)) × (result.dropped ≡ weighed effective.now [] (λ j. either sets.now w l r j && not (held sets.now w v j)) (w * 64)) }
@@ -94,7 +97,6 @@ fn overlap(sets: &[u64], w: usize, l: usize, r: usize, v: usize, effective: &[u8
     let t = v * w;
     let mut shared: usize = 0;
     let mut dropped: usize = 0;
-    // word by word, in three slots of one list at once
     for k in 0..w {
         let x = sets[p + k];
         let y = sets[q + k];
@@ -114,6 +116,7 @@ pub struct StepBits {
 }
 
 // Those of the step that makes slot `v` of slots `l` and `r`, whose size bits are at hand.
+// Stays: a step is read from three slots and two sizes; a struct would be filled for this one call. The casts narrow what the contract bounds.
 fn step_bits(
     sets: &[u64],
     w: usize,
@@ -136,6 +139,7 @@ fn step_bits(
 }
 
 // In step order, writes each inner node's size bits and work bits. The leaves' size bits are there.
+// Stays: the lists that pricing fills are a struct of pricing, a crate above; here two are written while the sets are only read.
 fn inner_bits(
     sizes: &mut [u16],
     works: &mut [u16],
@@ -160,6 +164,7 @@ fn inner_bits(
 }
 
 // Writes each node's size bits and work bits; a leaf has no work.
+// Stays: the lists that pricing fills are a struct of pricing, a crate above; here two are written while the sets are only read.
 pub fn node_bits(
     sizes: &mut [u16],
     works: &mut [u16],

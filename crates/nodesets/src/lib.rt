@@ -17,6 +17,7 @@ use mix::{Both, Either, combine_with};
 use network::Accepted;
 
 /// The left child of inner node `v`, of `n` leaves.
+// Stays: the C interface lends a tree as a flat list, two children a node; `n` is the number of leaves, no list's length.
 #[inline]
 pub fn left(kids: &[u16], n: usize, v: usize) -> usize
     requires { (n ≤ v) × (v < nodes n kids.now) }
@@ -26,6 +27,7 @@ pub fn left(kids: &[u16], n: usize, v: usize) -> usize
 }
 
 /// The right child of inner node `v`, of `n` leaves.
+// Stays: the C interface lends a tree as a flat list, two children a node; `n` is the number of leaves, no list's length.
 #[inline]
 pub fn right(kids: &[u16], n: usize, v: usize) -> usize
     requires { (n ≤ v) × (v < nodes n kids.now) }
@@ -35,11 +37,11 @@ pub fn right(kids: &[u16], n: usize, v: usize) -> usize
 }
 
 // Makes slot i the set of leaf i's indices.
+// Stays: by number, as a leaf's number is its slot's and the place of its row of 32 indices.
 fn leaf_sets(sets: &mut [u64], w: usize, network: &Accepted)
     requires { w ≤ 16 }
     ensures { sets.new ≡ with_sets sets.old w (leaf_has network.now.leg_counts.now network.now.legs.now) (length network.now.leg_counts.now) }
 {
-    // by number: a leaf's number is its slot's
     for i in 0..network.leg_counts.len() {
         let count = usize::from(network.leg_counts[i]);
         slots::empty(sets, w, i);
@@ -48,6 +50,7 @@ fn leaf_sets(sets: &mut [u64], w: usize, network: &Accepted)
 }
 
 // Makes slot `c` the union of slots `a` and `b`.
+// Stays: word by word at proved places of one list, where `slots::unite` compares with the end at each read.
 fn join(sets: &mut [u64], w: usize, a: usize, b: usize, c: usize)
     requires { (a * w + w ≤ length sets.old) × (b * w + w ≤ length sets.old) × (c * w + w ≤ length sets.old) }
     ensures { sets.new ≡ joined w sets.old a b c }
@@ -55,7 +58,6 @@ fn join(sets: &mut [u64], w: usize, a: usize, b: usize, c: usize)
     let p = a * w;
     let q = b * w;
     let r = c * w;
-    // word by word at proved places of one list, where `slots::unite` compares at each read
     for k in 0..w {
         sets[r + k] = sets[p + k] | sets[q + k];
     }

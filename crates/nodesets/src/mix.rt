@@ -11,6 +11,7 @@ pub(crate) trait WordOp {
 
     ghost on_members: { Bool → Bool → Bool };
 
+    // Stays: the method of this trait; the like one of `slots` is open to that crate alone.
     fn apply(x: u64, y: u64) -> u64
         ensures { result ≡ op x y };
 
@@ -34,6 +35,7 @@ impl WordOp for Either {
 
     ghost fits = { λ x y. or_lt 64 x y };
 
+    // Stays: the method of this trait; the like one of `slots` is open to that crate alone.
     #[inline]
     fn apply(x: u64, y: u64) -> u64 {
         x | y
@@ -49,6 +51,7 @@ impl WordOp for Both {
 
     ghost fits = { λ x y. and_lt 64 x y };
 
+    // Stays: the method of this trait; the like one of `slots` is open to that crate alone.
     #[inline]
     fn apply(x: u64, y: u64) -> u64 {
         x & y
@@ -56,14 +59,21 @@ impl WordOp for Both {
 }
 
 /// Makes slot `c` of `words` what the operation makes of its slot `a` and of slot `b` of `other`.
-pub(crate) fn combine_with<O: WordOp>(words: &mut [u64], w: usize, a: usize, c: usize, other: &[u64], b: usize)
+// Stays: by word, as a zip with a list that is written tells the proof only its length.
+pub(crate) fn combine_with<O: WordOp>(
+    words: &mut [u64],
+    w: usize,
+    a: usize,
+    c: usize,
+    other: &[u64],
+    b: usize,
+)
     requires { (a * w + w ≤ length words.old) × (c * w + w ≤ length words.old) × (b * w + w ≤ length other.now) }
     ensures { words.new ≡ with_set words.old w c (λ j. O.on_members (held words.old w a j) (held other.now w b j)) }
 {
     let p = a * w;
     let q = b * w;
     let r = c * w;
-    // Stays: by word, as a zip with a list that is written tells the proof only its length.
     for k in 0..w {
         words[r + k] = O::apply(words[p + k], other[q + k]);
     }

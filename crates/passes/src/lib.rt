@@ -20,6 +20,7 @@ use reconf::{Search, Visited};
 use walk::Tree;
 
 // Writes the nodes of the tree in `kids` to the front of `nodes`, by falling work, and returns how many they are.
+// Stays: `n` is the number of the tree's leaves, no list's length.
 fn order_nodes(
     kids: &[u16],
     n: usize,
@@ -93,6 +94,7 @@ fn passes_left(left: usize, rebuilt: u64) -> usize
 }
 
 /// Improves the tree `kids` of a network, whose price list is at hand: passes, at most as many as asked, until one rebuilds nothing. `words` is worked in.
+// Stays: stops after a pass that rebuilds nothing: a loop over counts would need a break for it.
 pub fn improve(
     words: &mut [u64],
     list: &mut PriceList,
@@ -111,7 +113,6 @@ pub fn improve(
     let mut rebuilt: u64 = 0;
     let mut tried: u64 = 0;
     let mut left = most;
-    // stops after a pass that rebuilds nothing: a loop over counts would need a break for it
     while 0 < left {
         let made = pass(words, list, kids, network, search);
         rebuilt += made.rebuilt;

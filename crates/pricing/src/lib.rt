@@ -20,6 +20,7 @@ use list::PriceList;
 use spec::Total;
 
 /// The total of the `c` inner nodes from number `n` on: the sum of 2 to their work bits, or beyond from 2^53 on.
+// Stays: it stops at the first step of 53 work bits or more: past it neither power nor sum would fit. `n` is a node's number, no length.
 pub fn total_of(works: &[u16], n: usize, c: usize) -> Total
     requires { n + c ≤ length works.now }
     ensures { result ≡ up_to (work_sum works.now n c) }
@@ -38,6 +39,7 @@ pub fn total_of(works: &[u16], n: usize, c: usize) -> Total
 }
 
 /// The size bits of the widest of the first `m` nodes; none without nodes.
+// Stays: the widest of some tables, no conversion; `m` nodes are priced in a list that is lent longer.
 pub fn widest_of(sizes: &[u16], m: usize) -> Option<u16>
     requires { m ≤ length sizes.now }
     ensures { result ≡ widest_in (firsts m sizes.now) }
@@ -65,6 +67,7 @@ pub fn slice_bits(m: usize, weights: &[u8], flags: &[u8]) -> u16
 }
 
 // A step's five numbers at `at`.
+// Stays: five numbers of one type, told apart by their names alone; the struct for them, `steps::Step`, is of a crate above.
 fn put_step(steps: &mut [u16], at: usize, v: u16, l: u16, r: u16, work: u16, size: u16)
     requires { at + 5 ≤ length steps.old }
     ensures { steps.new ≡ sets steps.old at (v ∷ l ∷ r ∷ work ∷ size ∷ []) }
@@ -77,11 +80,11 @@ fn put_step(steps: &mut [u16], at: usize, v: u16, l: u16, r: u16, work: u16, siz
 }
 
 // The listing: node, left, right, work bits and size bits of each step in order.
+// Stays: by index, as a zip with a list that is written tells the proof only its length; the listing is flat, as the C interface lends it.
 pub(crate) fn list_steps(steps: &mut [u16], n: usize, kids: &[u16], order: &[u16], list: &PriceList)
     requires { Steps n kids.now order.now × (length order.now * 5 ≤ length steps.old) × (nodes n kids.now ≤ length list.now.works.now) × (nodes n kids.now ≤ length list.now.sizes.now) }
     ensures { steps.new ≡ over steps.old (lines (left_of kids.now n) (right_of kids.now n) list.now.works.now list.now.sizes.now order.now) }
 {
-    // No row is written through an iterator, since a zip with a written list says only its length.
     for k in 0..order.len() {
         let node = order[k];
         let v = usize::from(node);

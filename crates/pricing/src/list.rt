@@ -16,6 +16,7 @@ use spec::{Prices, Total};
 use walk::Tree;
 
 /// The lists that pricing fills from their fronts on.
+// Stays: the C interface lends the three lists apart, each with its own type.
 #[derive(Drop)]
 pub struct PriceList<'a> {
     /// A set for each node: the indices that the node lists.
@@ -29,6 +30,7 @@ pub struct PriceList<'a> {
 impl<'a> PriceList<'a> {
     /// Prices the nodes of a network's tree in step order: each node's set of `w` words, its size bits and its work bits with the given flags.
     /// `M` is a number of indices that a set has room for; `outside` is worked in.
+    // Stays: workspace, flags and tree are lent apart by the C interface; the order is in a list of the caller's, who prices more than once with it.
     pub fn price<const M: usize>(
         &mut self,
         outside: &mut [u64],
@@ -63,6 +65,7 @@ impl<'a> PriceList<'a> {
     }
 
     /// Prices as `price` does, hands the listing out, five numbers a step: node, left, right, work bits, size bits, and answers total, widest and slice bits.
+    // Stays: workspace, listing, flags and tree are lent apart by the C interface; the order is in a list of the caller's.
     pub fn price_listed<const M: usize>(
         &mut self,
         outside: &mut [u64],

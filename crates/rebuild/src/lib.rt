@@ -10,6 +10,7 @@ ghost use Rattle.subset.specs.Regions.{region_of};
 ghost use Rattle.rebuild.specs.Writes.{with_pair, wrote, IsTaken, part_of};
 
 /// Is `best`, as f64, below `old` × (1 − 1e-9) in f64.
+// Stays: a comparison of f64 is a form that a rule of the project names; std has no `From` of a `u64` for an f64.
 pub fn undercuts(best: u64, old: u64) -> bool
     requires { (best < 2 ^ 53) × (old < 2 ^ 53) }
     ensures { result ≡ undercuts best old }
@@ -18,6 +19,7 @@ pub fn undercuts(best: u64, old: u64) -> bool
 }
 
 // Gives node `v`, of `n` leaves, its children.
+// Stays: `n` is the number of leaves; the C interface lends the tree as a flat list, two children a node.
 fn put_node(kids: &mut [u16], n: usize, v: u16, left: u16, right: u16)
     ensures { pairs_of kids.new ≡ with_pair (pairs_of kids.old) n v left right }
 {
@@ -58,6 +60,7 @@ impl<'a> Freed<'a> {
 }
 
 // A node over two that are built: it takes a freed number.
+// Stays: `n` is the number of the tree's leaves, no list's length.
 fn join_node(free: &mut Freed, kids: &mut [u16], n: usize, first: u16, second: u16) -> u16
     ensures { wrote kids.new free.new.nodes.now result free.new.left ≡ write n (pairs_of kids.old) first second (freed free.old.nodes.now free.old.left) }
 {
@@ -71,6 +74,7 @@ fn join_node(free: &mut Freed, kids: &mut [u16], n: usize, first: u16, second: u
 }
 
 // The part of the mask `s`, if it is split.
+// Stays: the part that a mask is split by, no conversion; std has no `From` of a `u64` for a `usize`.
 fn part_of(part: &[u64], s: usize) -> Option<usize>
     ensures { result ≡ part_of (split_at part.now) s }
 {
@@ -83,6 +87,7 @@ fn part_of(part: &[u64], s: usize) -> Option<usize>
 
 /// Builds the tree over the members of the mask `s` that the list of parts describes, and returns its number: its left part first, then its right part,
 /// then the node over both. It falls with the mask.
+// Stays: recursion is a form that a rule of the project names; `n` is the number of leaves; a mask is a place here and a word of digits there.
 pub fn build(
     part: &[u64],
     s: usize,

@@ -39,6 +39,7 @@ fn local_list(
 }
 
 // Searches the subsets of the members of node `v`, in the numbers of the local indices.
+// Stays: workspace, sets, weights, members and limit come from five owners; a struct would be filled for this one call.
 fn search_region<'a>(
     words: &'a mut [u64],
     sets: &[u64],

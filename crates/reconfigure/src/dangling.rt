@@ -27,17 +27,18 @@ fn tally_row(tally: &mut [u8], row: &[u16])
 }
 
 // Counts the indices of `n` leaves.
+// Stays: i is the leaf that `scan::leaf` cuts out of both lists.
 fn tally_leaves<'a>(tally: &mut [u8], n: usize, counts: &'a [u8], legs: &'a [u16])
     requires { Rows n counts.now legs.now }
     ensures { tally.new ≡ tally_rows tally.old (leaves_of n counts.now legs.now) }
 {
-    // i is the leaf that `scan::leaf` cuts out of both lists
     for i in 0..n {
         tally_row(tally, scan::leaf(counts, legs, i));
     }
 }
 
 // Strikes the counts of the indices of a row.
+// Stays: one line over `cells::put`; the like one of slicing promises weights, this one counts.
 fn strike(tally: &mut [u8], row: &[u16])
     ensures { tally.new ≡ struck tally.old row.now }
 {

@@ -70,6 +70,7 @@ fn limit_of(limit: Limit) -> Option<u16>
 }
 
 /// Is the total of a tree of `n` leaves, whose nodes' work bits are at hand, beyond.
+// Stays: `n` is the number of the tree's leaves, no list's length.
 pub fn is_beyond(works: &[u16], n: usize) -> bool
     requires { n + (n - 1) ≤ length works.now }
     ensures { result ≡ is_beyond (up_to (work_sum works.now n (n - 1))) }
@@ -89,6 +90,7 @@ fn is_total_beyond(list: &PriceList, n: usize) -> bool
 }
 
 // The answer where the tree is valid and the flags are right.
+// Stays: memory is fixed: the lists of the price list are arrays here, of one length where nodes have an entry each.
 fn improve_valid(
     network: &Accepted,
     search: &Search,
@@ -142,6 +144,7 @@ fn improve_tree(
 
 /// Improves the tree of an accepted network where it stands. Refusals, in this order: `ShortBuffer`, `InvalidTree`, `InvalidFlags`, `TotalBeyond`,
 /// `DanglingIndex`.
+// Stays: improvement of an accepted network's tree, no conversion.
 pub fn improve_of(
     network: &Accepted,
     ask: &Ask,

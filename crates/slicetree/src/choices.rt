@@ -12,6 +12,7 @@ use reconf::{Search, Visited};
 use walk::Tree;
 
 // One pass at k = 8 with the limit that the widest table or the target sets.
+// Stays: memory is fixed: the lists of the price list are arrays here, of one length where nodes have an entry each.
 fn improve_once(
     network: &Accepted,
     kids: &mut [u16],
@@ -69,6 +70,7 @@ fn turn(
 }
 
 /// Slices the tree, improved after each choice; the counts are summed over all passes.
+// Stays: at most a turn an index, over no list; the turn that flags nothing ends it.
 pub fn slice(
     network: &Accepted,
     kids: &mut [u16],

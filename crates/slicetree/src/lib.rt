@@ -18,6 +18,7 @@ use spec::Refusal;
 use walk::Tree;
 
 // The stated workspace, in words.
+// Stays: the C interface asks with a flag whether slicing is to improve.
 fn stated(improving: bool) -> usize
     ensures { result ≡ slice_words improving }
 {
@@ -25,6 +26,7 @@ fn stated(improving: bool) -> usize
 }
 
 // Is the tree's unsliced total beyond.
+// Stays: memory is fixed: the lists of the price list are arrays here, of one length where nodes have an entry each.
 fn is_beyond(network: &Accepted, kids: &[u16], words: &mut [u64]) -> bool
     requires right { wrong_tree (leaf_count (net_in network.now)) kids.now ≡ false }
     requires words { plain_words ≤ length words.old }
@@ -43,6 +45,7 @@ fn is_beyond(network: &Accepted, kids: &[u16], words: &mut [u64]) -> bool
 }
 
 // Refuses what is no tree of the network, a tree whose unsliced total is beyond, and with improvement a dangling index.
+// Stays: the C interface asks with a flag whether slicing is to improve.
 fn check(
     network: &Accepted,
     improving: bool,
@@ -66,6 +69,7 @@ fn check(
 }
 
 // Slices a tree that no check refuses: as it is, or improved after each choice.
+// Stays: the C interface asks with a flag whether slicing is to improve.
 fn slice_with(
     network: &Accepted,
     improving: bool,
@@ -116,6 +120,7 @@ fn slice_in(
 
 /// Slices the tree of an accepted network, as `slice` does. Refusals, in this order: `ShortBuffer`, `InvalidTree`, `TotalBeyond`, and with
 /// improvement `DanglingIndex`.
+// Stays: slicing of an accepted network's tree, no conversion.
 pub fn slice_of(
     network: &Accepted,
     improving: bool,

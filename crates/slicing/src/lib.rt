@@ -44,6 +44,7 @@ fn flag(flags: &mut [u8], best: Option<Rank>) -> bool
 }
 
 /// Prices the tree, and flags one index more, unless the widest table is within the target or no candidate is left. Was one flagged.
+// Stays: memory is fixed: the lists of the price list are arrays here, of one length where nodes have an entry each.
 pub fn turn(
     outside: &mut [u64],
     flags: &mut [u8],
@@ -78,6 +79,7 @@ pub fn turn(
 }
 
 /// Slices the tree as it is.
+// Stays: at most a turn an index, over no list; the turn that flags nothing ends it.
 pub fn slice(
     outside: &mut [u64],
     flags: &mut [u8],

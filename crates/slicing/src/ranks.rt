@@ -26,6 +26,7 @@ pub struct Rank {
 
 impl Rank {
     /// Is the index rather sliced than the other.
+    // Stays: the derived order, said in the words of the definition of slicing.
     #[inline]
     pub fn is_before(self, other: Rank) -> bool
         ensures { result ≡ rank_before (rank_from self) (rank_from other) }
@@ -35,6 +36,7 @@ impl Rank {
 }
 
 // What the indices are ranked by: lists by index, and the exact total.
+// Stays: lists by index that are summed one after the other; a list of structs would be filled from them first.
 #[derive(Clone, Copy)]
 struct Merits<'a> {
     total: u64,
@@ -47,6 +49,7 @@ struct Merits<'a> {
 }
 
 // Makes the weight of each output 0.
+// Stays: one line over `cells::put`; the like one of reconfigure promises counts, this one weights.
 fn clear_outputs(sliceable: &mut [u8], outputs: &[u16])
     ensures { (j : ℕ) → get_or sliceable.new j 0 ≡ cond (memb j (firsts (length outputs.now) outputs.now)) 0 (get_or sliceable.old j 0) }
 {
@@ -66,6 +69,7 @@ fn sliceable_weights(sliceable: &mut [u8], network: &Accepted, flags: &[u8])
 }
 
 // The total over all settings of an index of the given weight, once it is sliced: `touching` is the work of the steps whose children list it.
+// Stays: the total once an index is sliced, no conversion.
 fn cost_of(total: u64, touching: u64, weight: usize) -> u64
     requires { (touching ≤ total) × (total < 9007199254740992) × (weight ≤ 8) }
     ensures { result ≡ 2 ^ weight * (total - touching) + touching }
@@ -118,6 +122,7 @@ impl<'a> Merits<'a> {
 }
 
 // The index that is sliced next, of a tree that is priced: `total` is its exact total.
+// Stays: the price list is the turn's, network, flags and tree the caller's; memory is fixed, so the lists by index are arrays here.
 pub fn choose(
     list: &PriceList,
     network: &Accepted,

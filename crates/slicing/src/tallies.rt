@@ -23,18 +23,19 @@ fn add_word(sums: &mut [u64], x: u64, base: usize, amount: u64)
 }
 
 // Adds `amount` at the place of each index that slot `a` or slot `b` has.
+// Stays: two slots are read at the same word, whose number is the base of its indices as well.
 fn add_slots(sums: &mut [u64], sets: &[u64], w: usize, a: usize, b: usize, amount: u64)
     requires { (w * 64 ≤ length sums.old) × (w ≤ 1024) × (a * w + w ≤ length sets.now) × (b * w + w ≤ length sets.now) × Small 2305843009213693952 sums.old × (amount ≤ 1152921504606846976) }
     ensures { Added amount sums.old (keep (either sets.now w a b) (range (w * 64))) sums.new }
 {
     let p = a * w;
     let q = b * w;
-    // Stays: two slots are read at the same word, whose number is the base of its indices as well.
     for k in 0..w {
         add_word(sums, sets[p + k] | sets[q + k], k * 64, amount);
     }
 }
 
+// Stays: the power of two with the bound that the sums need.
 fn exp2(b: usize) -> u64
     requires { b < 53 }
     ensures { (result ≡ 2 ^ b) × (result ≤ 1152921504606846976) }

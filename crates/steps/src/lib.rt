@@ -22,6 +22,7 @@ pub struct Step {
 }
 
 // Step i of a listing of five numbers a step; 0 past its end.
+// Stays: the listing is a flat list of five numbers a step, as the C interface lends it, and may end early.
 fn step_at(numbers: &[u16], i: usize) -> Step
     requires { i * 10 < 2 ^ 64 }
     ensures { result ≡ step_at numbers.now i }
@@ -37,10 +38,10 @@ fn step_at(numbers: &[u16], i: usize) -> Step
 }
 
 /// Puts the first `count` steps of a listing of five numbers a step into the lent records, as far as they go; the other records stay.
+// Stays: by index, as a zip with a list that is written tells the proof only its length.
 pub fn put_steps(steps: &mut [Step], numbers: &[u16], count: usize)
     ensures { steps.new ≡ over steps.old (steps_of numbers.now count) }
 {
-    // by index: a zip with a list that is written says only its length
     for i in 0..count.min(steps.len()) {
         steps[i] = step_at(numbers, i);
     }

@@ -11,9 +11,11 @@ ghost use Rattle.subset.specs.Walk.{infinite, finite, step_cost, considered, che
 use masks::{Masks, Tables};
 
 // From 2^53 on a cost counts as infinite.
+// Stays: the walk compares one word a mask; an `Option` would be two in its inner loop.
 const INFINITE: u64 = 9007199254740992;
 
 /// A cost, and the part of the split that has it; 2^53 and 0 where there is none, so that the walk compares one number.
+// Stays: 2^53 is no cost, so that the walk compares one word; an `Option` would be two in its inner loop.
 #[derive(Clone, Copy)]
 pub struct Choice {
     pub cost: u64,
@@ -82,6 +84,7 @@ fn consider(
 }
 
 // The first cheapest split of `low` + `rest` whose part holds `low`.
+// Stays: the form that a rule of the project names: a loop whose break has the value.
 fn cheapest_split(tables: &Tables, cost: &[u64], low: usize, rest: usize) -> Choice
     requires { (length cost.now ≡ length tables.now.bits.now) × (1 ≤ low) × (low + rest < length tables.now.bits.now) }
     ensures { result ≡ cheapest_of (best_at cost.now) (work_at tables.now.kept.now tables.now.weights.now) (length tables.now.bits.now) low rest }
@@ -91,7 +94,6 @@ fn cheapest_split(tables: &Tables, cost: &[u64], low: usize, rest: usize) -> Cho
         part: 0,
     };
     let mut sub = rest;
-    // the form that a rule names: a loop whose break has the value
     let cheapest = loop {
         if sub == 0 {
             break found;
@@ -110,6 +112,7 @@ fn is_over(bits: u64, limit: Option<u16>) -> bool
 }
 
 /// What is found for a mask: the least cost, the part of the first split that has it, and how many splits are tried.
+// Stays: 2^53 is no cost, so that the lent list of costs has one word a mask.
 #[derive(Clone, Copy)]
 pub struct Entry {
     pub cost: u64,
@@ -118,6 +121,7 @@ pub struct Entry {
 }
 
 // The mask `s`, from what is found for the masks below it. A mask that is not the full one is passed over if its table is above the limit.
+// Stays: a mask is a place here and a word of digits there; std has no `From` of a `usize` for a `u64`.
 fn search_mask(tables: &Tables, cost: &[u64], limit: Option<u16>, s: usize) -> Entry
     requires { (length cost.now ≡ length tables.now.bits.now) × (1 ≤ s) × (s < length tables.now.bits.now) }
     ensures { result ≡ entry_of (best_at cost.now) (work_at tables.now.kept.now tables.now.weights.now) (length tables.now.bits.now) limit s }
@@ -148,12 +152,12 @@ fn search_mask(tables: &Tables, cost: &[u64], limit: Option<u16>, s: usize) -> E
 }
 
 // Fills the lists of costs and parts, from the lowest mask up, and returns how many splits are tried.
+// Stays: s is a mask, and costs before it are read: no iterator lends these beside the one that is written.
 fn fill(tables: &Tables, limit: Option<u16>, cost: &mut [u64], part: &mut [u64]) -> u64
     requires { (length cost.old ≡ length tables.now.bits.now) × (length part.old ≡ length tables.now.bits.now) × (1 ≤ length tables.now.bits.now) }
     ensures { Filled (best_at cost.new) (split_at part.new) (work_at tables.now.kept.now tables.now.weights.now) (length tables.now.bits.now) limit (length tables.now.bits.now) result }
 {
     let mut tried: u64 = 0;
-    // s is a mask, and costs before it are read: no iterator lends these beside the one that is written
     for s in 1..tables.len() {
         let e = search_mask(tables, cost, limit, s);
         cost[s] = e.cost;
@@ -196,6 +200,7 @@ pub fn mask_count(m: usize) -> usize
 }
 
 // A cost of the table, if it is one.
+// Stays: the list of costs has one word a mask, 2^53 where there is no cost.
 fn finite(cost: u64) -> Option<u64>
     ensures cost { result ≡ finite cost }
     ensures small { IfSome result (λ c. c < infinite) }
