@@ -38,7 +38,7 @@ fn swap_drawn(order: &mut [u16], draws: &mut Draws, i: usize)
 }
 
 // Shuffles a list by draws, from its last place down.
-// Stays: the loop lends the same words to each turn; `for_each` with a closure over them is no plainer.
+// Stays: each turn writes the same lent lists; `for_each` with a closure that holds them is no plainer.
 fn shuffle(order: &mut [u16], draws: &mut Draws)
     requires { length order.old ≤ 65536 }
     ensures { drawn order.new draws.new ≡ shuffled (length order.old - 1) (drawn order.old draws.old) }
@@ -174,7 +174,7 @@ fn match_vertex(
 }
 
 // The vertices of a list, one after another.
-// Stays: the loop lends the same words to each turn; `for_each` with a closure over them is no plainer.
+// Stays: each turn writes the same lent lists; `for_each` with a closure that holds them is no plainer.
 fn match_in_order(
     graph: &Graph,
     limit: f64,

@@ -99,7 +99,7 @@ pub fn enter(graph: &Hypergraph, entries: &mut [Entry], draws: &mut Draws, v: us
 }
 
 /// Enters all vertices with the stamp 0.
-// Stays: the loop lends the same words to each turn; `for_each` with a closure over them is no plainer.
+// Stays: each turn writes the same entries and takes draws; `for_each` with a closure that holds both is no plainer.
 pub fn enter_all(graph: &Hypergraph, entries: &mut [Entry], draws: &mut Draws)
     ensures { AllEntered graph.now.words.now graph.now.place graph.now.weights.now graph.now.place.vertex_count (queue_in entries.old draws.old) (queue_in entries.new draws.new) }
 {

@@ -79,7 +79,7 @@ impl<'a> Ratings<'a> {
     }
 
     // The pins of a net rated `r`.
-    // Stays: the loop lends the same words to each turn; `for_each` with a closure over them is no plainer.
+    // Stays: each turn writes the same ratings; `for_each` with a closure that holds them is no plainer.
     fn rate_pins(&mut self, single: &Single, r: f64, pins: &[u16])
         requires { self.old.count + length pins.now ≤ length self.old.touched.now }
         ensures lent { IsSameLoan self.old self.new }
@@ -107,7 +107,7 @@ impl<'a> Ratings<'a> {
     }
 
     /// Rates the neighbours of a vertex along the nets of a list: each net stands in slot `nets` + e of `words`, its weight in `weights`.
-    // Stays: the loop lends the same words to each turn; `for_each` with a closure over them is no plainer.
+    // Stays: each turn writes the same ratings; `for_each` with a closure that holds them is no plainer.
     pub fn rate_nets(
         &mut self,
         words: &[u64],
