@@ -59,6 +59,7 @@ impl<'a> Draws<'a> {
         ensures below { result < n }
         ensures words { self.new ≡ (index_draw n self.old).words }
     {
+        // Stays: no `From` goes between `u64` and `usize`, and the remainder fits.
         (self.next() % (n as u64)) as usize
     }
 

@@ -14,10 +14,12 @@ pub use lent::Draws;
 pub fn unit_draw(word: u64) -> f64
     ensures { result ≡ unit_of word }
 {
+    // Stays: no `From` goes from `u64` to `f64`.
     ((word / 2048) as f64) * 1.1102230246251565e-16
 }
 
 /// The nearest whole number to a y above 0 and below 2^52: its whole part n is a u64, and n + 1/2 is an f64 exactly.
+// Stays: no `From` goes from `u64` to `f64`; below 2^53 the cast is exact.
 fn near(y: f64) -> f64
     requires { T (lt (fin false 0 (pos 0)) y) × T (lt y (fin false 1 (pos 52))) }
     ensures { result ≡ round_away y }

@@ -30,6 +30,7 @@ fn enter_again(
 }
 
 /// Enters the vertices of a list again, each unless it is in the slot `locked`.
+// Stays: each turn writes the same entries; `for_each` with a closure that holds them is no plainer.
 fn enter_pins(
     graph: &Hypergraph,
     entries: &mut [Entry],
@@ -62,6 +63,7 @@ fn enter_net(
 }
 
 /// Enters the pins of the nets of a list again, net by net, each unless it is in the slot `locked`. The list `pins` is for the pins of a net.
+// Stays: each turn writes the same entries; `for_each` with a closure that holds them is no plainer.
 fn enter_nets(
     graph: &Hypergraph,
     entries: &mut [Entry],

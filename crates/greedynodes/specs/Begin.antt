@@ -83,27 +83,6 @@ pub record Room (n made : ℕ) (weights outputs leaves lent : List ℕ) : Type 0
   pub words : 1036 ≤ length lent
   pub array : made < 8192
 
--- what an older function asks of them
-pub record Fits (w n made : ℕ) (weights outputs leaves ws : List ℕ) : Type 0 where
-  pub width : w ≤ 4
-  pub indices : length weights ≤ w * 64
-  pub leaf_sets : n ≤ w * 64
-  pub few : length leaves ≤ 128
-  pub outputs_fit : length outputs ≤ 4294967296
-  pub words : 2320 ≤ length ws
-  pub array : made < 8192
-
-pub fits_room : (w n made : ℕ) (weights outputs leaves ws : List ℕ) → Fits w n made weights outputs leaves ws → Room n made weights outputs leaves ws
-fits_room w n made weights outputs leaves ws f =
-    record {
-      indices = omega (arith, f.width, f.indices);
-      leaf_sets = omega (arith, f.width, f.leaf_sets);
-      few = f.few;
-      outputs_fit = f.outputs_fit;
-      words = omega (arith, f.words);
-      array = f.array;
-    }
-
 -- what greedy over a list of leaves is given: the leaves are some of the network's, each once; the array so far has `made` nodes
 pub record Asks (N : Network) (a : List Pair) (n made : ℕ) (weights counts legs outputs leaves kids : List ℕ) : Type 0 where
   pub lends : Lends N n weights counts legs outputs

@@ -17,15 +17,8 @@ use Rattle.merging.specs.Connect.{Final, Connected, too_wide, ended}
 use Rattle.rest.specs.Joined.{Rest, Joined, built_of}
 use Rattle.greedynodes.specs.Begin.{Asks, given, ghost, state_is}
 
--- what greedy over a list of leaves answers: 65536 if it is refused, and else the number of the tree that is built; the array's children
--- stand at the front of `kids`
-pub data Greedied (N : Network) (a : List Pair) (leaves kids₀ kids : List ℕ) (r : ℕ) : Type 0 where
-  is_refused : r ≡ 65536 → greedy_from N a (leaves_of leaves) ≡ Err TableTooWide → Greedied N a leaves kids₀ kids r
-  is_built : r < 65536 → (b : Built) → greedy_from N a (leaves_of leaves) ≡ Ok b → kids ≡ over kids₀ (flat_of b.pairs)
-      → length b.pairs ≡ length a + (length leaves - 1) → (0 < length leaves → (t : Tree) × (b.tops ≡ t ∷ []) × (r ≡ number t))
-      → Greedied N a leaves kids₀ kids r
-
--- the same as a `Result`
+-- what greedy over a list of leaves answers: a refusal, or the number of the tree that is built; the array's children stand at the front of
+-- `kids`
 pub data Planned (N : Network) (a : List Pair) (leaves kids₀ kids : List ℕ) (r : Result ℕ Refusal) : Type 0 where
   is_too_wide : r ≡ Err TableTooWide → greedy_from N a (leaves_of leaves) ≡ Err TableTooWide → Planned N a leaves kids₀ kids r
   is_planned : (top : ℕ) → r ≡ Ok top → top < 65536 → (b : Built) → greedy_from N a (leaves_of leaves) ≡ Ok b → kids ≡ over kids₀ (flat_of b.pairs)
@@ -36,12 +29,6 @@ pub data Planned (N : Network) (a : List Pair) (leaves kids₀ kids : List ℕ) 
 abbrev pub number_in : Result ℕ Refusal → ℕ
 number_in (Err r) = 65536
 number_in (Ok t) = t
-
-pub by_number : {N : Network} {a : List Pair} {leaves kids₀ kids : List ℕ} {r : Result ℕ Refusal} → Planned N a leaves kids₀ kids r → Greedied N a leaves kids₀ kids (number_in r)
-by_number (is_too_wide z q) = is_refused (ap number_in z) q
-by_number (is_planned top z l b q w k t) =
-    let e = ap number_in z in
-    is_built (omega (arith, e, l)) b q w k (λ h. let (u, v, x) = t h in (u, v, e ∙ x))
 
 -- an answer is no refusal
 abbrev answered : Result ℕ Refusal → Type 0

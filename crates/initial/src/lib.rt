@@ -47,6 +47,7 @@ fn keep_better(part: &mut [u8], trial: &[u8], best: Option<f64>, cut: f64) -> f6
 }
 
 /// The best of eight tries, in `part`. The list `trial` is for each of them. `goal` is half of the weight; no side gets heavier than `most_weight` by a move.
+// Stays: what is lent here is lent for this call alone, read or written, by callers that hold it apart; a struct of it would be made at the one call.
 pub fn initial(
     words: &mut [u64],
     layout: &Layout,
@@ -60,6 +61,7 @@ pub fn initial(
     ensures { Initial layout.now.net_weights.now layout.now.vertex_weights.now layout.now.nets layout.now.vertices layout.now.sides layout.now.net_count most_weight words.old draws.old words.new part.new draws.new }
 {
     let mut best = None;
+    // Stays: eight tries, over no list.
     for k in 0usize..8 {
         let cut = try_once(words, layout, most_weight, goal, draws, trial);
         best = Some(keep_better(part, trial, best, cut));

@@ -18,6 +18,7 @@ fn word(sets: &[u64], s: usize, k: usize) -> u64
     requires { (s < 1048576) × (k < 1048576) }
     ensures { result ≡ get_or sets.now (s * 4 + k) 0 }
 {
+    // Stays: a slot is a place in the stated words, whose layout the workspace fixes; the read is total there.
     cells::get_or(sets, s * WIDTH + k, 0)
 }
 
@@ -26,7 +27,7 @@ pub fn share(sets: &[u64], x: usize, y: usize) -> bool
     requires { (x < 1048576) × (y < 1048576) }
     ensures { result ≡ shares sets.now 4 x y }
 {
-    // By the number of a word: two slots of one list are read side by side.
+    // Stays: two slots of one list are read side by side, by total reads as the definition has them; a slot past the end is no slice.
     for k in 0..WIDTH {
         let a = word(sets, x, k);
         let b = word(sets, y, k);
@@ -45,6 +46,7 @@ struct Holders {
 }
 
 /// Of word `k` the indices that two or more of the live tables hold, and those that three or more hold.
+// Stays: `k` is the number of a word, and not how long the list is.
 fn count_holders(sets: &[u64], live: &[u8], k: usize) -> Holders
     requires { k < 1048576 }
     ensures two { result.two ≡ count_word sets.now 4 live.now k 2 (length live.now) }
@@ -63,19 +65,23 @@ fn count_holders(sets: &[u64], live: &[u8], k: usize) -> Holders
 }
 
 /// Makes word `k` of slot 257 `two`, and that of slot 258 `three`.
+// Stays: `k` is the number of a word, and not how long the list is; two slots lie at fixed places of the stated workspace.
 fn put_words(sets: &mut [u64], k: usize, two: u64, three: u64)
     requires { k < 1048576 }
     ensures { sets.new ≡ set (set sets.old (257 * 4 + k) two) (258 * 4 + k) three }
 {
+    // Stays: two slots of the lent words, at fixed places of the stated workspace.
     cells::put(sets, TWICE * WIDTH + k, two);
+    // Stays: two slots of the lent words, at fixed places of the stated workspace.
     cells::put(sets, THRICE * WIDTH + k, three);
 }
 
 /// Makes slot 257 what two or more of the live tables hold, and slot 258 what three or more hold, each with slot 256.
+// Stays: the loop lends the same words to each turn; `for_each` with a closure over them is no plainer.
 pub fn put_holders(sets: &mut [u64], live: &[u8])
     ensures { sets.new ≡ with_holders sets.old 4 live.now (length live.now) }
 {
-    // By the number of a word: the list that is read is also written.
+    // Stays: the list that is read is also written, so no iterator can hold it.
     for k in 0..WIDTH {
         let held = count_holders(sets, live, k);
         let staying = word(sets, OUTSIDE, k);
@@ -101,7 +107,7 @@ pub fn merged_size(sets: &[u64], x: usize, y: usize, weights: &[u8]) -> usize
     ensures { result ≡ pair_bits sets.now 4 weights.now x y }
 {
     let mut sum: usize = 0;
-    // By the number of a word: four slots are read side by side.
+    // Stays: four slots of one list are read side by side, by total reads; a slot past the end is no slice.
     for k in 0..WIDTH {
         let v = merged_word(sets, x, y, k);
         sum += slots::weigh_word(v, k * 64, weights, &weights[..0]);
@@ -110,13 +116,15 @@ pub fn merged_size(sets: &[u64], x: usize, y: usize, weights: &[u8]) -> usize
 }
 
 /// Makes slot `z` the table that a merge of slots `x` and `y` makes.
+// Stays: the loop lends the same words to each turn; `for_each` with a closure over them is no plainer.
 pub fn put_merged(sets: &mut [u64], x: usize, y: usize, z: usize)
     requires { (x < 1048576) × (y < 1048576) × (z < 1048576) }
     ensures { sets.new ≡ with_set sets.old 4 z (merged_set sets.old 4 x y) }
 {
-    // By the number of a word: the list that is read is also written.
+    // Stays: the list that is read is also written, so no iterator can hold it.
     for k in 0..WIDTH {
         let v = merged_word(sets, x, y, k);
+        // Stays: the written slot lies in the list that is read; a split of it would need an order of the three slots.
         cells::put(sets, z * WIDTH + k, v);
     }
 }

@@ -17,11 +17,13 @@ pub use graph::Graph;
 use ratings::{Ratings, Single};
 
 // Makes a list 0, 1, 2, ..
+// Stays: `fill_with` would count by hand in its closure.
 fn count_up(order: &mut [u16])
     requires { length order.old ≤ 65536 }
     ensures { order.new ≡ range (length order.old) }
 {
     for (k, place) in order.iter_mut().enumerate() {
+        // Stays: the number fits by what is known here; `try_from` would add a failure that never comes.
         *place = k as u16;
     }
 }
@@ -36,10 +38,12 @@ fn swap_drawn(order: &mut [u16], draws: &mut Draws, i: usize)
 }
 
 // Shuffles a list by draws, from its last place down.
+// Stays: each turn writes the same lent lists; `for_each` with a closure that holds them is no plainer.
 fn shuffle(order: &mut [u16], draws: &mut Draws)
     requires { length order.old ≤ 65536 }
     ensures { drawn order.new draws.new ≡ shuffled (length order.old - 1) (drawn order.old draws.old) }
 {
+    // Stays: each turn swaps two places of the list that an iterator would borrow.
     for i in (1..order.len()).rev() {
         swap_drawn(order, draws, i);
     }
@@ -53,6 +57,7 @@ pub struct Best {
 }
 
 // Vertex `u` is looked at, as a mate of `v`: its rating with a little noise, which takes a draw, must be above the best, and both together not too heavy.
+// Stays: the lists are of the caller, each lent for another time, so a struct of them would be made anew for each vertex that is looked at.
 fn look(
     vw: &[f64],
     limit: f64,
@@ -66,10 +71,10 @@ fn look(
 {
     let place = usize::from(u);
     let noise = draws.unit();
-    let x = cells::getf(rating, place) * (1.0 + 1e-6 * noise);
-    cells::putf(rating, place, 0.0);
+    let x = cells::get_or(rating, place, 0.0) * (1.0 + 1e-6 * noise);
+    cells::put(rating, place, 0.0);
     if best.rating < x {
-        if cells::getf(vw, v) + cells::getf(vw, place) <= limit {
+        if cells::get_or(vw, v, 0.0) + cells::get_or(vw, place, 0.0) <= limit {
             return Best {
                 rating: x,
                 mate: Some(u),
@@ -108,8 +113,10 @@ fn pair(mates: &mut [u16], v: usize, mate: Option<u16>)
     match mate {
         Some(u) => {
             cells::put(mates, v, u);
+            // Stays: the number fits by what is known here; `try_from` would add a failure that never comes.
             cells::put(mates, usize::from(u), v as u16);
         }
+        // Stays: the number fits by what is known here; `try_from` would add a failure that never comes.
         None => cells::put(mates, v, v as u16),
     }
 }
@@ -127,7 +134,7 @@ fn match_vertex(
     ensures { drawn mates.new draws.new ≡ matched (graph_of graph.now) limit v (drawn mates.old draws.old) }
 {
     let n = graph.layout.vertex_weights.len();
-    if cells::at16(mates, v) == n {
+    if usize::from(cells::get_or(mates, v, 0)) == n {
         let mut floats = [0.0f64; 128];
         let rating = &mut floats[..n];
         let mut list = [0u16; 256];
@@ -167,6 +174,7 @@ fn match_vertex(
 }
 
 // The vertices of a list, one after another.
+// Stays: each turn writes the same lent lists; `for_each` with a closure that holds them is no plainer.
 fn match_in_order(
     graph: &Graph,
     limit: f64,
@@ -194,6 +202,7 @@ pub fn match_all(graph: &Graph, limit: f64, draws: &mut Draws, mates: &mut [u16]
     let order = &mut numbers[..n];
     count_up(order);
     shuffle(order, draws);
+    // Stays: the number fits by what is known here; `try_from` would add a failure that never comes.
     cells::fill(mates, n as u16);
     match_in_order(graph, limit, draws, order, mates, &mut touched);
 }

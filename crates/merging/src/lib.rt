@@ -19,8 +19,8 @@ use tables::partner::Choice;
 use tables::scoring::Scoring;
 use tables::slotted::Tables;
 
-/// What is answered, as a number, where a pair is too wide.
-pub const REFUSED: usize = 65536;
+/// The most tables at the start: the nodes that they make take the slots behind theirs, of 256 in all.
+const MAX_TABLES: usize = 128;
 
 /// Takes the slots `x` and `y` out of a list.
 pub fn remove(live: &mut ArrayVec<u8, 256>, x: u8, y: u8)
@@ -31,11 +31,14 @@ pub fn remove(live: &mut ArrayVec<u8, 256>, x: u8, y: u8)
 }
 
 /// Puts the numbers of two tables down as the children of the node at place `count`.
+// Stays: `count` is the number of the node, and not how long the list is.
 pub fn put_node(kids: &mut [u16], count: usize, l: u16, r: u16)
     requires { count < 1048576 }
     ensures { kids.new ≡ with_node kids.old count l r }
 {
+    // Stays: the two children of a node stand side by side in the flat list of the stored tree and the C interface.
     cells::put(kids, count * 2, l);
+    // Stays: the second child stands behind the first in the flat list of the stored tree and the C interface.
     cells::put(kids, count * 2 + 1, r);
 }
 
@@ -90,6 +93,7 @@ fn scan(tables: &mut Tables, scoring: &Scoring) -> Result<Option<Choice>, Refusa
 
 /// Merges the least pair of the live tables and its like until none share an index, and returns how many merges there were; refused where a
 /// pair is too wide. The array so far has `count` nodes over `n` leaves. Each merge makes one more, whose children are put into `kids`.
+// Stays: the turns write the tables and may be refused, which a closure of `position` would hold and hide.
 pub fn connect(
     tables: &mut Tables,
     scoring: &Scoring,
@@ -97,16 +101,26 @@ pub fn connect(
     count: usize,
     kids: &mut [u16],
 ) -> Result<usize, Refusal>
-    requires { (n < 16384) × (count < 16384) × (length tables.old.live.items ≤ 128) }
+    requires { (n < 16384) × (count < 16384) × (scoring.now.start ≤ 256) }
     ensures same { IsSameLoan tables.old tables.new }
     ensures bound { IfOk result (λ t. t ≤ scoring.now.start) }
     ensures connected { (G : Given) (S : Ghost) → Start G S (lists_in tables.old) 4 n scoring.now.start count scoring.now.weights.now (kids_behind S kids.old) → Connected G S (kids_behind S kids.old) tables.new.nodes tables.new.sizes tables.new.live.items (kids_behind S kids.new) result }
 {
+    // More tables than greedy ever starts with: their nodes have no slots, and nothing is merged.
+    if MAX_TABLES < scoring.start {
+        return Ok(0);
+    }
+    if MAX_TABLES < tables.live.len() {
+        return Ok(0);
+    }
+    // Stays: a number of turns, over no list: each turn scans the tables that the last one left.
     for t in 0..scoring.start {
         let Some(choice) = scan(tables, scoring)? else {
             return Ok(t);
         };
+        // Stays: the number fits by what is known here; `try_from` would add a failure that never comes.
         let slot = (scoring.start + t) as u8;
+        // Stays: the number fits by what is known here; `try_from` would add a failure that never comes.
         let node = (n + (count + t)) as u16;
         let children = merge(tables, scoring.start, choice, slot, node);
         put_node(kids, t, children.left, children.right);

@@ -9,16 +9,19 @@ ghost use Rattle.mesh.specs.Mesh.{Built};
 use partition::Place;
 
 /// Empties `n` slots from slot `base` on.
+// Stays: the loop lends the same words to each turn; `for_each` with a closure over them is no plainer.
 pub fn empty_all(words: &mut [u64], w: usize, base: usize, n: usize)
     requires { (w ≤ 16) × (base < 32768) × (n ≤ 256) }
     ensures { words.new ≡ emptied w base words.old n }
 {
+    // Stays: slots of lent words are emptied, and there is no list.
     for v in 0..n {
         slots::empty(words, w, base + v);
     }
 }
 
 /// Puts index `x` into slot `base` + v for each number v of a list.
+// Stays: the loop lends the same words to each turn; `for_each` with a closure over them is no plainer.
 pub fn put_into(words: &mut [u64], w: usize, base: usize, list: &[u16], x: usize)
     requires { (w ≤ 16) × (base < 32768) }
     ensures { words.new ≡ entered w base list.now 0 x words.old (length list.now) }
@@ -44,6 +47,7 @@ fn cross(graph: &mut [u64], nets: usize, vertices: usize, m: usize, n: usize)
     ensures { graph.new ≡ crossed nets vertices n graph.old m }
 {
     empty_all(graph, 4, vertices, n);
+    // Stays: the nets are slots of lent words, and no list.
     for e in 0..m {
         cross_net(graph, nets, vertices, e);
     }
@@ -75,6 +79,7 @@ fn compact(graph: &mut [u64], nets: usize, m: usize, weights: &[u8], kept: &mut 
     ensures { (kept_of graph.new kept.new result ≡ compacted nets weights.now (kept_of graph.old kept.old 0) m) × (result ≤ m) }
 {
     let mut k: usize = 0;
+    // Stays: the nets are slots of lent words, and no list.
     for e in 0..m {
         k = keep_net(graph, nets, weights, kept, e, k);
     }

@@ -10,6 +10,7 @@ use partition::Layout;
 
 /// A partition that is worked on: the words that hold its hypergraph and the sides, the side of each vertex, 0 or 1, and what each side weighs.
 #[derive(Drop)]
+// Stays: words are read by slot and sides by vertex, so the two lists are no rows.
 pub struct Bipartition<'a> {
     pub words: &'a mut [u64],
     pub part: &'a mut [u8],
@@ -32,6 +33,7 @@ impl<'a> Bipartition<'a> {
         let b = cells::get_or(&self.loads, t, 0.0);
         cells::put(&mut self.loads, s, a - x);
         cells::put(&mut self.loads, t, b + x);
+        // Stays: the number fits by what is known here; `try_from` would add a failure that never comes.
         cells::put(part, v, t as u8);
         let words = &mut *self.words;
         slots::insert(words, 2, sides + t, v);
@@ -54,7 +56,7 @@ impl<'a> Bipartition<'a> {
         ensures rolled { Rolled self.old.words.now self.new.words.now layout.now.sides layout.now.vertex_weights.now pass.now.moves pass.now.count (pass.now.count - pass.now.peak) (sides_at self.old) (sides_at self.new) }
     {
         let last = pass.count.saturating_sub(pass.peak);
-        // By number: how many moves are taken back is not known to be at most the length of the list, so they are no slice.
+        // Stays: how many moves are taken back is not known to be at most the length of the list, so they are no slice.
         for i in 0..last {
             let v = usize::from(cells::get_or(&pass.moves, pass.count - 1 - i, 0));
             self.move_vertex(layout, v);

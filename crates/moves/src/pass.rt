@@ -4,6 +4,7 @@ ghost use Rattle.moves.specs.Sums.{Counted};
 /// A pass: the vertices that were moved and how many they are, the sum of their gains, the largest sum, after how many moves it was reached, and whether the pass is
 /// over.
 #[derive(Drop)]
+// Stays: the sums are read after the pass is over too, so they are no `Option` in the place of the flag.
 pub struct Pass {
     pub moves: [u16; 128],
     pub count: usize,
@@ -21,6 +22,7 @@ impl Pass {
         ensures count { self.new.count ≡ self.old.count + 1 }
         ensures sums { Counted self.old.count self.old.sum self.old.best self.old.peak key self.new.sum self.new.best self.new.peak }
     {
+        // Stays: the number fits by what is known here; `try_from` would add a failure that never comes.
         cells::put(&mut self.moves, self.count, v as u16);
         self.count += 1;
         self.sum += draws::round_to(key, 1e-6);

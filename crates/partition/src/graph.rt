@@ -5,6 +5,7 @@ use bits::Digits;
 
 /// A hypergraph and a partition of its vertices, in slots of lent words, with the weight of each net.
 #[derive(Clone, Copy)]
+// Stays: words are read by slot and weights by net, so the two lists are no rows.
 pub struct Hypergraph<'a> {
     pub words: &'a [u64],
     pub weights: &'a [u8],
@@ -48,9 +49,10 @@ impl<'a> Hypergraph<'a> {
         requires { (here < 65536) × (there < 65536) × (s < 65536) }
         ensures { result ≡ gain_sum self.now.words.now self.now.place.nets here there self.now.weights.now (rising_of self.now.words.now 4 s) }
     {
+        // Stays: a slot is a place in lent words of the workspace that the C interface states.
         let p = s * 4;
         let mut g = 0.0;
-        // By number: a slot may reach past the end of the words, where a read gives 0, so it is no slice.
+        // Stays: a slot may reach past the end of the words, where a read gives 0, so it is no slice.
         for k in 0..4 {
             let x = cells::get_or(self.words, p + k, 0);
             g = self.gain_word(here, there, k * 64, x, g);

@@ -3,6 +3,7 @@ use crate::place::Place;
 /// A hypergraph whose slots lie in words that are lent beside it: where they begin, the weight of each net, and of each vertex. A partition of the vertices lies in
 /// the slots `sides` and `sides + 1`.
 #[derive(Clone, Copy)]
+// Stays: one list is by net and the other by vertex, so the two are no rows.
 pub struct Layout<'a> {
     pub nets: usize,
     pub vertices: usize,
@@ -27,6 +28,7 @@ impl<'a> Layout<'a> {
 
     /// Where the hypergraph and the partition lie.
     #[inline]
+    // Stays: no twin: it names the fields of a `Place`.
     pub fn place(&self) -> Place
         ensures { result ≡ place_of self.now }
     {

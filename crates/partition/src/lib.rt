@@ -20,10 +20,12 @@ pub fn common(words: &[u64], w: usize, a: usize, b: usize) -> usize
     requires { (w ≤ 16) × (a < 1048576) × (b < 1048576) }
     ensures { result ≡ length (common_of words.now w a b) }
 {
+    // Stays: a slot is a place in lent words of the workspace that the C interface states.
     let p = a * w;
+    // Stays: a slot is a place in lent words of the workspace that the C interface states.
     let q = b * w;
     let mut n: usize = 0;
-    // By number: a slot may reach past the end of the words, where a read gives 0, so it is no slice.
+    // Stays: a slot may reach past the end of the words, where a read gives 0, so it is no slice.
     for k in 0..w {
         let x = cells::get_or(words, p + k, 0);
         let y = cells::get_or(words, q + k, 0);
@@ -50,7 +52,9 @@ fn few(words: &[u64], a: usize, b: usize) -> usize
     requires { (a < 1048576) × (b < 1048576) }
     ensures { Few result (length (common_of words.now 2 a b)) }
 {
+    // Stays: a slot is a place in lent words of the workspace that the C interface states.
     let p = a * 2;
+    // Stays: a slot is a place in lent words of the workspace that the C interface states.
     let q = b * 2;
     let x = few_ones(cells::get_or(words, p, 0) & cells::get_or(words, q, 0));
     let y = few_ones(cells::get_or(words, p + 1, 0) & cells::get_or(words, q + 1, 0));

@@ -5,6 +5,7 @@ ghost use Rattle.queue.specs.Queues.{first};
 /// What is known of a vertex: the key and the stamp of its last entry, and whether that one still waits. The next entry counts the stamp on, so it is kept when the
 /// entry is taken off.
 #[derive(Clone, Copy)]
+// Stays: the stamp is read when no entry waits too, so key and stamp are no `Option` in the place of the flag.
 pub struct Entry {
     pub key: f64,
     pub stamp: u64,
@@ -20,6 +21,7 @@ impl Entry {
     };
 
     /// Does this entry of vertex `v` come before `other` of vertex `u`: the larger key first, then the later stamp, then the higher vertex.
+    // Stays: keys are f64, which have no `Ord`, and the vertex beside an entry is part of the order.
     pub(crate) fn is_above(&self, v: usize, other: &Entry, u: usize) -> bool
         ensures { result ≡ above (first self.now.key self.now.stamp v) (first other.now.key other.now.stamp u) }
     {

@@ -17,6 +17,7 @@ mod entries;
 pub use entries::Entry;
 
 /// A gain and a little noise.
+// Stays: no conversion: a sum that the definition names.
 pub fn key_of(gain: f64, unit: f64) -> f64
     ensures { result ≡ key_of gain unit }
 {
@@ -61,6 +62,7 @@ fn open_word(words: &[u64], sides: usize, k: usize) -> u64
     requires { (sides < 32768) × (k < 2) }
     ensures { Tests (open_in words.now sides) (k * 64) 64 result }
 {
+    // Stays: a slot is a place in lent words of the workspace that the C interface states.
     let at = sides * 2 + k;
     let x = cells::get_or(words, at, 0) | cells::get_or(words, at + 2, 0);
     x ^ (x & cells::get_or(words, at + 4, 0))
@@ -97,10 +99,11 @@ pub fn enter(graph: &Hypergraph, entries: &mut [Entry], draws: &mut Draws, v: us
 }
 
 /// Enters all vertices with the stamp 0.
+// Stays: each turn writes the same entries and takes draws; `for_each` with a closure that holds both is no plainer.
 pub fn enter_all(graph: &Hypergraph, entries: &mut [Entry], draws: &mut Draws)
     ensures { AllEntered graph.now.words.now graph.now.place graph.now.weights.now graph.now.place.vertex_count (queue_in entries.old draws.old) (queue_in entries.new draws.new) }
 {
-    // By number: the entries may be fewer than the vertices, and a write past their end does nothing.
+    // Stays: the entries may be fewer than the vertices, and a write past their end does nothing.
     for v in 0..graph.place.vertex_count {
         enter(graph, entries, draws, v, 0);
     }

@@ -18,6 +18,7 @@ pub struct Single<'a> {
 
 /// The rating of each vertex, and the vertices that were rated, which stand in the first `count` places of a list.
 #[derive(Drop)]
+// Stays: one list is by vertex and the other lists the vertices that were rated, so the two are no rows.
 pub struct Ratings<'a> {
     pub rating: &'a mut [f64],
     pub touched: &'a mut [u16],
@@ -25,6 +26,7 @@ pub struct Ratings<'a> {
 }
 
 // What a net of weight `w` and `pins` pins is rated: its weight over the number of the other pins.
+// Stays: no conversion: a quotient that the definition names.
 fn rate_of(w: u8, pins: usize) -> f64
     requires { pins ≤ 64 }
     ensures { result ≡ share w pins }
@@ -40,8 +42,8 @@ fn raise(rating: &mut [f64], u: usize, r: f64) -> f64
     ensures former { result ≡ get_or rating.old u zero_float }
     ensures raised { rating.new ≡ set rating.old u (add binary64 result r) }
 {
-    let x = cells::getf(rating, u);
-    cells::putf(rating, u, x + r);
+    let x = cells::get_or(rating, u, 0.0);
+    cells::put(rating, u, x + r);
     x
 }
 
@@ -55,7 +57,8 @@ impl<'a> Ratings<'a> {
     {
         let x = raise(self.rating, u, r);
         if x == 0.0 {
-            cells::put16(self.touched, self.count, u as u16);
+            // Stays: the number fits by what is known here; `try_from` would add a failure that never comes.
+            cells::put(self.touched, self.count, u as u16);
             self.count += 1;
         }
     }
@@ -70,12 +73,13 @@ impl<'a> Ratings<'a> {
         if u == single.vertex {
             return;
         }
-        if cells::at16(single.mates, u) == single.none {
+        if usize::from(cells::get_or(single.mates, u, 0)) == single.none {
             self.rate(r, u);
         }
     }
 
     // The pins of a net rated `r`.
+    // Stays: each turn writes the same ratings; `for_each` with a closure that holds them is no plainer.
     fn rate_pins(&mut self, single: &Single, r: f64, pins: &[u16])
         requires { self.old.count + length pins.now ≤ length self.old.touched.now }
         ensures lent { IsSameLoan self.old self.new }
@@ -97,12 +101,13 @@ impl<'a> Ratings<'a> {
         let mut pins = [0u16; 128];
         let len = slots::members(words, 2, nets + e, &mut pins, 0);
         if len <= 64 {
-            let r = rate_of(cells::get8(weights, e), len);
+            let r = rate_of(cells::get_or(weights, e, 0), len);
             self.rate_pins(single, r, &pins[..len]);
         }
     }
 
     /// Rates the neighbours of a vertex along the nets of a list: each net stands in slot `nets` + e of `words`, its weight in `weights`.
+    // Stays: each turn writes the same ratings; `for_each` with a closure that holds them is no plainer.
     pub fn rate_nets(
         &mut self,
         words: &[u64],

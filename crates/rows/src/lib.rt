@@ -58,17 +58,19 @@ fn renew(tables: &mut Tables, scoring: &Scoring, k: usize)
 }
 
 /// The same for all live tables.
+// Stays: the loop lends the same words to each turn; `for_each` with a closure over them is no plainer.
 pub fn renew_all(tables: &mut Tables, scoring: &Scoring)
     ensures same { IsSameLoan tables.old tables.new }
     ensures lists { lists_in tables.new ≡ all_renewed scoring.now.weights.now scoring.now.start (lists_in tables.old) (length tables.old.live.items) }
 {
-    // By an index, since the rows of the same tables are written.
+    // Stays: the turn writes the rows of the tables whose live list would be borrowed.
     for k in 0..tables.live.len() {
         renew(tables, scoring, k);
     }
 }
 
 /// Of the least pair so far and one more, the one that comes first.
+// Stays: the order is that of scores, which are made from the tables, so the values themselves have none.
 fn sooner(tables: &Tables, scoring: &Scoring, best: Option<Choice>, next: Choice) -> Choice
     ensures { result ≡ sooner_of tables.now.sizes scoring.now.start best next }
 {
@@ -84,6 +86,7 @@ fn sooner(tables: &Tables, scoring: &Scoring, best: Option<Choice>, next: Choice
 }
 
 /// The least pair so far, when that of `y` is looked at too; refused where it is too wide.
+// Stays: no order of two values: it looks at one more row, and may refuse.
 fn better(
     tables: &Tables,
     scoring: &Scoring,

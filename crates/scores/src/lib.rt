@@ -60,6 +60,7 @@ fn too_wide(tables: &Tables, x: u8, y: u8) -> bool
 }
 
 /// Of the least pair of `y` so far and one more, the one that comes first.
+// Stays: the order is that of scores, which are made from the tables, so the values themselves have none.
 fn lesser(
     tables: &Tables,
     scoring: &Scoring,
@@ -103,6 +104,7 @@ fn consider(
     }
     let pair = Partner {
         other: x,
+        // Stays: the number fits by what is known here; `try_from` would add a failure that never comes.
         bits: bits as u8,
     };
     Ok(Some(lesser(tables, scoring, y, best, pair)))

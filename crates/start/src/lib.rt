@@ -17,10 +17,12 @@ fn put_leaf(sets: &mut [u64], s: usize, counts: &[u8], legs: &[u16], v: usize)
 {
     let count = usize::from(cells::get_or(counts, v, 0));
     slots::empty(sets, WIDTH, s);
+    // Stays: 32 places for each leaf is the layout of the list of legs in the C interface.
     slots::put_all(sets, WIDTH, s, legs, v * 32, count);
 }
 
 /// Makes slots 0, 1, .. the sets of the indices of some leaves.
+// Stays: the loop lends the same words to each turn; `for_each` with a closure over them is no plainer.
 fn put_leaves(sets: &mut [u64], counts: &[u8], legs: &[u16], leaves: &[u16])
     requires { length leaves.now < 1048576 }
     ensures { sets.new ≡ with_leaves 4 counts.now legs.now leaves.now sets.old (length leaves.now) }
@@ -48,22 +50,25 @@ fn put_other(sets: &mut [u64], counts: &[u8], legs: &[u16], l: usize)
         return;
     }
     let count = usize::from(cells::get_or(counts, l, 0));
+    // Stays: 32 places for each leaf is the layout of the list of legs in the C interface.
     slots::put_all(sets, WIDTH, OUTSIDE, legs, l * 32, count);
 }
 
 /// Makes slot 256 the set of the outputs and of the indices of the leaves, of `n` in all, that slot 257 has not.
+// Stays: `n` is how many leaves are planned over, and the promise does not ask that the list of counts has as many.
 fn put_outside(sets: &mut [u64], n: usize, counts: &[u8], legs: &[u16], outputs: &[u16])
     requires { (n ≤ 256) × (length outputs.now ≤ 4294967296) }
     ensures { sets.new ≡ outside_to 4 counts.now legs.now sets.old outputs.now n }
 {
     put_list(sets, OUTSIDE, outputs);
-    // Over numbers: the leaves that are not planned stand in no list.
+    // Stays: a walk over numbers, since the leaves that are not planned stand in no list to iterate.
     for l in 0..n {
         put_other(sets, counts, legs, l);
     }
 }
 
 /// Makes the sets of the start: those of some leaves in slots 0, 1, .., and what stays whatever is merged. Leaves are `n` in all.
+// Stays: `n` is how many leaves are planned over, and the promise does not ask that the list of counts has as many.
 pub fn put_sets(
     sets: &mut [u64],
     n: usize,
@@ -81,24 +86,28 @@ pub fn put_sets(
 }
 
 /// Puts the size bits of the first `n` slots down.
+// Stays: the loop lends the same words to each turn; `for_each` with a closure over them is no plainer.
 pub fn weigh_all(sizes: &mut [u16], sets: &[u64], weights: &[u8], n: usize)
     requires { (n < 1048576) × Light weights.now }
     ensures { sizes.new ≡ with_sizes sets.now 4 weights.now sizes.old n }
 {
-    // By an index, which is also the slot that is weighed.
+    // Stays: the promise is total where `sizes` is shorter than `n`, and the number is itself the slot that is weighed.
     for i in 0..n {
         let bits = slots::weigh(sets, WIDTH, i, i, weights, &weights[..0]);
+        // Stays: the number fits by what is known here; `try_from` would add a failure that never comes.
         cells::put(sizes, i, bits as u16);
     }
 }
 
 /// Puts 0, 1, .. at the first `n` places.
+// Stays: `fill_with` would count by hand in its closure, and the promise is for the first `n` places alone.
 pub fn count_up(list: &mut [u16], n: usize)
     requires { n < 65536 }
     ensures { list.new ≡ put_all (λ i. i) list.old n }
 {
-    // By an index, which is also what is written.
+    // Stays: the promise is total where the list is shorter than `n`; a list of the first `n` places would need the test beside it.
     for i in 0..n {
+        // Stays: the number fits by what is known here; `try_from` would add a failure that never comes.
         cells::put(list, i, i as u16);
     }
 }
@@ -109,7 +118,9 @@ pub fn live_slots(count: usize) -> ArrayVec<u8, 256>
     ensures { result.items ≡ range count }
 {
     let mut live = ArrayVec::new();
+    // Stays: the numbers are what is pushed, and no list is read.
     for slot in 0..count {
+        // Stays: the number fits by what is known here; `try_from` would add a failure that never comes.
         live.push(slot as u8);
     }
     live

@@ -16,12 +16,15 @@ pub mod slotted;
 pub const WIDTH: usize = 4;
 
 /// The slot of the indices that stay whatever is merged: the outputs, and what is named by leaves that are not planned.
+// Stays: the number of a slot, and no kind.
 pub const OUTSIDE: usize = 256;
 
 /// The slot of what two live tables or more hold.
+// Stays: the number of a slot, and no kind.
 pub const TWICE: usize = 257;
 
 /// The slot of what three live tables or more hold.
+// Stays: the number of a slot, and no kind.
 pub const THRICE: usize = 258;
 
 /// How many words the sets take: 259 slots, and one to spare.
@@ -54,6 +57,7 @@ pub struct Score {
 impl Score {
     /// Does the pair come before the other.
     #[inline]
+    // Stays: the derived order is used; this one line carries the law that relates it to the keys.
     pub fn is_before(self, other: Score) -> bool
         ensures { (k h : Key) → Scores k self → Scores h other → result ≡ key_before k h }
     {

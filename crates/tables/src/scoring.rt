@@ -1,5 +1,4 @@
 // What the scores of pairs are made of beside the tables.
-ghost use Rattle.std.specs.Prelude.{◌≤◌};
 ghost use Rattle.slots.specs.Weigh.{Light};
 
 /// The weights of the indices, none above 8 bits, and how many slots are the start's: of two of those the lower goes first in a pair, and a new
@@ -9,5 +8,4 @@ pub struct Scoring<'a> {
     pub weights: &'a [u8],
     pub start: usize,
     ghost light: { Light weights.now },
-    ghost few: { start ≤ 128 },
 }

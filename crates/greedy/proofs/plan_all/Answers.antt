@@ -5,6 +5,7 @@ use Rattle.spec.specs.Lists.{range}
 use Rattle.spec.specs.Network.{leaf_count}
 use Rattle.network.specs.Views.{net_in, in_facts, in_leaves}
 use Rattle.greedynodes.specs.Counted.{counted_range}
+use Rattle.greedynodes.specs.Networks.{accepted_asks}
 use Rattle.greedy.specs.Whole.{Grown, asks_all, grown_left, grown_whole}
 use mathlib.Core.List.{[]}
 use Prim.Native.Nat.{ℕ, ◌≤◌}
@@ -27,7 +28,7 @@ returns-in_err-plan_leaves c =
     let u : c.plan_leaves.new.kids ≡ t = subst (λ (q : Result ℕ Refusal). OnErr q (c.plan_leaves.new.kids ≡ t)) z c.plan_leaves.ensures.untouched in
     subst (Grown (net_in A) t c.plan_leaves.new.kids) (sym e)
     (grown_left (net_in A) (take n c.count_up.new.list) all t c.plan_leaves.new.kids c.plan_leaves.result
-    (c.plan_leaves.ensures.planned [] (asks_all (net_in A) (take n c.count_up.new.list) all t)) r z u)
+    (c.plan_leaves.ensures.planned (net_in A) [] (accepted_asks A [] 0 (take n c.count_up.new.list) t (asks_all (net_in A) (take n c.count_up.new.list) all t))) r z u)
 
 pub returns : goal.returns
 returns c =
@@ -39,4 +40,4 @@ returns c =
     ap (take n) c.count_up.ensures ∙ counted_range (replicate 128 0) n (omega (arith, low, length-replicate {A = ℕ} 128 0)) ∙ ap range c.leaf_count-n.ensures in
     let z : c.plan_leaves.result ≡ Ok c.in_ok-plan_leaves.field-0 = search rules in
     grown_whole (net_in A) (take n c.count_up.new.list) all t c.plan_leaves.new.kids c.plan_leaves.result
-    (c.plan_leaves.ensures.planned [] (asks_all (net_in A) (take n c.count_up.new.list) all t)) c.in_ok-plan_leaves.field-0 z
+    (c.plan_leaves.ensures.planned (net_in A) [] (accepted_asks A [] 0 (take n c.count_up.new.list) t (asks_all (net_in A) (take n c.count_up.new.list) all t))) c.in_ok-plan_leaves.field-0 z

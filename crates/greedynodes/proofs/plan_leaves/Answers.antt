@@ -1,17 +1,28 @@
-use Rattle.greedynodes.specs.Networks.{accepted_light, accepted_room, accepted_asks}
-use Rattle.network.specs.Views.{net_in}
+use Rattle.std.proofs.Common.{rules, Err, Ok}
+use Rattle.greedynodes.specs.Ends.{Planned}
+use Rattle.greedynodes.specs.Copied.{asks_behind, copied_wide, copied_plan}
+use native.Mathlib.Omega.{arith}
+use Prim.Native.Nat.{◌*◌}
+use mathlib.Core.Path.{◌≡◌, refl, sym, subst}
+use lib.ListN.{length}
 use Rattle.greedynodes.proofs.plan_leaves.Goals as goal
 
-pub plan_lists-requires : goal.plan_lists-requires
-plan_lists-requires c =
+pub returns-in_err-top-clause-planned : goal.returns-in_err-top-clause-planned
+returns-in_err-top-clause-planned c =
     let d = c.args in
-    let A = d.network.now in (
-      accepted_room A d.count d.leaves.now d.words.now c.requires.1 c.requires.0 c.requires.2,
-      accepted_light A,
-    )
+    let A = d.network.now in
+    let z : c.grow.result ≡ Err c.in_err-top.field-0.0 = search rules in
+    let e : c.from_residual.result ≡ Err c.in_err-top.field-0.0 = search rules in
+    λ N a asks. subst (Planned N a d.leaves.now d.kids.now d.kids.now) (sym e)
+    (copied_wide N a (length A.leg_counts.now) d.count A.weights.now A.leg_counts.now A.legs.now A.outputs.now d.leaves.now d.kids.now _ asks _ c.grow.result c.in_err-top.field-0.0 z
+    (c.grow.ensures N a (asks_behind N a (length A.leg_counts.now) d.count A.weights.now A.leg_counts.now A.legs.now A.outputs.now d.leaves.now d.kids.now _ asks)))
 
 pub returns-clause-planned : goal.returns-clause-planned
 returns-clause-planned c =
     let d = c.args in
     let A = d.network.now in
-    λ a asks. c.plan_lists.ensures.planned (net_in A) a (accepted_asks A a d.count d.leaves.now d.kids.now asks)
+    let z : c.grow.result ≡ Ok c.in_ok-top.top = search rules in
+    λ N a asks.
+    copied_plan N a (length A.leg_counts.now) d.count A.weights.now A.leg_counts.now A.legs.now A.outputs.now d.leaves.now d.kids.now _ asks c.grow.new.made c.grow.result c.in_ok-top.top z
+    (d.count * 2) (c.saturating_sub.result * 2) refl (omega (arith, c.saturating_sub.ensures)) refl (omega (arith, c.saturating_sub.ensures, c.requires.1)) _ c.copy_out.ensures
+    (c.grow.ensures N a (asks_behind N a (length A.leg_counts.now) d.count A.weights.now A.leg_counts.now A.legs.now A.outputs.now d.leaves.now d.kids.now _ asks))

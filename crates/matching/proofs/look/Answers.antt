@@ -7,16 +7,16 @@ use Rattle.spec.specs.Floats.{micro, whole_float}
 use lib.Ieee.{of_bits, of_int, round}
 use Rattle.matching.proofs.look.Goals as goal
 
-pub returns-then-getf-limit : goal.returns-then-getf-limit
+pub returns-then-get_or-limit : goal.returns-then-get_or-limit
 unfolding of_bits of_int round
-returns-then-getf-limit c =
+returns-then-get_or-limit c =
     let a = c.args in let b = a.best in
-    subst (λ (k : ℕ). choice_of (mul binary64 c.getf.result (add binary64 (whole_float 1) (mul binary64 micro c.unit-noise.result))) (Some k) c.putf.new.floats c.unit-noise.new.self ≡ looked a.vw.now a.limit a.v k (choice_of b.rating b.mate a.rating.now a.draws.now)) c.from-place.ensures
-    (looked_better a.vw.now a.limit a.draws.now _ a.rating.now _ a.v c.from-place.result c.unit-noise.result c.getf.result b.rating b.mate c.unit-noise.ensures.value c.unit-noise.ensures.words c.getf.ensures c.putf.ensures _ c.getf-then-best-x.result c.getf-then-best-x-2.result refl c.getf-then-best-x.ensures c.getf-then-best-x-2.ensures c.if-best-x.true c.if-getf-limit.true)
+    subst (λ (k : ℕ). choice_of (mul binary64 c.get_or.result (add binary64 (whole_float 1) (mul binary64 micro c.unit-noise.result))) (Some k) c.put.new.list c.unit-noise.new.self ≡ looked a.vw.now a.limit a.v k (choice_of b.rating b.mate a.rating.now a.draws.now)) c.from-place.ensures
+    (looked_better a.vw.now a.limit a.draws.now _ a.rating.now _ a.v c.from-place.result c.unit-noise.result c.get_or.result b.rating b.mate c.unit-noise.ensures.value c.unit-noise.ensures.words c.get_or.ensures c.put.ensures _ c.get_or-then-best-x.result c.get_or-then-best-x-2.result refl c.get_or-then-best-x.ensures c.get_or-then-best-x-2.ensures c.if-best-x.true c.if-get_or-limit.true)
 
 pub returns-else-best-x : goal.returns-else-best-x
 unfolding of_bits of_int round
 returns-else-best-x c =
     let a = c.args in let b = a.best in
-    subst (λ (k : ℕ). choice_of b.rating b.mate c.putf.new.floats c.unit-noise.new.self ≡ looked a.vw.now a.limit a.v k (choice_of b.rating b.mate a.rating.now a.draws.now)) c.from-place.ensures
-    (looked_light a.vw.now a.limit a.draws.now _ a.rating.now _ a.v c.from-place.result c.unit-noise.result c.getf.result b.rating b.mate c.unit-noise.ensures.value c.unit-noise.ensures.words c.getf.ensures c.putf.ensures _ refl c.if-best-x.false)
+    subst (λ (k : ℕ). choice_of b.rating b.mate c.put.new.list c.unit-noise.new.self ≡ looked a.vw.now a.limit a.v k (choice_of b.rating b.mate a.rating.now a.draws.now)) c.from-place.ensures
+    (looked_light a.vw.now a.limit a.draws.now _ a.rating.now _ a.v c.from-place.result c.unit-noise.result c.get_or.result b.rating b.mate c.unit-noise.ensures.value c.unit-noise.ensures.words c.get_or.ensures c.put.ensures _ refl c.if-best-x.false)

@@ -39,6 +39,12 @@ returns-in_default-clause-connected c =
     λ G S start. scan_ends G S d.n s.start d.count s.weights.now (kids_behind S d.kids.now) (lists_in d.tables.now) start l.t (lists_in l.tables) (kids_behind S l.kids) (l.invariant.3 G S start) less
     (lists_in c.scan.new.tables) c.scan.result c.scan.ensures.lists c.scan.ensures.least z
 
+pub returns-then-scoring-gt-MAX_TABLES-clause-connected : goal.returns-then-scoring-gt-MAX_TABLES-clause-connected
+returns-then-scoring-gt-MAX_TABLES-clause-connected c = λ G S start. absurd (omega (arith, start.slots, start.next, start.holds.few, c.if-scoring-gt-MAX_TABLES.true))
+
+pub returns-then-len-gt-MAX_TABLES-clause-connected : goal.returns-then-len-gt-MAX_TABLES-clause-connected
+returns-then-len-gt-MAX_TABLES-clause-connected c = λ G S start. absurd (omega (arith, start.slots, start.next, ap length start.holds.lived, start.holds.few, c.if-len-gt-MAX_TABLES.true))
+
 pub loop-t-init : goal.loop-t-init
 loop-t-init c =
     let d = c.args in
