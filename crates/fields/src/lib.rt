@@ -40,6 +40,7 @@ fn bare<'a>(due: Due) -> Scan<'a>
     }
 }
 
+// Stays: payload and rest are two parts of one list, of different lengths.
 // A field: its tag, its payload, and the bytes after it.
 #[derive(Clone, Copy)]
 struct Field<'a> {
@@ -88,6 +89,7 @@ fn take_leaf<'a>(payload: &[u8], network: &mut Network) -> Result<Scan<'a>, Refu
 {
     let leaf = network.leaf_count;
     payloads::check_leaf(payload, network.index_count, leaf)?;
+    // Stays: the check above has found at most 32, so that a conversion's refusal could not come.
     network.leg_counts[leaf] = payload.len() as u8;
     payloads::place(&mut network.legs, leaf * Network::MAX_LEGS, payload);
     network.leaf_count = leaf + 1;
@@ -192,6 +194,7 @@ pub fn read_fields<'a>(file: &'a [u8], network: &mut Network) -> Result<Contents
     network.output_count = 0;
     let mut scan = bare(Due::Weights);
     let mut rest = file;
+    // Stays: where the next field begins is known from the one before only, which may be refused.
     while !rest.is_empty() {
         let field = split_field(scan.due, rest)?;
         scan = take_field(&scan, &field, network)?;

@@ -6,6 +6,7 @@ use network::Network;
 use spec::Refusal;
 use std::io::{self, Read, Write};
 
+// Stays: a line of the output has a number here in both cases, as the stored answers have.
 // The number of what a check or an addition answers: 0 where nothing is refused.
 fn number(answer: Result<(), Refusal>) -> u8 {
     match answer {
@@ -14,6 +15,7 @@ fn number(answer: Result<(), Refusal>) -> u8 {
     }
 }
 
+// Stays: the remainder is below the cast's limit.
 // So many indices, to the front of a list.
 fn read_leaf<R: Read>(input: &mut R, leaf: &mut [u16]) -> io::Result<()> {
     for index in leaf {
@@ -34,6 +36,7 @@ fn add_leaf<R: Read>(
     Ok(network.add_leaf(&leaf[..n]))
 }
 
+// Stays: the kinds are numbers of the stored input; an enum of them would be matched to the same arms again. Each value is below its cast's limit.
 // What a turn does to the record that no check is asked for: one of the three counts is put, or a place of one of the four lists.
 fn put(network: &mut Network, kind: usize, value: usize) {
     let place = value / 65536;
@@ -48,6 +51,7 @@ fn put(network: &mut Network, kind: usize, value: usize) {
     }
 }
 
+// Stays: the kinds are numbers of the stored input, and only three of the ten are additions. Each value is below its cast's limit.
 // One turn: an addition, whose answer is told, or something that is put.
 fn take_turn<R: Read, W: Write>(
     input: &mut R,
@@ -82,8 +86,5 @@ fn next_case<R: Read, W: Write>(input: &mut R, out: &mut W) -> io::Result<()> {
 
 /// All cases.
 pub fn run<R: Read, W: Write>(input: &mut R, out: &mut W) -> io::Result<()> {
-    for _ in 0..stored::next_number(input)? {
-        next_case(input, out)?;
-    }
-    Ok(())
+    stored::each_case(input, out, next_case)
 }

@@ -6,6 +6,7 @@ use network::Network;
 use spec::Refusal;
 use std::io::{self, Write};
 
+// Stays: what a place must hold depends on where it lies; `all` with the same test inside is no plainer.
 // Whether the bytes from the cursor to `end` are the file's, and all others the marks of their places.
 fn holds(buffer: &[u8], cursor: usize, end: usize, file: &[u8]) -> bool {
     for (i, byte) in buffer.iter().enumerate() {

@@ -4,16 +4,19 @@ ghost use Rattle.std.specs.Prelude.{◌<◌};
 use network::Network;
 use stored::sums::{with, with_all};
 
+// Stays: other numbers, so that a node's mark is no byte's; the remainder keeps it below the cast's limit.
 /// The mark of place i of a list of nodes: 50000 + i mod 1000.
 pub fn wide_mark(i: usize) -> u16 {
     (50000 + i % 1000) as u16
 }
 
+// Stays: other numbers, so that a byte's mark is above each flag; the remainder keeps it below the cast's limit.
 /// The mark of place i of a list of bytes: 100 + i mod 100.
 pub fn mark(i: usize) -> u8 {
     (100 + i % 100) as u8
 }
 
+// Stays: std's fill_with hands its closure no place.
 /// Puts the mark of its place at every place of a list.
 pub fn fill<T: Drop, F: Fn(usize) -> T>(list: &mut [T], mark: F)
     requires { F.IsAlwaysCallable mark }
@@ -23,6 +26,7 @@ pub fn fill<T: Drop, F: Fn(usize) -> T>(list: &mut [T], mark: F)
     }
 }
 
+// Stays: a count may go past its leaf, and past the list, where the sum takes zeros.
 // The sum with the count and the indices of leaf i, where a count may be any byte; past the end of the list an index is 0.
 fn with_leaf(sum: u64, count: u8, legs: &[u16], i: usize) -> u64
     requires { i < 128 }
@@ -34,6 +38,7 @@ fn with_leaf(sum: u64, count: u8, legs: &[u16], i: usize) -> u64
     s
 }
 
+// Stays: a leaf's count and its indices lie in two lists of the record; std has no From of usize for u64.
 /// The sum with a record: its counts, and its lists as far as they are counted.
 pub fn record(sum: u64, network: &Network) -> u64 {
     let leaves = network.leaf_count;

@@ -1,21 +1,11 @@
 -- The reader's answers: for each case its number and values, and what the two lists have afterwards. Definitions only. Assumes nothing.
 use Rattle.std.specs.Prelude.{List, [], ℕ, length, Option, None, Some, Result, Err, Ok}
 use Rattle.spec.specs.declared.Refusal.{Refusal}
-use Rattle.spec.specs.Refusal.{number_of}
 use Rattle.spec.specs.Network.{Network}
 use Rattle.spec.specs.File.{Ask, plain, flagged, target, Contents, tree_written, flags_written}
-use Rattle.netfile.specs.declared.Tree.{Tree}
-use Rattle.netfile.specs.declared.Tree.TheVariants.{Absent, Present}
 use Rattle.netfile.specs.declared.Ask.{Ask as Asked}
 use Rattle.netfile.specs.declared.Ask.TheVariants.{Plain, Flagged, Target}
 use Rattle.netfile.specs.declared.Given.{Given}
-use Rattle.netfile.specs.declared.Found.{Found}
-use Rattle.netfile.specs.declared.Answer.{Answer}
-use Rattle.netfile.specs.declared.Answer.TheVariants.{Refused, Done}
-
-abbrev pub tree_answer : Option (List ℕ) → Tree
-tree_answer None = Absent
-tree_answer (Some kids) = Present (length kids)
 
 -- how many places the tree's children fill
 abbrev pub places_in : Option (List ℕ) → Option ℕ
@@ -27,20 +17,11 @@ ask_answer plain = Plain
 ask_answer (flagged l) = Flagged (length l)
 ask_answer (target w) = Target w
 
--- how many places of the tree's list, and of the flags', the file fills with its own
-abbrev pub places_of : Tree → ℕ
-places_of Absent = 0
-places_of (Present n) = n
-
+-- how many places of the flags' list the file fills with its own
 abbrev pub flag_count : Asked → ℕ
 flag_count Plain = 0
 flag_count (Flagged n) = n
 flag_count (Target w) = 0
-
--- "A refusal returns only its number."
-abbrev pub answer_of : Result Contents Refusal → Answer
-answer_of (Err r) = Refused (number_of r)
-answer_of (Ok c) = Done (record { tree = tree_answer c.tree; ask = ask_answer c.ask })
 
 abbrev pub given_in : Option (List ℕ) → Ask → Given
 given_in tree ask = record { tree = places_in tree; ask = ask_answer ask }
@@ -49,14 +30,6 @@ given_in tree ask = record { tree = places_in tree; ask = ask_answer ask }
 abbrev pub given_of : Result Contents Refusal → Result Given Refusal
 given_of (Err r) = Err r
 given_of (Ok c) = Ok (given_in c.tree c.ask)
-
--- the same as it is answered to the crates above
-abbrev pub tree_found : Option ℕ → Tree
-tree_found None = Absent
-tree_found (Some n) = Present n
-
-abbrev pub found_in : Given → Found
-found_in g = record { tree = tree_found g.tree; ask = g.ask }
 
 abbrev pub empty_network : Network
 empty_network = record { leaves = []; outputs = []; weights = [] }

@@ -1,12 +1,12 @@
 -- What the reader answers, from what has been read. Assumes nothing.
-use Rattle.std.specs.Prelude.{Bool, true, false, ◌||◌, cond, List, [], ◌∷◌, ◌++◌, ◌≡◌, ℕ, ltb, Option, None, Some, Result, Err, Ok}
+use Rattle.std.specs.Prelude.{Bool, true, false, ◌||◌, cond, List, [], ◌∷◌, ◌++◌, ◌≡◌, ℕ, ltb, None, Some, Result, Err, Ok}
 use Rattle.std.proofs.Math.Bool.{or_assoc}
 use Rattle.std.proofs.Math.Path.{refl}
 use Rattle.std.proofs.Common.{sym, ap, ap₂, ◌∙◌, arith}
 use Rattle.spec.specs.declared.Refusal.{Refusal}
 use Rattle.spec.specs.declared.Refusal.TheVariants.{ShortBuffer}
 use Rattle.spec.specs.Lists.{anyb}
-use Rattle.spec.specs.Refusal.{number_of, first, and_then, checked}
+use Rattle.spec.specs.Refusal.{first, and_then, checked}
 use Rattle.spec.specs.Network.{index_count}
 use Rattle.spec.specs.Calls.{Lent, length_check}
 use Rattle.spec.specs.File.{Contents, tree_lent, flags_lent, nothing_read, read_of}
@@ -14,10 +14,8 @@ use Rattle.laws.specs.Booleans.{by_cases, or_introl, or_intror}
 use Rattle.payloads.specs.Payload.{verdict}
 use Rattle.fields.specs.Steps.{read_all}
 use Rattle.fields.specs.Fields.{decided, refused}
-use Rattle.netfile.specs.Answers.{answer_of, given_of, given_in, places_in, tree_answer, ask_answer, tree_found, found_in, network_in, tree_after, flags_after, empty_network}
+use Rattle.netfile.specs.Answers.{given_of, given_in, network_in, tree_after, flags_after}
 use Rattle.netfile.specs.Writes.{lacking, kids_over, flags_over, tree_written_lem, flags_written_lem}
-use Rattle.netfile.specs.declared.Given.{Given}
-use Rattle.netfile.specs.declared.Answer.TheVariants.{Refused, Done}
 
 clash {ℓ} : {A : Type 0} {P : Type ℓ} (k : Refusal) (x : A) → ◌≡◌ {A = Result A Refusal} (Err k) (Ok x) → P
 clash k x e = absurd (let w : ◌≡◌ {A = ℕ} 0 1 = cc in omega arith)
@@ -93,19 +91,3 @@ module _ (R : Result Contents Refusal) (c : Contents) (e : R ≡ Ok c) where
 
   pub flags_done : (m : ℕ) (l l' : List ℕ) → index_count c.network ≡ m → l' ≡ flags_over m c.ask l → l' ≡ flags_after R l
   flags_done m l l' h q = rw e (q ∙ sym (flags_written_lem c.network c.tree c.ask l ∙ ap (λ n. flags_over n c.ask l) h))
-
--- ---- as it is answered to the crates above ----
-
-same_tree : (t : Option (List ℕ)) → tree_found (places_in t) ≡ tree_answer t
-same_tree None = refl
-same_tree (Some kids) = refl
-
-pub found_answer : (R : Result Contents Refusal) (g : Given) → Ok g ≡ given_of R → Done (found_in g) ≡ answer_of R
-found_answer (Err k) g e = clash k g (sym e)
-found_answer (Ok c) g e =
-    let w : g ≡ given_in c.tree c.ask = cc in
-    ap (λ (h : Given). Done (found_in h)) w ∙ ap (λ t. Done (record { tree = t; ask = ask_answer c.ask })) (same_tree c.tree)
-
-pub refused_answer : (R : Result Contents Refusal) (k : Refusal) → Err k ≡ given_of R → (Refused (number_of k) ≡ answer_of R) × (empty_network ≡ network_in R)
-refused_answer (Err j) k e = let w : k ≡ j = cc in (ap (λ r. Refused (number_of r)) w, refl)
-refused_answer (Ok c) k e = clash k _ e

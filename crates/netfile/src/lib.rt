@@ -5,7 +5,7 @@ ghost use Rattle.spec.specs.File.{read_of, write_of, buffer_after};
 ghost use Rattle.network.specs.Record.{net_of};
 ghost use Rattle.fields.specs.Scans.{ask_of};
 ghost use Rattle.netwrite.specs.Contents.{kids_of};
-ghost use Rattle.netfile.specs.Answers.{places_of, flag_count, found_in, answer_of, given_of, network_in, tree_after, flags_after};
+ghost use Rattle.netfile.specs.Answers.{flag_count, given_of, network_in, tree_after, flags_after};
 
 mod reader; // reader.rt: the reader's inner functions
 
@@ -67,45 +67,7 @@ pub fn write_network(
     netwrite::write(&parts, out, cursor)
 }
 
-// The reader as the crates above still call it.
-
-// The file's tree: how many places of the list it fills.
-#[derive(Clone, Copy)]
-pub enum Tree {
-    Absent,
-    Present(usize),
-}
-
-#[derive(Clone, Copy)]
-pub struct Found {
-    pub tree: Tree,
-    pub ask: Ask,
-}
-
-#[derive(Clone, Copy)]
-pub enum Answer {
-    Refused(u8),
-    Done(Found),
-}
-
-// After a refusal the network is the empty one.
-#[derive(Clone, Copy)]
-pub struct Reading {
-    pub answer: Answer,
-    pub network: Network,
-}
-
-// How many places of the list the tree fills.
-pub fn tree_places(tree: Tree) -> usize
-    ensures { result ≡ places_of tree }
-{
-    match tree {
-        Tree::Absent => 0,
-        Tree::Present(places) => places,
-    }
-}
-
-// How many flags there are.
+/// How many flags there are.
 pub fn flag_count(ask: Ask) -> usize
     ensures { result ≡ flag_count ask }
 {
@@ -113,38 +75,5 @@ pub fn flag_count(ask: Ask) -> usize
         Ask::Plain => 0,
         Ask::Flagged(count) => count,
         Ask::Target(_) => 0,
-    }
-}
-
-// What was found, as it was answered before.
-fn as_found(given: Given) -> Found
-    ensures { result ≡ found_in given }
-{
-    Found {
-        tree: match given.tree {
-            None => Tree::Absent,
-            Some(places) => Tree::Present(places),
-        },
-        ask: given.ask,
-    }
-}
-
-// Reads a network file. A tree's children go to the front of `tree`, flags to the front of `flags`; after a refusal both stay as they are.
-pub fn read(file: &[u8], tree: &mut [u16], flags: &mut [u8]) -> Reading
-    ensures { (result.answer ≡ answer_of (read_of (length tree.old) (length flags.old) file.now))
-        × (net_of result.network ≡ network_in (read_of (length tree.old) (length flags.old) file.now))
-        × (tree.new ≡ tree_after (read_of (length tree.old) (length flags.old) file.now) tree.old)
-        × (flags.new ≡ flags_after (read_of (length tree.old) (length flags.old) file.now) flags.old) }
-{
-    let mut network = Network::empty();
-    match read_network(file, &mut network, tree, flags) {
-        Ok(given) => Reading {
-            answer: Answer::Done(as_found(given)),
-            network,
-        },
-        Err(refusal) => Reading {
-            answer: Answer::Refused(refusal.number()),
-            network: Network::empty(),
-        },
     }
 }

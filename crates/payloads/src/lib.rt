@@ -10,6 +10,7 @@ pub mod tags; // tags.rt: the tags of the fields
 use network::{Network, scan};
 use spec::Refusal;
 
+// Stays: m is how many indices the network has, not how many bytes there are.
 // Indices of a network of m, byte by byte: refused at the first that is not below m, or that stands before. Both loops are left at the first.
 fn check_indices(bytes: &[u8], m: usize) -> Result<(), Refusal>
     ensures { result ≡ verdict (index_bytes m [] bytes.now) }
@@ -43,6 +44,7 @@ pub fn check_weights(bytes: &[u8]) -> Result<(), Refusal>
     Ok(())
 }
 
+// Stays: m and n are the network's counts so far, not the length of the bytes.
 /// A leaf of a network of m indices that has n leaves already.
 pub fn check_leaf(bytes: &[u8], m: usize, n: usize) -> Result<(), Refusal>
     ensures { result ≡ verdict (leaf_refusal m n bytes.now) }
@@ -56,6 +58,7 @@ pub fn check_leaf(bytes: &[u8], m: usize, n: usize) -> Result<(), Refusal>
     check_indices(bytes, m)
 }
 
+// Stays: m is the network's count of indices, whatever the number of outputs.
 /// The outputs of a network of m indices.
 pub fn check_outputs(bytes: &[u8], m: usize) -> Result<(), Refusal>
     ensures { result ≡ verdict (outputs_refusal m bytes.now) }
@@ -66,6 +69,7 @@ pub fn check_outputs(bytes: &[u8], m: usize) -> Result<(), Refusal>
     check_indices(bytes, m)
 }
 
+// Stays: there may be fewer flags than the m indices, and more are refused here.
 /// The flags of m indices: refused if there are more, or a byte is over 1.
 pub fn check_flags(bytes: &[u8], m: usize) -> Result<(), Refusal>
     ensures { result ≡ verdict (flags_refusal m bytes.now) }
@@ -79,6 +83,7 @@ pub fn check_flags(bytes: &[u8], m: usize) -> Result<(), Refusal>
     Ok(())
 }
 
+// Stays: n is the number of leaves; whether the bytes are as many as its tree needs is what is checked.
 /// A tree of n leaves, of which there are at most 128: two bytes a node.
 pub fn check_tree(bytes: &[u8], n: usize) -> Result<(), Refusal>
     requires { n ≤ 128 }
@@ -102,12 +107,13 @@ pub fn check_tree(bytes: &[u8], n: usize) -> Result<(), Refusal>
 pub fn copy_bytes(to: &mut [u16], bytes: &[u8])
     ensures { to.new ≡ over to.old bytes.now }
 {
-    // by number: of a list that is written through a zip only the length is known afterwards
+    // Stays: of a list that is written through a zip only the length is known afterwards
     for k in 0..to.len().min(bytes.len()) {
         to[k] = u16::from(bytes[k]);
     }
 }
 
+// Stays: `cells::place` copies numbers of one width; here bytes become indices, which std's copy does not do.
 /// The same from place `at` on: the copier is lent the rest of the list only.
 pub fn place(list: &mut [u16], at: usize, bytes: &[u8])
     ensures { list.new ≡ placed list.old at bytes.now }

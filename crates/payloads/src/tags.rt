@@ -22,6 +22,7 @@ pub enum Tag {
 }
 
 impl Tag {
+    // Stays: `u8::from(tag)` says no more at its calls than this name, which a refusal's number has too.
     /// The byte that stands in a file: 1 to 6.
     pub fn number(self) -> u8
         ensures { result ≡ tag_number self }
@@ -44,6 +45,7 @@ impl TryFrom<u8> for Tag {
     ghost try_from_gives = { NamesTag };
 
     fn try_from(byte: u8) -> Result<Tag, Refusal> {
+        // Stays: here a byte of a file becomes a tag; all later choices are made on the tag.
         match byte {
             1 => Ok(Tag::Weights),
             2 => Ok(Tag::Leaf),

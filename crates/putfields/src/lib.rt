@@ -11,6 +11,7 @@ ghost use Rattle.putfields.specs.Put.{Put, header};
 use network::Accepted;
 use payloads::tags::Tag;
 
+// Stays: std copies lists of one width only; that each index fits a byte is required, so that the cast loses nothing.
 // Writes indices below 256 to the front of `to`, a byte each.
 fn narrow(to: &mut [u8], list: &[u16])
     requires { (length list.now ≤ length to.old) × Bytes list.now }
@@ -21,6 +22,7 @@ fn narrow(to: &mut [u8], list: &[u16])
     }
 }
 
+// Stays: `to_be_bytes` would need the same cast before it, of n to 16 bits.
 // A field's tag and the length n of its payload, high byte first.
 fn put_header(out: &mut [u8], at: usize, tag: Tag, n: usize) -> usize
     requires { (n < 65536) × (at + 3 ≤ length out.old) }
@@ -31,6 +33,7 @@ fn put_header(out: &mut [u8], at: usize, tag: Tag, n: usize) -> usize
     at + 3
 }
 
+// Stays: with buffer and cursor in one value each contract has to say that it still lends the same buffer, as a text's does; a list's does not.
 /// A field whose payload is bytes. The payload's writer is lent the rest of the buffer.
 pub fn put_bytes(out: &mut [u8], at: usize, tag: Tag, payload: &[u8]) -> usize
     requires { (length payload.now < 65536) × (at + 3 + length payload.now ≤ length out.old) }
@@ -58,8 +61,8 @@ pub fn put_leaves(out: &mut [u8], at: usize, network: &Accepted) -> usize
     requires { at + length (leaf_fields (net_in network.now).leaves) ≤ length out.old }
     ensures { Put out.old out.new at result (leaf_fields (net_in network.now).leaves) }
 {
-    // by number: a leaf is read by its number
     let mut next = at;
+    // Stays: a network hands its leaves out by number; it has no list of them.
     for i in 0..network.leaf_count() {
         next = put_indices(out, next, Tag::Leaf, network.leaf(i));
     }

@@ -11,9 +11,9 @@ use std::io::{self, Read, Write};
 // One case: the listing and the records, or the number of the refusal.
 fn price<W: Write>(out: &mut W, file: &[u8]) -> io::Result<()> {
     let mut listed = [0u8; 1286];
-    match listing::price(file, &mut listed) {
-        0 => words::write(out, &listed)?,
-        refused => write!(out, "refused {refused}")?,
+    match listing::price_file(file, &mut listed) {
+        Ok(()) => words::write(out, &listed)?,
+        Err(refusal) => write!(out, "refused {}", refusal.number())?,
     }
     records::write(out, file)?;
     writeln!(out)
@@ -26,11 +26,9 @@ fn next_case<R: Read, W: Write>(input: &mut R, out: &mut W) -> io::Result<()> {
     price(out, &bytes[..n])
 }
 
-fn main(rt: HostRuntime) -> io::Result<()> {
-    let mut input = rt.reader();
+// An input that ends early goes on with zeros. A read or a write that fails ends the run, and is not told.
+fn main(rt: HostRuntime) {
+    let mut input = stored::with_zeros(rt.reader());
     let mut out = io::writer(&rt);
-    for _ in 0..stored::next_number(&mut input)? {
-        next_case(&mut input, &mut out)?;
-    }
-    Ok(())
+    let _ = stored::each_case(&mut input, &mut out, next_case);
 }

@@ -1,5 +1,5 @@
 // A stored file priced with its steps as records, in words.
-use netfile::{Ask, Given};
+use netfile::Given;
 use network::Network;
 use pricing::list::PriceList;
 use std::io::{self, Write};
@@ -16,6 +16,7 @@ fn sum(records: &[Step]) -> u64 {
     s
 }
 
+// Stays: sizes and works are lists of one length that the price list keeps apart.
 // Prices a tree into records that stand at numbers no step has.
 fn price<W: Write>(out: &mut W, network: &Network, flags: &[u8], tree: &[u16]) -> io::Result<()> {
     let mut ws = [0u64; 4096];
@@ -52,10 +53,7 @@ fn price_given<W: Write>(
     tree: &[u16],
 ) -> io::Result<()> {
     let places = given.tree.unwrap_or(0).min(tree.len());
-    let count = match given.ask {
-        Ask::Plain | Ask::Target(_) => 0,
-        Ask::Flagged(count) => count.min(flags.len()),
-    };
+    let count = netfile::flag_count(given.ask).min(flags.len());
     price(out, network, &flags[..count], &tree[..places])
 }
 

@@ -3,6 +3,7 @@ use byteorder::{BigEndian, ReadBytesExt};
 use std::io::{self, Write};
 use stored::sums::with;
 
+// Stays: the bytes of a listing say by 0 or 1 whether a total and a widest are there; then come five numbers a step.
 /// The listing of a priced tree: how many steps, total, widest, slice bits, and a sum over the numbers of all steps.
 pub fn write<W: Write>(out: &mut W, listing: &[u8]) -> io::Result<()> {
     let mut rest = listing;

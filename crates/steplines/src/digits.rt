@@ -5,6 +5,7 @@ ghost use Rattle.steplines.specs.Puts.{Puts};
 
 use itoa::Buffer;
 
+// Stays: `write!` answers a Result that no line here can fail with; the calls answer nothing, and their contracts name the bytes.
 /// A lent buffer that is written from its front, and how many bytes were put so far. Past the buffer's end nothing is written, and the count
 /// goes on: a buffer that is shorter than the text gets the text's front.
 #[derive(Drop)]
@@ -23,6 +24,7 @@ impl<'a> Text<'a> {
         Text { buffer, len: 0 }
     }
 
+    // Stays: a count that goes on past the buffer's end, which is no list's length.
     /// How many bytes the text has, those past the buffer's end too.
     #[inline]
     pub fn len(&self) -> usize

@@ -8,6 +8,7 @@ ghost use Rattle.steplines.specs.Steps.{step_from, steps_from};
 
 use crate::digits::Text;
 
+// Stays: steps and sets are of two lengths, and no place of one goes with a place of the other.
 /// What pricing handed out of a plan's steps, in lists that are lent: the flat listing, five numbers a step (node, left, right, work bits,
 /// size bits), and the nodes' index sets, `width` words each, of a network of so many indices.
 #[derive(Clone, Copy)]
@@ -20,6 +21,7 @@ pub struct Listed<'a> {
     ghost few: { index_count ≤ 256 },
 }
 
+// Stays: each number is put with a space before it; std has no method that prints a list.
 // Puts the numbers of a list, a space before each.
 fn put_numbers(text: &mut Text, list: &[u16])
     requires { (text.old.len ≤ 1000000) × (length list.now ≤ 64) }
@@ -37,6 +39,7 @@ impl<'a> Listed<'a> {
         requires { (text.old.len ≤ 1048576) × (v < 65536) }
         ensures { Puts text.old (spaced (cond (held self.now.sets.now self.now.width v j) (j ∷ []) [])) text.new }
     {
+        // Stays: std has no From of usize for u64.
         if slots::has(self.sets, self.width, v, j) {
             text.put_number(j as u64);
         }
@@ -48,12 +51,13 @@ impl<'a> Listed<'a> {
         ensures written { Puts text.old (spaced (keep (held self.now.sets.now self.now.width v) (range self.now.index_count))) text.new }
         ensures short { text.new.len ≤ text.old.len + 914 }
     {
-        // by number: an index is what is tested and printed
+        // Stays: an index is what is tested and printed
         for j in 0..self.index_count {
             self.put_member(text, v, j);
         }
     }
 
+    // Stays: past the listing's end the numbers are 0, where std's rows of five end.
     // The five numbers of step k.
     fn row(&self, k: usize) -> [u16; 5]
         requires { k ≤ 127 }
@@ -90,7 +94,7 @@ impl<'a> Listed<'a> {
         ensures written { Puts text.old (lines_of step_line (steps_from self.now.steps.now self.now.sets.now self.now.width self.now.index_count n)) text.new }
         ensures short { text.new.len ≤ text.old.len + n * 949 }
     {
-        // by number: a step is read by its number, and 0 past the listing's end
+        // Stays: a step is read by its number, and 0 past the listing's end
         for k in 0..n {
             self.put_step(text, k);
         }

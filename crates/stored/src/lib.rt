@@ -6,13 +6,34 @@ pub mod sums; // sums.rt: sums over lists
 
 use byteorder::{BigEndian, ReadBytesExt};
 use network::Network;
-use std::io::{self, Read, Write};
+use std::io::{self, Chain, Read, Repeat, Write};
 
+/// An input that goes on with zeros where its bytes end.
+pub fn with_zeros<R: Read>(input: R) -> Chain<R, Repeat> {
+    input.chain(io::repeat(0))
+}
+
+// Stays: std has no From of u32 for usize.
 /// A number of four bytes, high byte first.
 pub fn next_number<R: Read>(input: &mut R) -> io::Result<usize> {
     Ok(input.read_u32::<BigEndian>()? as usize)
 }
 
+/// Reads how many cases there are, and runs each.
+pub fn each_case<R: Read, W: Write, F: Fn(&mut R, &mut W) -> io::Result<()>>(
+    input: &mut R,
+    out: &mut W,
+    run: F,
+) -> io::Result<()>
+    requires { F.IsAlwaysCallable run }
+{
+    for _ in 0..next_number(input)? {
+        run(input, out)?;
+    }
+    Ok(())
+}
+
+// Stays: the count is the input's, and may be more than the list has room for.
 /// Reads so many bytes to the front of a list, or as many as there is room for, and returns how many.
 pub fn take<R: Read>(input: &mut R, bytes: &mut [u8], count: usize) -> io::Result<usize>
     ensures { IfOk result (λ n. n ≤ length bytes.new) }

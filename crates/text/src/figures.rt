@@ -14,6 +14,7 @@ pub fn put_total(text: &mut Text, total: Total)
     ensures written { Puts text.old (total_line total) text.new }
     ensures short { text.new.len ≤ text.old.len + 86 }
 {
+    // Stays: a total beyond the limit is printed as a word of its own; Option would not say what its None is.
     match total {
         Total::Exact(x) => text.put_line(b"total", x),
         Total::Beyond => text.put_bare_line(b"total beyond"),
@@ -38,6 +39,7 @@ fn put_slice(text: &mut Text, flags: &[u8], j: usize)
     ensures written { Puts text.old (lines_of slice_line (cond (flag_at flags.now j) (j ∷ []) [])) text.new }
     ensures short { text.new.len ≤ text.old.len + 10 }
 {
+    // Stays: std has no From of usize for u64.
     if cells::get_or(flags, j, 0) != 0 {
         text.put_line(b"slice", j as u64);
     }
@@ -49,7 +51,7 @@ pub fn put_slices(text: &mut Text, flags: &[u8], m: usize)
     ensures written { Puts text.old (lines_of slice_line (keep (flag_at flags.now) (range m))) text.new }
     ensures short { text.new.len ≤ text.old.len + m * 10 }
 {
-    // by number: an index past the flags' end counts as clear
+    // Stays: m is the network's count of indices, and an index past the flags' end counts as clear
     for j in 0..m {
         put_slice(text, flags, j);
     }

@@ -21,6 +21,7 @@ pub struct Printout<'a> {
     ghost few_leaves: { leaf_count ≤ 128 },
 }
 
+// Stays: std has no From of usize for u64.
 // Puts the first line.
 fn put_head(text: &mut Text, leaves: usize, indices: usize)
     requires { text.old.len ≡ 0 }

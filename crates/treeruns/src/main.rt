@@ -58,11 +58,9 @@ fn next_case<R: Read, W: Write>(input: &mut R, out: &mut W) -> io::Result<()> {
     run(out, &network, &tree[..places], &other[..others])
 }
 
-fn main(rt: HostRuntime) -> io::Result<()> {
-    let mut input = rt.reader();
+// An input that ends early goes on with zeros. A read or a write that fails ends the run, and is not told.
+fn main(rt: HostRuntime) {
+    let mut input = stored::with_zeros(rt.reader());
     let mut out = io::writer(&rt);
-    for _ in 0..stored::next_number(&mut input)? {
-        next_case(&mut input, &mut out)?;
-    }
-    Ok(())
+    let _ = stored::each_case(&mut input, &mut out, next_case);
 }
