@@ -4,13 +4,11 @@ use Rattle.std.proofs.Common.{sym, ap, ap₂, ◌∙◌, subst, arith, take_at, 
 use Rattle.spec.specs.declared.Refusal.{Refusal}
 use Rattle.spec.specs.Members.{All}
 use Rattle.spec.specs.Network.{Network, leaf_count, index_count, accepted}
-use Rattle.spec.specs.Refusal.{number_of}
 use Rattle.spec.specs.Calls.{tree_places}
 use Rattle.spec.specs.File.{Ask, plain, flagged, target, Contents, read_of}
 use Rattle.spec.specs.FileClaims.{Bytes, LawfulTree, LawfulAsk, TreeLeft, FlagsLeft}
 use Rattle.spec.specs.Program.{flags_of, program}
-use Rattle.spec.specs.Text.{refused_line, output_of}
-use Rattle.spec.specs.Output.{program_on, plan_bytes}
+use Rattle.spec.specs.Output.{program_on}
 use Rattle.laws.specs.Accepted.{accepted_means}
 use Rattle.laws.specs.FileReads.{reads_just}
 use Rattle.laws.specs.FileLists.{fills_lists, valid_length}
@@ -18,15 +16,14 @@ use Rattle.laws.specs.SliceCallLaws.{byte_back}
 use Rattle.laws.specs.FileBytes.{all_bytes}
 use Rattle.network.specs.Record.{net_of}
 use Rattle.network.specs.declared.Network.{Network as Record}
-use Rattle.netfile.specs.Answers.{flag_count, tree_answer, ask_answer, answer_of, network_in, tree_after, flags_after}
+use Rattle.netfile.specs.Answers.{flag_count, places_in, ask_answer, given_in, given_of, network_in, tree_after, flags_after}
 use Rattle.netfile.specs.Writer.{ask_handed}
-use Rattle.netfile.specs.declared.Found.{Found}
-use Rattle.netfile.specs.declared.Answer.TheVariants.{Refused, Done}
+use Rattle.netfile.specs.declared.Given.{Given}
 use Rattle.planning.specs.Stages.{FlagsHeld, given_tree, FoundIn}
 
 -- ---- the tree ----
 
-tree_given : (N : Network) (t : Option (List ℕ)) (l kids : List ℕ) → LawfulTree N t → TreeLeft t l kids → given_tree (tree_answer t) (take (tree_places N) kids) ≡ t
+tree_given : (N : Network) (t : Option (List ℕ)) (l kids : List ℕ) → LawfulTree N t → TreeLeft t l kids → given_tree (places_in t) (take (tree_places N) kids) ≡ t
 tree_given N None l kids h e = refl
 tree_given N (Some k) l kids (e, v) q =
     let n : length k ≡ tree_places N = omega (arith, valid_length (leaf_count N) k e v) in
@@ -59,19 +56,14 @@ module _ (N : Network) (l flags : List ℕ) (clear : (j : ℕ) → get_or l j 0 
 -- ---- the whole ----
 
 -- after an answer: the network is accepted, and what is left is to plan
-pub record Whole (file : List ℕ) (f : Found) (R : Record) (kids flags : List ℕ) : Type 0 where
+pub record Whole (file : List ℕ) (f : Given) (R : Record) (kids flags : List ℕ) : Type 0 where
   pub ok : accepted (net_of R) ≡ true
   pub flags_held : FlagsHeld (net_of R) (flags_of (ask_handed f.ask flags)) flags
   pub few_flags : flag_count f.ask ≤ index_count (net_of R)
   pub rest : program_on file
       ≡ program (net_of R) (given_tree f.tree (take (tree_places (net_of R)) kids)) (ask_handed f.ask flags)
 
-pub whole_bytes : {file : List ℕ} {f : Found} {R : Record} {kids flags : List ℕ} → Whole file f R kids flags
-    → output_of (program (net_of R) (given_tree f.tree (take (tree_places (net_of R)) kids)) (ask_handed f.ask flags)) ≡ plan_bytes file
-unfolding plan_bytes
-whole_bytes w = ap output_of (sym w.rest)
-
-pub found_in : {file : List ℕ} {f : Found} {R : Record} {kids flags : List ℕ} → Whole file f R kids flags → length kids ≡ 254 → length flags ≡ 256
+pub found_in : {file : List ℕ} {f : Given} {R : Record} {kids flags : List ℕ} → Whole file f R kids flags → length kids ≡ 254 → length flags ≡ 256
     → FoundIn (net_of R) f kids flags
 found_in w h k = record { ok = w.ok; flags_held = w.flags_held; few_flags = w.few_flags; tree_room = h; flag_room = k }
 
@@ -84,8 +76,8 @@ on_done : (file : List ℕ) (c : Contents) → read_of 254 256 file ≡ Ok c →
 unfolding program_on
 on_done file c e = rw e
 
-on_refused : (file : List ℕ) (r : Refusal) → read_of 254 256 file ≡ Err r → plan_bytes file ≡ refused_line (number_of r)
-unfolding plan_bytes program_on
+on_refused : (file : List ℕ) (r : Refusal) → read_of 254 256 file ≡ Err r → program_on file ≡ Err r
+unfolding program_on
 on_refused file r e = rw e
 
 -- the lists that were lent: 254 places for a tree, and 256 clear flags
@@ -93,29 +85,29 @@ module _ (file a b : List ℕ) (h : length a ≡ 254) (k : length b ≡ 256) (cl
   same_read : read_of (length a) (length b) file ≡ read_of 254 256 file
   same_read = cc
 
-  refused_cases : (x : Result Contents Refusal) {n : ℕ} → x ≡ read_of 254 256 file → Refused n ≡ answer_of x → plan_bytes file ≡ refused_line n
-  refused_cases (Err r) {n} e q = let w : n ≡ number_of r = cc in on_refused file r (sym e) ∙ ap refused_line (sym w)
+  refused_cases : (x : Result Contents Refusal) {k : Refusal} → x ≡ read_of 254 256 file → Err k ≡ given_of x → program_on file ≡ Err k
+  refused_cases (Err r) {k} e q = let w : k ≡ r = cc in on_refused file r (sym e) ∙ ap Err (sym w)
   refused_cases (Ok c) e q = absurd (let w : ◌≡◌ {A = ℕ} 0 1 = cc in omega arith)
 
-  done_cases : (x : Result Contents Refusal) {f : Found} {R : Record} {kids flags : List ℕ} → x ≡ read_of (length a) (length b) file → ((i : ℕ) → get_or file i 0 < 256)
-      → Done f ≡ answer_of x → net_of R ≡ network_in x → kids ≡ tree_after x a → flags ≡ flags_after x b → Whole file f R kids flags
+  done_cases : (x : Result Contents Refusal) {f : Given} {R : Record} {kids flags : List ℕ} → x ≡ read_of (length a) (length b) file → ((i : ℕ) → get_or file i 0 < 256)
+      → Ok f ≡ given_of x → net_of R ≡ network_in x → kids ≡ tree_after x a → flags ≡ flags_after x b → Whole file f R kids flags
   done_cases (Err r) e bytes q n s t = absurd (let w : ◌≡◌ {A = ℕ} 0 1 = cc in omega arith)
   done_cases (Ok c) {f} {R} {kids} {flags} e bytes q n s t =
-      let found : f ≡ record { tree = tree_answer c.tree; ask = ask_answer c.ask } = cc in
+      let found : f ≡ given_in c.tree c.ask = cc in
       let d : Bytes file = all_bytes file (λ i _. bytes i) in
       let (lawful, _, _) = (reads_just (length a) (length b) file c d).0 (sym e) in
       let (left, set) = fills_lists a b file c d (sym e) in
       let small : index_count c.network ≤ 256 = ((accepted_means c.network).0 lawful.network).few_indices in
-      let given : given_tree (tree_answer c.tree) (take (tree_places c.network) kids) ≡ c.tree =
+      let given : given_tree (places_in c.tree) (take (tree_places c.network) kids) ≡ c.tree =
       tree_given c.network c.tree a kids lawful.tree (subst (TreeLeft c.tree a) (sym s) left) in
       let (asked, held, few) =
       ask_given c.network b flags clear (omega arith) c.ask lawful.ask (subst (FlagsLeft (index_count c.network) c.ask b) (sym t) set) in
-      subst (λ (y : Found). Whole file y R kids flags) (sym found) (of_parts c R kids flags (sym n) lawful.network (sym same_read ∙ sym e) given asked held few)
+      subst (λ (y : Given). Whole file y R kids flags) (sym found) (of_parts c R kids flags (sym n) lawful.network (sym same_read ∙ sym e) given asked held few)
     where
       of_parts : (c : Contents) (R : Record) (kids flags : List ℕ) → c.network ≡ net_of R → accepted c.network ≡ true → read_of 254 256 file ≡ Ok c
-          → given_tree (tree_answer c.tree) (take (tree_places c.network) kids) ≡ c.tree → ask_handed (ask_answer c.ask) flags ≡ c.ask
+          → given_tree (places_in c.tree) (take (tree_places c.network) kids) ≡ c.tree → ask_handed (ask_answer c.ask) flags ≡ c.ask
           → FlagsHeld c.network (flags_of c.ask) flags → flag_count (ask_answer c.ask) ≤ index_count c.network
-          → Whole file (record { tree = tree_answer c.tree; ask = ask_answer c.ask }) R kids flags
+          → Whole file (given_in c.tree c.ask) R kids flags
       of_parts c R kids flags n ok e given asked held few =
           record {
             ok = subst (λ (N : Network). accepted N ≡ true) n ok;
@@ -125,14 +117,14 @@ module _ (file a b : List ℕ) (h : length a ≡ 254) (k : length b ≡ 256) (cl
             few_flags = subst (λ (N : Network). flag_count (ask_answer c.ask) ≤ index_count N) n few;
             rest = on_done file c e
                 ∙ ap₂ (program c.network) (sym given) (sym asked)
-                ∙ ap (λ (N : Network). program N (given_tree (tree_answer c.tree) (take (tree_places N) kids)) (ask_handed (ask_answer c.ask) flags)) n;
+                ∙ ap (λ (N : Network). program N (given_tree (places_in c.tree) (take (tree_places N) kids)) (ask_handed (ask_answer c.ask) flags)) n;
           }
 
   -- the reader's answer, a refusal or what is found
-  pub read_refused : {n : ℕ} → Refused n ≡ answer_of (read_of (length a) (length b) file) → plan_bytes file ≡ refused_line n
+  pub read_refused : {k : Refusal} → Err k ≡ given_of (read_of (length a) (length b) file) → program_on file ≡ Err k
   read_refused = refused_cases (read_of (length a) (length b) file) same_read
 
-  pub read_done : {f : Found} {R : Record} {kids flags : List ℕ} → ((i : ℕ) → get_or file i 0 < 256)
-      → Done f ≡ answer_of (read_of (length a) (length b) file) → net_of R ≡ network_in (read_of (length a) (length b) file)
+  pub read_done : {f : Given} {R : Record} {kids flags : List ℕ} → ((i : ℕ) → get_or file i 0 < 256)
+      → Ok f ≡ given_of (read_of (length a) (length b) file) → net_of R ≡ network_in (read_of (length a) (length b) file)
       → kids ≡ tree_after (read_of (length a) (length b) file) a → flags ≡ flags_after (read_of (length a) (length b) file) b → Whole file f R kids flags
   read_done = done_cases (read_of (length a) (length b) file) refl

@@ -7,7 +7,7 @@ use Rattle.spec.specs.Lists.{range}
 use Rattle.spec.specs.Memory.{over}
 use Rattle.spec.specs.Network.{Network, leaf_count, index_count, network_checks}
 use Rattle.spec.specs.Tree.{valid, pairs_of, flat_of}
-use Rattle.spec.specs.Refusal.{number_of, Check, and_then, checked}
+use Rattle.spec.specs.Refusal.{Check, and_then, checked}
 use Rattle.spec.specs.Slicing.{Plan, slice, one_pass}
 use Rattle.spec.specs.Calls.{lent, length_check, slice_words, tree_check, beyond_check, dangling_if, follow_up, slice_checks, slice_call, sliced_tree, sliced_flags}
 use Rattle.spec.specs.File.{Ask, plain, target}
@@ -25,35 +25,33 @@ use Rattle.netfile.specs.declared.Ask.TheVariants.{Plain, Flagged}
 use Rattle.netfile.specs.Writer.{ask_handed}
 use Rattle.passes.specs.Made.{most_tried}
 use Rattle.reconf.specs.declared.Visited.{Visited}
-use Rattle.reconfigure.specs.declared.Improved.TheVariants.{Refused, Done}
-use Rattle.slicetree.specs.declared.Sliced.{Sliced}
-use Rattle.slicetree.specs.Answers.{sliced_of}
+use Rattle.slicetree.specs.Answers.{counts}
 use Rattle.planning.specs.Bounds.{slice_few}
-use Rattle.planning.specs.Stages.{FlagsHeld, PlanHeld, plan_answer, Answers, Ready, answers_refused, improved_in, ImprovedHeld, over_tree}
+use Rattle.planning.specs.Stages.{FlagsHeld, PlanHeld, Answers, Ready, answers_refused, improved_in, ImprovedHeld, over_tree}
 
 -- ---- without a target ----
 
 abbrev Stands : Network → (kids flags : List ℕ) → Visited → Asked → Type 0
 Stands N kids flags v a =
-    FlagsHeld N (flags_of (ask_handed a flags)) flags → Answers N (slice_for N (ask_handed a flags) (improved_in kids v)) kids flags (Done v)
+    FlagsHeld N (flags_of (ask_handed a flags)) flags → Answers N (slice_for N (ask_handed a flags) (improved_in kids v)) kids flags (Ok v)
 
 module _ {N : Network} {kids flags : List ℕ} {v : Visited} (held : ImprovedHeld N kids v) where
   stands : (ask : Ask) → slice_for N ask (improved_in kids v) ≡ Ok (flagged_plan (flags_of ask) (improved_in kids v)) → FlagsHeld N (flags_of ask) flags
-      → Answers N (slice_for N ask (improved_in kids v)) kids flags (Done v)
+      → Answers N (slice_for N ask (improved_in kids v)) kids flags (Ok v)
   stands ask e h =
       record {
-        answer = sym (ap plan_answer e);
+        answer = sym (ap counts e);
         held = λ p f.
             subst (λ (q : Plan). PlanHeld N q kids flags) (done_same (flagged_plan (flags_of ask) (improved_in kids v)) p (sym e ∙ f))
             (record { tree = sym held.flat; flagged = h });
       }
 
   pub stands_plain : {a : Asked} → a ≡ Plain → FlagsHeld N (flags_of (ask_handed a flags)) flags
-      → Answers N (slice_for N (ask_handed a flags) (improved_in kids v)) kids flags (Done v)
+      → Answers N (slice_for N (ask_handed a flags) (improved_in kids v)) kids flags (Ok v)
   stands_plain e = subst (Stands N kids flags v) (sym e) (stands plain refl)
 
   pub stands_flagged : {a : Asked} {n : ℕ} → a ≡ Flagged n → FlagsHeld N (flags_of (ask_handed a flags)) flags
-      → Answers N (slice_for N (ask_handed a flags) (improved_in kids v)) kids flags (Done v)
+      → Answers N (slice_for N (ask_handed a flags) (improved_in kids v)) kids flags (Ok v)
   stands_flagged {a} {n} e = subst (Stands N kids flags v) (sym e) (stands (ask_handed (Flagged n) flags) refl)
 
 -- ---- to a target ----
@@ -112,39 +110,37 @@ module _ (N : Network) (w : ℕ) (kids₀ flags₀ : List ℕ) (v : Visited) (wo
         over_at flags₀ (map f (range (index_count N))) j 0 (omega (arith, ready.room)) (omega (arith, map_range_length f (index_count N)))
         ∙ map_range_at f 0 (index_count N) j h
 
-  pub slice_refused : {k : ℕ} {kids flags : List ℕ} → Sliced.Refused k ≡ sliced_of call → Answers N whole kids flags (Refused k)
+  pub slice_refused : {k : Refusal} {kids flags : List ℕ} → Err k ≡ counts call → Answers N whole kids flags (Err k)
   slice_refused {k} {kids} {flags} q = by_result call refl q
     where
-      by_result : (x : Result Plan Refusal) → call ≡ x → Sliced.Refused k ≡ sliced_of x → Answers N whole kids flags (Refused k)
+      by_result : (x : Result Plan Refusal) → call ≡ x → Err k ≡ counts x → Answers N whole kids flags (Err k)
       by_result (Err r) e f =
-          answers_refused r (whole_is ∙ ap (λ (x : Result Plan Refusal). and_then x (λ p. Ok (counted (improved_in kids₀ v) p))) e) (let z : k ≡ number_of r = cc in z)
+          let z : k ≡ r = cc in answers_refused k (whole_is ∙ ap (λ (x : Result Plan Refusal). and_then x (λ p. Ok (counted (improved_in kids₀ v) p))) e ∙ ap Err (sym z))
       by_result (Ok p) e f = absurd (let z : ◌≡◌ {A = ℕ} 0 1 = cc in omega arith)
 
   -- the counts
-  pub slice_counts : {a b : ℕ} → Sliced.Done a b ≡ sliced_of call → (a ≤ 256 * 127) × (b ≤ 256 * (127 * most_tried))
-  slice_counts {a} {b} q = by_result call refl q
+  pub slice_counts : {d : Visited} → Ok d ≡ counts call → (d.rebuilt ≤ 256 * 127) × (d.tried ≤ 256 * (127 * most_tried))
+  slice_counts {d} q = by_result call refl q
     where
-      by_result : (x : Result Plan Refusal) → call ≡ x → Sliced.Done a b ≡ sliced_of x → (a ≤ 256 * 127) × (b ≤ 256 * (127 * most_tried))
+      by_result : (x : Result Plan Refusal) → call ≡ x → Ok d ≡ counts x → (d.rebuilt ≤ 256 * 127) × (d.tried ≤ 256 * (127 * most_tried))
       by_result (Err r) e f = absurd (let z : ◌≡◌ {A = ℕ} 0 1 = cc in omega arith)
       by_result (Ok p) e f =
-          let y : a ≡ p.rebuilt = cc in
-          let z : b ≡ p.tried = cc in
-          (omega (arith, (sliced_few p e).0), omega (arith, (sliced_few p e).1))
+          let y : d ≡ record { rebuilt = p.rebuilt; tried = p.tried } = cc in
+          subst (λ (u : Visited). (u.rebuilt ≤ 256 * 127) × (u.tried ≤ 256 * (127 * most_tried))) (sym y) (sliced_few p e)
 
-  pub slice_done : {a b : ℕ} {kids flags : List ℕ} {u : Visited} → Sliced.Done a b ≡ sliced_of call → kids ≡ sliced_tree call kids₀ → flags ≡ sliced_flags N call flags₀
-      → u ≡ record { rebuilt = v.rebuilt + a; tried = v.tried + b } → Answers N whole kids flags (Done u)
-  slice_done {a} {b} {kids} {flags} {u} q s t y = by_result call refl q s t
+  pub slice_done : {d : Visited} {kids flags : List ℕ} {u : Visited} → Ok d ≡ counts call → kids ≡ sliced_tree call kids₀ → flags ≡ sliced_flags N call flags₀
+      → u ≡ record { rebuilt = v.rebuilt + d.rebuilt; tried = v.tried + d.tried } → Answers N whole kids flags (Ok u)
+  slice_done {d} {kids} {flags} {u} q s t y = by_result call refl q s t
     where
-      by_result : (x : Result Plan Refusal) → call ≡ x → Sliced.Done a b ≡ sliced_of x → kids ≡ sliced_tree x kids₀ → flags ≡ sliced_flags N x flags₀
-          → Answers N whole kids flags (Done u)
+      by_result : (x : Result Plan Refusal) → call ≡ x → Ok d ≡ counts x → kids ≡ sliced_tree x kids₀ → flags ≡ sliced_flags N x flags₀
+          → Answers N whole kids flags (Ok u)
       by_result (Err r) e f k l = absurd (let z : ◌≡◌ {A = ℕ} 0 1 = cc in omega arith)
       by_result (Ok p) e f k l =
-          let m : a ≡ p.rebuilt = cc in
-          let n : b ≡ p.tried = cc in
+          let m : d ≡ record { rebuilt = p.rebuilt; tried = p.tried } = cc in
           let g : whole ≡ Ok (counted (improved_in kids₀ v) p) =
           whole_is ∙ ap (λ (x : Result Plan Refusal). and_then x (λ p. Ok (counted (improved_in kids₀ v) p))) e in
           record {
-            answer = ap Done (y ∙ (λ i. record { rebuilt = v.rebuilt + m i; tried = v.tried + n i })) ∙ sym (ap plan_answer g);
+            answer = ap Ok (y ∙ ap (λ (w : Visited). record { rebuilt = v.rebuilt + w.rebuilt; tried = v.tried + w.tried }) m) ∙ sym (ap counts g);
             held = λ o z.
                 subst (λ (x : Plan). PlanHeld N x kids flags) (done_same (counted (improved_in kids₀ v) p) o (sym g ∙ z))
                 (record { tree = k ∙ sliced_tree_lem p e; flagged = subst (FlagsHeld N p.flag) (sym l) (sliced_flags_lem p e) });

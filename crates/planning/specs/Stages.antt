@@ -7,7 +7,7 @@ use Rattle.spec.specs.declared.Refusal.{Refusal}
 use Rattle.spec.specs.Memory.{over}
 use Rattle.spec.specs.Network.{Network, leaf_count, index_count, network_checks, accepted}
 use Rattle.spec.specs.Tree.{Pair, valid, pairs_of, flat_of}
-use Rattle.spec.specs.Refusal.{number_of, Check, and_then, checked}
+use Rattle.spec.specs.Refusal.{Check, and_then, checked}
 use Rattle.spec.specs.Improve as spec
 use Rattle.spec.specs.Improve.{improve}
 use Rattle.spec.specs.Greedy.{greedy}
@@ -25,19 +25,15 @@ use Rattle.laws.specs.GreedyLaws.{greedy_valid}
 use Rattle.laws.specs.ImprovedValid.{keeps_valid}
 use Rattle.merging.specs.Removed.{flat_length}
 use Rattle.passes.specs.Made.{most_tried}
-use Rattle.greedy.specs.declared.Planned.{Planned}
-use Rattle.greedy.specs.Answers.{planned_of}
-use Rattle.netfile.specs.declared.Tree.{Tree}
-use Rattle.netfile.specs.declared.Tree.TheVariants.{Absent, Present}
+use Rattle.greedy.specs.Answers.{done_of}
 use Rattle.netfile.specs.declared.Ask.{Ask as Asked}
 use Rattle.netfile.specs.declared.Ask.TheVariants.{Plain, Flagged, Target}
-use Rattle.netfile.specs.declared.Found.{Found}
+use Rattle.netfile.specs.declared.Given.{Given}
 use Rattle.netfile.specs.Answers.{flag_count}
 use Rattle.netfile.specs.Writer.{ask_handed}
 use Rattle.reconf.specs.declared.Visited.{Visited}
-use Rattle.reconfigure.specs.declared.Improved.{Improved}
-use Rattle.reconfigure.specs.declared.Improved.TheVariants.{Refused, Done}
-use Rattle.reconfigure.specs.Answers.{counts_of, answer_of}
+use Rattle.reconfigure.specs.Answers.{counts_of, given}
+use Rattle.slicetree.specs.Answers.{counts}
 use Rattle.cells.specs.Cells.{over_all}
 use Rattle.planning.specs.Bounds.{improve_few}
 
@@ -51,14 +47,9 @@ pub record PlanHeld (N : Network) (p : Plan) (kids flags : List ℕ) : Type 0 wh
   pub tree : kids ≡ flat_of p.tree
   pub flagged : FlagsHeld N p.flag flags
 
--- refused by number, or the counts
-abbrev pub plan_answer : Result Plan Refusal → Improved
-plan_answer (Err r) = Refused (number_of r)
-plan_answer (Ok p) = Done (record { rebuilt = p.rebuilt; tried = p.tried })
-
 -- the answer is that of c, and so is the plan in the lists
-pub record Answers (N : Network) (c : Result Plan Refusal) (kids flags : List ℕ) (r : Improved) : Type 0 where
-  pub answer : r ≡ plan_answer c
+pub record Answers (N : Network) (c : Result Plan Refusal) (kids flags : List ℕ) (r : Result Visited Refusal) : Type 0 where
+  pub answer : r ≡ counts c
   pub held : (p : Plan) → c ≡ Ok p → PlanHeld N p kids flags
 
 -- what a stage asks: an accepted network, a place an index for flags
@@ -67,9 +58,9 @@ pub record Ready (N : Network) (places : ℕ) : Type 0 where
   pub room : index_count N ≤ places
 
 -- the tree that a list has, if the file has one
-abbrev pub given_tree : Tree → List ℕ → Option (List ℕ)
-given_tree Absent kids = None
-given_tree (Present n) kids = Some kids
+abbrev pub given_tree : Option ℕ → List ℕ → Option (List ℕ)
+given_tree None kids = None
+given_tree (Some n) kids = Some kids
 
 given_flags : (a : Asked) (l : List ℕ) → take (flag_count a) l ≡ flag_bytes (ask_handed a l)
 given_flags Plain l = refl
@@ -77,32 +68,31 @@ given_flags (Flagged n) l = refl
 given_flags (Target w) l = refl
 
 -- what a file has, in lists of 254 and 256 places: an accepted network, and its own flags
-pub record FoundIn (N : Network) (f : Found) (kids flags : List ℕ) : Type 0 where
+pub record FoundIn (N : Network) (f : Given) (kids flags : List ℕ) : Type 0 where
   pub ok : accepted N ≡ true
   pub flags_held : FlagsHeld N (flags_of (ask_handed f.ask flags)) flags
   pub few_flags : flag_count f.ask ≤ index_count N
   pub tree_room : length kids ≡ 254
   pub flag_room : length flags ≡ 256
 
-pub found_ready : {N : Network} {f : Found} {kids flags : List ℕ} → FoundIn N f kids flags → Ready N (length flags)
+pub found_ready : {N : Network} {f : Given} {kids flags : List ℕ} → FoundIn N f kids flags → Ready N (length flags)
 found_ready {N} x = record { ok = x.ok; room = omega (arith, x.flag_room, ((accepted_means N).0 x.ok).few_indices) }
 
-pub found_flags : {N : Network} {f : Found} {kids flags : List ℕ} → FoundIn N f kids flags → flag_count f.ask ≤ length flags
+pub found_flags : {N : Network} {f : Given} {kids flags : List ℕ} → FoundIn N f kids flags → flag_count f.ask ≤ length flags
 found_flags {N} x = omega (arith, x.few_flags, x.flag_room, ((accepted_means N).0 x.ok).few_indices)
 
 -- ---- answers ----
 
-pub answers_refused : {N : Network} {c : Result Plan Refusal} {kids flags : List ℕ} {k : ℕ} (r : Refusal) → c ≡ Err r → k ≡ number_of r
-    → Answers N c kids flags (Refused k)
-answers_refused {k = k} r e q = record { answer = ap Refused q ∙ ap plan_answer (sym e); held = λ p f. absurd (apart r p (sym e ∙ f)) }
+pub answers_refused : {N : Network} {c : Result Plan Refusal} {kids flags : List ℕ} (r : Refusal) → c ≡ Err r → Answers N c kids flags (Err r)
+answers_refused r e = record { answer = ap counts (sym e); held = λ p f. absurd (apart r p (sym e ∙ f)) }
   where
     apart : (r : Refusal) (p : Plan) → ◌≡◌ {A = Result Plan Refusal} (Err r) (Ok p) → ⊥
     apart r p e = let z : ◌≡◌ {A = ℕ} 0 1 = cc in omega arith
 
-pub answers_as : {N : Network} {c d : Result Plan Refusal} {kids flags : List ℕ} {r : Improved} → c ≡ d → Answers N d kids flags r → Answers N c kids flags r
+pub answers_as : {N : Network} {c d : Result Plan Refusal} {kids flags : List ℕ} {r : Result Visited Refusal} → c ≡ d → Answers N d kids flags r → Answers N c kids flags r
 answers_as {N} {kids = kids} {flags = flags} {r = r} e a = subst (λ (x : Result Plan Refusal). Answers N x kids flags r) (sym e) a
 
-pub answers_at : {N : Network} {c : Result Plan Refusal} {kids flags : List ℕ} {r s : Improved} → r ≡ s → Answers N c kids flags r → Answers N c kids flags s
+pub answers_at : {N : Network} {c : Result Plan Refusal} {kids flags : List ℕ} {r s : Result Visited Refusal} → r ≡ s → Answers N c kids flags r → Answers N c kids flags s
 answers_at {N} {c} {kids} {flags} e a = subst (Answers N c kids flags) e a
 
 -- ---- improvement ----
@@ -168,22 +158,22 @@ module _ (N : Network) (ask : Ask) (few : leaf_count N ≤ 128) (kids₀ : List 
 
   -- by what improvement answers
   module _ {c : Result spec.Improved Refusal} (same : c ≡ improve_for N ask kids₀) where
-    improve_refused : {k : ℕ} {kids flags : List ℕ} → Refused k ≡ answer_of c → Answers N (from_tree N ask kids₀) kids flags (Refused k)
+    improve_refused : {k : Refusal} {kids flags : List ℕ} → Err k ≡ given c → Answers N (from_tree N ask kids₀) kids flags (Err k)
     unfolding from_tree
     improve_refused {k} {kids} {flags} q = by_result c refl q
       where
-        by_result : (x : Result spec.Improved Refusal) → c ≡ x → Refused k ≡ answer_of x
-            → Answers N (and_then (improve_for N ask kids₀) λ d. slice_for N ask d) kids flags (Refused k)
+        by_result : (x : Result spec.Improved Refusal) → c ≡ x → Err k ≡ given x
+            → Answers N (and_then (improve_for N ask kids₀) λ d. slice_for N ask d) kids flags (Err k)
         by_result (Err r) e p =
-            answers_refused r (ap (λ (x : Result spec.Improved Refusal). and_then x (λ d. slice_for N ask d)) (sym same ∙ e)) (let z : k ≡ number_of r = cc in z)
+            let z : k ≡ r = cc in answers_refused k (ap (λ (x : Result spec.Improved Refusal). and_then x (λ d. slice_for N ask d)) (sym same ∙ e) ∙ ap Err (sym z))
         by_result (Ok d) e p = absurd (let z : ◌≡◌ {A = ℕ} 0 1 = cc in omega arith)
 
-    improve_done : {v : Visited} {kids : List ℕ} → Done v ≡ answer_of c → kids ≡ improved_tree c kids₀
+    improve_done : {v : Visited} {kids : List ℕ} → Ok v ≡ given c → kids ≡ improved_tree c kids₀
         → ImprovedHeld N kids v × (from_tree N ask kids₀ ≡ slice_for N ask (improved_in kids v))
     unfolding from_tree
     improve_done {v} {kids} q t = by_result c refl q t
       where
-        by_result : (x : Result spec.Improved Refusal) → c ≡ x → Done v ≡ answer_of x → kids ≡ improved_tree x kids₀
+        by_result : (x : Result spec.Improved Refusal) → c ≡ x → Ok v ≡ given x → kids ≡ improved_tree x kids₀
             → ImprovedHeld N kids v × ((and_then (improve_for N ask kids₀) λ d. slice_for N ask d) ≡ slice_for N ask (improved_in kids v))
         by_result (Err r) e p s = absurd (let z : ◌≡◌ {A = ℕ} 0 1 = cc in omega arith)
         by_result (Ok d) e p s =
@@ -198,12 +188,12 @@ improve_same N a kids flags words count e f =
     ∙ ap (λ (l : List ℕ). improve_call N 8 4 None (improve_words 8) l kids) (ap (λ (n : ℕ). take n flags) f ∙ given_flags a flags)
 
 -- the tree in the list is improved, and the plan goes on from it; or it is refused
-pub record ImprovedTo (N : Network) (ask : Ask) (kids₀ kids : List ℕ) (r : Improved) : Type 0 where
-  pub refuses : {k : ℕ} → r ≡ Refused k → (flags : List ℕ) → Answers N (from_tree N ask kids₀) kids flags (Refused k)
-  pub goes : {v : Visited} → r ≡ Done v → ImprovedHeld N kids v × (from_tree N ask kids₀ ≡ slice_for N ask (improved_in kids v))
+pub record ImprovedTo (N : Network) (ask : Ask) (kids₀ kids : List ℕ) (r : Result Visited Refusal) : Type 0 where
+  pub refuses : {k : Refusal} → r ≡ Err k → (flags : List ℕ) → Answers N (from_tree N ask kids₀) kids flags (Err k)
+  pub goes : {v : Visited} → r ≡ Ok v → ImprovedHeld N kids v × (from_tree N ask kids₀ ≡ slice_for N ask (improved_in kids v))
 
 pub improved_to : (N : Network) (a : Asked) (kids₀ flags : List ℕ) (words count : ℕ) → accepted N ≡ true → words ≡ improve_words 8 → count ≡ flag_count a
-    → {kids : List ℕ} {r : Improved} → r ≡ answer_of (improve_call N 8 4 None words (take count flags) kids₀)
+    → {kids : List ℕ} {r : Result Visited Refusal} → r ≡ given (improve_call N 8 4 None words (take count flags) kids₀)
     → kids ≡ improved_tree (improve_call N 8 4 None words (take count flags) kids₀) kids₀ → ImprovedTo N (ask_handed a flags) kids₀ kids r
 improved_to N a kids₀ flags words count ok e f q t =
     let few : leaf_count N ≤ 128 = ((accepted_means N).0 ok).few_leaves in
@@ -229,22 +219,22 @@ unfolding plan_of from_tree
 plan_given N ask kids = refl
 
 module _ (N : Network) (ask : Ask) (kids₀ : List ℕ) (long : length kids₀ ≡ tree_places N) (words : ℕ) (h : plain_words ≤ words) where
-  greedy_refused : {k : ℕ} {kids flags : List ℕ} → Planned.Refused k ≡ planned_of (greedy_call N words (length kids₀))
-      → Answers N (plan_of N None ask) kids flags (Refused k)
+  greedy_refused : {k : Refusal} {kids flags : List ℕ} → Err k ≡ done_of (greedy_call N words (length kids₀))
+      → Answers N (plan_of N None ask) kids flags (Err k)
   unfolding plan_of
   greedy_refused {k} {kids} {flags} q = by_result (greedy_call N words (length kids₀)) (greedy_same N words (length kids₀) h (omega arith)) q
     where
-      by_result : (x : Result (List Pair) Refusal) → x ≡ greedy_call N plain_words (tree_places N) → Planned.Refused k ≡ planned_of x
-          → Answers N (and_then (tree_for N None) λ kids. and_then (improve_for N ask kids) λ d. slice_for N ask d) kids flags (Refused k)
-      by_result (Err r) e p = answers_refused r (rw (sym e)) (let z : k ≡ number_of r = cc in z)
+      by_result : (x : Result (List Pair) Refusal) → x ≡ greedy_call N plain_words (tree_places N) → Err k ≡ done_of x
+          → Answers N (and_then (tree_for N None) λ kids. and_then (improve_for N ask kids) λ d. slice_for N ask d) kids flags (Err k)
+      by_result (Err r) e p = let z : k ≡ r = cc in rw z (answers_refused r (rw (sym e)))
       by_result (Ok a) e p = absurd (let z : ◌≡◌ {A = ℕ} 0 1 = cc in omega arith)
 
-  greedy_done : {kids : List ℕ} → Planned.Done ≡ planned_of (greedy_call N words (length kids₀)) → kids ≡ greedy_tree (greedy_call N words (length kids₀)) kids₀
+  greedy_done : {kids : List ℕ} → Ok tt ≡ done_of (greedy_call N words (length kids₀)) → kids ≡ greedy_tree (greedy_call N words (length kids₀)) kids₀
       → plan_of N None ask ≡ from_tree N ask kids
   unfolding plan_of from_tree greedy_call
   greedy_done {kids} q t = by_result (greedy_call N words (length kids₀)) (greedy_same N words (length kids₀) h (omega arith)) q t
     where
-      by_result : (x : Result (List Pair) Refusal) → x ≡ greedy_call N plain_words (tree_places N) → Planned.Done ≡ planned_of x → kids ≡ greedy_tree x kids₀
+      by_result : (x : Result (List Pair) Refusal) → x ≡ greedy_call N plain_words (tree_places N) → Ok tt ≡ done_of x → kids ≡ greedy_tree x kids₀
           → (and_then (tree_for N None) λ kids. and_then (improve_for N ask kids) λ d. slice_for N ask d) ≡ (and_then (improve_for N ask kids) λ d. slice_for N ask d)
       by_result (Err r) e p s = absurd (let z : ◌≡◌ {A = ℕ} 0 1 = cc in omega arith)
       by_result (Ok a) e p s =
@@ -254,19 +244,19 @@ module _ (N : Network) (ask : Ask) (kids₀ : List ℕ) (long : length kids₀ �
           ∙ ap (λ (l : List ℕ). and_then (improve_for N ask l) (λ d. slice_for N ask d)) (sym k)
 
 -- the tree to improve is in the list, and the plan goes on from it; or it is refused
-pub record Started (N : Network) (given : Option (List ℕ)) (kids : List ℕ) (r : Planned) : Type 0 where
-  pub refuses : {k : ℕ} → r ≡ Planned.Refused k → (ask : Ask) (flags : List ℕ) → Answers N (plan_of N given ask) kids flags (Refused k)
-  pub goes : r ≡ Planned.Done → (ask : Ask) → plan_of N given ask ≡ from_tree N ask kids
+pub record Started (N : Network) (given : Option (List ℕ)) (kids : List ℕ) (r : Result (Unit {0}) Refusal) : Type 0 where
+  pub refuses : {k : Refusal} → r ≡ Err k → (ask : Ask) (flags : List ℕ) → Answers N (plan_of N given ask) kids flags (Err k)
+  pub goes : r ≡ Ok tt → (ask : Ask) → plan_of N given ask ≡ from_tree N ask kids
 
-pub started_given : (N : Network) (kids : List ℕ) → Started N (Some kids) kids Planned.Done
+pub started_given : (N : Network) (kids : List ℕ) → Started N (Some kids) kids (Ok tt)
 started_given N kids =
     record {
       refuses = λ e ask flags. absurd (let z : ◌≡◌ {A = ℕ} 0 1 = cc in omega arith);
       goes = λ e ask. plan_given N ask kids;
     }
 
-pub started_greedy : (N : Network) (kids₀ : List ℕ) (words : ℕ) → length kids₀ ≡ tree_places N → plain_words ≤ words → {kids : List ℕ} {r : Planned}
-    → r ≡ planned_of (greedy_call N words (length kids₀)) → kids ≡ greedy_tree (greedy_call N words (length kids₀)) kids₀ → Started N None kids r
+pub started_greedy : (N : Network) (kids₀ : List ℕ) (words : ℕ) → length kids₀ ≡ tree_places N → plain_words ≤ words → {kids : List ℕ} {r : Result (Unit {0}) Refusal}
+    → r ≡ done_of (greedy_call N words (length kids₀)) → kids ≡ greedy_tree (greedy_call N words (length kids₀)) kids₀ → Started N None kids r
 started_greedy N kids₀ words long h q t =
     record {
       refuses = λ e ask flags. greedy_refused N ask kids₀ long words h (sym e ∙ q);

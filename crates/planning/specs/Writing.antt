@@ -4,27 +4,25 @@ use Rattle.std.proofs.Common.{sym, ap, ◌∙◌, subst, arith, get_or-take, len
 use Rattle.spec.specs.declared.Refusal.{Refusal}
 use Rattle.spec.specs.Network.{Network, leaf_count, index_count, accepted}
 use Rattle.spec.specs.Tree.{Pair, valid, pairs_of, flat_of}
-use Rattle.spec.specs.Refusal.{number_of}
 use Rattle.spec.specs.Slicing.{Plan}
 use Rattle.spec.specs.File.{Ask}
 use Rattle.spec.specs.FileClaims.{LawfulTree}
 use Rattle.spec.specs.Program.{plan_of, printed, program}
-use Rattle.spec.specs.Text.{plan_text, refused_line, output_of}
 use Rattle.laws.specs.FlatLaws.{pairs_flat, flat_even}
 use Rattle.laws.specs.ProgramLaws.{plan_right}
 use Rattle.laws.specs.Booleans.{cond_most}
 use Rattle.reconf.specs.declared.Visited.{Visited}
-use Rattle.reconfigure.specs.declared.Improved.TheVariants.{Refused, Done}
-use Rattle.planning.specs.Printing.{Written, Printable}
-use Rattle.planning.specs.Stages.{PlanHeld, plan_answer, Answers}
+use Rattle.slicetree.specs.Answers.{counts}
+use Rattle.planning.specs.Printing.{Tells, tells_refused, Printable}
+use Rattle.planning.specs.Stages.{PlanHeld, Answers}
 
 module _ (N : Network) (given : Option (List ℕ)) (ask : Ask) (kids flags : List ℕ) where
-  -- the line of a refusal
-  pub refusal_text : {k : ℕ} → Answers N (plan_of N given ask) kids flags (Refused k) → refused_line k ≡ output_of (program N given ask)
-  refusal_text {k} a = by_result (plan_of N given ask) refl a.answer
+  -- a refusal
+  pub plan_refused : {k : Refusal} (out : List ℕ) → Answers N (plan_of N given ask) kids flags (Err k) → Tells (program N given ask) out out (Err k)
+  plan_refused {k} out a = by_result (plan_of N given ask) refl a.answer
     where
-      by_result : (x : Result Plan Refusal) → plan_of N given ask ≡ x → Refused k ≡ plan_answer x → refused_line k ≡ output_of (program N given ask)
-      by_result (Err r) e q = let z : k ≡ number_of r = cc in rw e (ap refused_line z)
+      by_result : (x : Result Plan Refusal) → plan_of N given ask ≡ x → Err k ≡ counts x → Tells (program N given ask) out out (Err k)
+      by_result (Err r) e q = let z : k ≡ r = cc in tells_refused (rw e (ap Err (sym z)))
       by_result (Ok p) e q = absurd (let z : ◌≡◌ {A = ℕ} 0 1 = cc in omega arith)
 
   -- the plan behind counts
@@ -35,10 +33,10 @@ module _ (N : Network) (given : Option (List ℕ)) (ask : Ask) (kids flags : Lis
     tried : plan.tried ≡ v.tried
     held : PlanHeld N plan kids flags
 
-  behind : {v : Visited} → Answers N (plan_of N given ask) kids flags (Done v) → Behind v
+  behind : {v : Visited} → Answers N (plan_of N given ask) kids flags (Ok v) → Behind v
   behind {v} a = by_result (plan_of N given ask) refl a.answer
     where
-      by_result : (x : Result Plan Refusal) → plan_of N given ask ≡ x → Done v ≡ plan_answer x → Behind v
+      by_result : (x : Result Plan Refusal) → plan_of N given ask ≡ x → Ok v ≡ counts x → Behind v
       by_result (Err r) e q = absurd (let z : ◌≡◌ {A = ℕ} 0 1 = cc in omega arith)
       by_result (Ok p) e q =
           let z : v ≡ record { rebuilt = p.rebuilt; tried = p.tried } = cc in
@@ -52,7 +50,7 @@ module _ (N : Network) (given : Option (List ℕ)) (ask : Ask) (kids flags : Lis
     cut_held : {p : Plan} → PlanHeld N p kids flags → PlanHeld N p kids (take m flags)
     cut_held h = record { tree = h.tree; flagged = λ j b. cut_at j b ∙ h.flagged j b }
 
-    pub printable : {v : Visited} → accepted N ≡ true → Answers N (plan_of N given ask) kids flags (Done v) → Printable N kids (take m flags)
+    pub printable : {v : Visited} → accepted N ≡ true → Answers N (plan_of N given ask) kids flags (Ok v) → Printable N kids (take m flags)
     printable {v} ok a =
         let b = behind a in
         let p : Plan = b.plan in
@@ -65,9 +63,9 @@ module _ (N : Network) (given : Option (List ℕ)) (ask : Ask) (kids flags : Lis
           room = length-take-le m flags (omega arith) ∙ same;
         }
 
-    pub plan_written : {v : Visited} {out after : List ℕ} {n : ℕ} → Answers N (plan_of N given ask) kids flags (Done v)
-        → ((p : Plan) → PlanHeld N p kids (take m flags) → p.rebuilt ≡ v.rebuilt → p.tried ≡ v.tried → Written out after n (plan_text (printed N p)))
-        → Written out after n (output_of (program N given ask))
-    plan_written {v} {out} {after} {n} a f =
+    pub plan_written : {v : Visited} {out after : List ℕ} {r : Result ℕ Refusal} → Answers N (plan_of N given ask) kids flags (Ok v)
+        → ((p : Plan) → PlanHeld N p kids (take m flags) → p.rebuilt ≡ v.rebuilt → p.tried ≡ v.tried → Tells (Ok (printed N p)) out after r)
+        → Tells (program N given ask) out after r
+    plan_written {v} {out} {after} {r} a f =
         let b = behind a in
         rw b.is (f b.plan (cut_held b.held) b.rebuilt b.tried)
