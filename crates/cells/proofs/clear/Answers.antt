@@ -6,4 +6,4 @@ use Rattle.cells.proofs.clear.Goals as goal
 pub returns : goal.returns
 returns c =
     let ws = c.args.words.now in
-    cleared_back ws _ _ c.fill64.ensures ∙ ap (cleared ws) c.min-n.ensures ∙ cleared-min ws _
+    cleared_back ws _ _ c.fill.ensures ∙ ap (cleared ws) c.min-n.ensures ∙ cleared-min ws _

@@ -1,4 +1,4 @@
-use Rattle.std.proofs.Common.{◌≡◌, min, length, ap, sym, ◌∙◌, drop, ◌++◌, arith, length-take}
+use Rattle.std.proofs.Common.{◌≡◌, length, ap, sym, ◌∙◌, drop, ◌++◌, arith, length-take}
 use Rattle.std.proofs.lemmas.Grind.{common_steps}
 use Rattle.cells.specs.Cells.{over_front, copied_end}
 use Rattle.spec.specs.Memory.{copied, over}
