@@ -39,10 +39,7 @@ fn partition_of(
         &mut net_weights,
         &mut vertex_weights[..n],
     );
-    let size = Size {
-        nets,
-        vertices: n,
-    };
+    let size = Size { nets, vertices: n };
     let mut lists = Levels {
         net_weights: &mut net_weights,
         vertex_weights: &mut vertex_weights,

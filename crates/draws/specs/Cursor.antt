@@ -1,9 +1,8 @@
--- The words of a run by a cursor into the lent list: how many were taken, or one more than there are once a draw was due past the end.
--- Assumes nothing.
-use Rattle.std.specs.Prelude.{◌≡◌, ℕ, ◌+◌, ◌%◌, ◌<◌, ◌≤◌, Bool, true, false, cond, ltb, List, [], ◌∷◌, length, drop, nat_lt, slice_index, slice_index_or, refl}
+-- The words of a run by how many of the lent list were taken, or one more than there are once a draw was due past the end. Assumes nothing.
+use Rattle.std.specs.Prelude.{◌≡◌, ℕ, ◌+◌, ◌<◌, ◌≤◌, Bool, true, false, cond, ltb, List, [], ◌∷◌, length, drop, nat_lt, slice_index, slice_index_or, refl}
 use Rattle.std.proofs.Common.{sym, ap, ◌∙◌, arith, add-one, lt-ltb, le-ltb, ltb-true, ltb-false, drop_of_length-le, drop-cons}
 use Rattle.std.proofs.Math.ListN.{get_or-eq_default}
-use Rattle.spec.specs.Draws.{Words, Drawn, drawn, draw_from, draw, unit_of, unit_draw, index_draw}
+use Rattle.spec.specs.Draws.{Words, Drawn, drawn, draw_from, draw}
 
 abbrev pub words_at : List ℕ → ℕ → Words
 words_at words at = record { left = drop at words; exhausted = nat_lt (length words) at }
@@ -34,19 +33,3 @@ draw_at words at = go (nat_lt at (length words)) refl
         let s : ltb (length words) (length words + 1) ≡ true = lt-ltb (length words) (length words + 1) (omega arith) in
         let w : slice_index_or words at 0 ≡ 0 = get_or-eq_default words 0 h in
         ap (λ l. draw_from l (nat_lt (length words) at)) p ∙ sym (ap (λ x. made x (drop (length words + 1) words) (nat_lt (length words) (length words + 1))) w ∙ ap (λ l. made 0 l (nat_lt (length words) (length words + 1))) q ∙ ap (made 0 []) s)
-
--- as the code has it
-pub unit_at : (words : List ℕ) (at : ℕ) → (unit_draw (words_at words at)).value ≡ unit_of (slice_index words at)
-unit_at words at = ap (λ d. unit_of d.value) (draw_at words at)
-
-pub index_at : (words : List ℕ) (at n : ℕ) → (index_draw n (words_at words at)).value ≡ slice_index words at % n
-index_at words at n = ap (λ d. d.value % n) (draw_at words at)
-
-pub after_at : (words : List ℕ) (at next : ℕ) → next ≡ after_draw words at → words_at words next ≡ (draw (words_at words at)).words
-after_at words at next e = ap (words_at words) e ∙ sym (ap (λ d. d.words) (draw_at words at))
-
-pub after_within : (words : List ℕ) (at : ℕ) → at < length words → at + 1 ≡ after_draw words at
-after_within words at h = sym (ap (λ t. cond t (at + 1) (length words + 1)) (lt-ltb at (length words) h))
-
-pub after_past : (words : List ℕ) (at : ℕ) → length words ≤ at → length words + 1 ≡ after_draw words at
-after_past words at h = sym (ap (λ t. cond t (at + 1) (length words + 1)) (le-ltb at (length words) h))

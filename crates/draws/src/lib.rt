@@ -1,57 +1,23 @@
 #![tactic(auto)]
-// Draws from lent words, by a cursor; rounding to multiples.
-ghost use Rattle.std.specs.Prelude.{◌≡◌, ◌<◌, false, T, pos};
+//! Draws from lent words; rounding to multiples.
+ghost use Rattle.std.specs.Prelude.{◌≡◌, false, T, pos};
 ghost use Rattle.std.specs.Float.Ieee.{lt};
 ghost use Rattle.std.specs.Float.{fin};
 ghost use Rattle.spec.specs.Floats.{round_away, round_to};
-ghost use Rattle.spec.specs.Draws.{unit_of, draw, unit_draw, index_draw};
-ghost use Rattle.draws.specs.Cursor.{words_at};
+ghost use Rattle.spec.specs.Draws.{unit_of};
 
 mod lent;
 
 pub use lent::Draws;
 
-// The word over 2^11, rounded down, times 2^-53.
+/// The word over 2^11, rounded down, times 2^-53.
 pub fn unit_draw(word: u64) -> f64
     ensures { result ≡ unit_of word }
 {
     ((word / 2048) as f64) * 1.1102230246251565e-16
 }
 
-// A unit draw at the cursor.
-pub fn unit(words: &[u64], at: usize) -> f64
-    ensures { result ≡ (unit_draw (words_at words.now at)).value }
-{
-    unit_draw(cells::get64(words, at))
-}
-
-// An index draw below n at the cursor.
-pub fn index(words: &[u64], at: usize, n: usize) -> usize
-    requires { 0 < n }
-    ensures { (result ≡ (index_draw n (words_at words.now at)).value) × (result < n) }
-{
-    (cells::get64(words, at) % (n as u64)) as usize
-}
-
-// The cursor after a draw: one more than there are words once a draw was due past the end.
-pub fn after(words: &[u64], at: usize) -> usize
-    ensures { words_at words.now result ≡ (draw (words_at words.now at)).words }
-{
-    if at < words.len() {
-        at + 1
-    } else {
-        words.len() + 1
-    }
-}
-
-// Was a draw due past the end.
-pub fn is_exhausted(words: &[u64], at: usize) -> bool
-    ensures { result ≡ (words_at words.now at).exhausted }
-{
-    words.len() < at
-}
-
-// The nearest whole number to a y above 0 and below 2^52: its whole part n is a u64, and n + 1/2 is an f64 exactly.
+/// The nearest whole number to a y above 0 and below 2^52: its whole part n is a u64, and n + 1/2 is an f64 exactly.
 fn near(y: f64) -> f64
     requires { T (lt (fin false 0 (pos 0)) y) × T (lt y (fin false 1 (pos 52))) }
     ensures { result ≡ round_away y }
@@ -64,7 +30,7 @@ fn near(y: f64) -> f64
     }
 }
 
-// The nearest whole number, halves away from zero. From 2^52 on every f64 is whole.
+/// The nearest whole number, halves away from zero. From 2^52 on every f64 is whole.
 pub fn round_away(x: f64) -> f64
     ensures { result ≡ round_away x }
 {
@@ -83,7 +49,7 @@ pub fn round_away(x: f64) -> f64
     x
 }
 
-// The nearest multiple of q.
+/// The nearest multiple of q.
 pub fn round_to(x: f64, q: f64) -> f64
     ensures { result ≡ round_to x q }
 {

@@ -29,7 +29,12 @@ fn run<W: Write>(out: &mut W, file: &[u8], tree: &mut [u16], flags: &mut [u8]) -
 }
 
 // Lends as many places of the lists as the case says.
-fn lend<W: Write>(out: &mut W, file: &[u8], tree_places: usize, flag_places: usize) -> io::Result<()> {
+fn lend<W: Write>(
+    out: &mut W,
+    file: &[u8],
+    tree_places: usize,
+    flag_places: usize,
+) -> io::Result<()> {
     let mut tree = [0u16; 300];
     let mut flags = [0u8; 300];
     sums::fill(&mut tree, sums::wide_mark);

@@ -39,7 +39,10 @@ pub fn record(sum: u64, network: &Network) -> u64 {
     let leaves = network.leaf_count;
     let indices = network.index_count;
     let outputs = network.output_count;
-    let counts = with(with(with(sum, leaves as u64), indices as u64), outputs as u64);
+    let counts = with(
+        with(with(sum, leaves as u64), indices as u64),
+        outputs as u64,
+    );
     let mut s = with_all(counts, &network.weights[..indices.min(256)]);
     for i in 0..leaves.min(128) {
         s = with_leaf(s, network.leg_counts[i], &network.legs, i);

@@ -25,7 +25,6 @@ pub struct Levels<'a> {
     pub places: &'a mut [u16],
 }
 
-
 /// The sum of the vertices' weights.
 pub fn total_weight(vw: &[f64]) -> f64
     ensures { result ≡ fold_over summed vw.now zero_float }

@@ -54,6 +54,7 @@ impl<'a> Bipartition<'a> {
         ensures rolled { Rolled self.old.words.now self.new.words.now layout.now.sides layout.now.vertex_weights.now pass.now.moves pass.now.count (pass.now.count - pass.now.peak) (sides_at self.old) (sides_at self.new) }
     {
         let last = pass.count.saturating_sub(pass.peak);
+        // By number: how many moves are taken back is not known to be at most the length of the list, so they are no slice.
         for i in 0..last {
             let v = usize::from(cells::get_or(&pass.moves, pass.count - 1 - i, 0));
             self.move_vertex(layout, v);

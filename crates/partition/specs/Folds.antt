@@ -1,12 +1,10 @@
 -- Folds over a lent list's first members, and over a range. Assumes nothing.
-use Rattle.std.specs.Prelude.{◌≡◌, refl, List, [], ◌∷◌, ◌++◌, map, ℕ, ◌+◌, ◌-◌, ◌*◌, ◌^◌, ◌<◌, length, get_or, take}
+use Rattle.std.specs.Prelude.{◌≡◌, refl, List, [], ◌∷◌, ◌++◌, map, ℕ, ◌+◌, ◌*◌, ◌<◌, length, get_or, take}
 use Rattle.std.proofs.Common.{sym, ◌∙◌, arith, add-one, take-suc}
 use Rattle.std.proofs.Math.Path.{ap}
-use Rattle.std.specs.Int.Bits.{bit_and}
-use Rattle.std.specs.Int.Count.{count_trailing_zeros}
 use Rattle.spec.specs.Lists.{keep, range}
 use Rattle.spec.specs.Hypergraph.{fold_over}
-use Rattle.bits.specs.Lowest.{places, places_step, places_none}
+use Rattle.bits.specs.Lowest.{places}
 use Rattle.slots.specs.Slots.{held}
 use Rattle.slots.specs.Rising.{rising_of, word_more, held_tests}
 use Rattle.laws.specs.ListLaws.{from_last}

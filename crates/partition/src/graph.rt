@@ -50,6 +50,7 @@ impl<'a> Hypergraph<'a> {
     {
         let p = s * 4;
         let mut g = 0.0;
+        // By number: a slot may reach past the end of the words, where a read gives 0, so it is no slice.
         for k in 0..4 {
             let x = cells::get_or(self.words, p + k, 0);
             g = self.gain_word(here, there, k * 64, x, g);

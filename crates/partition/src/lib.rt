@@ -1,17 +1,11 @@
 #![tactic(auto)]
-// Hypergraphs in slots of lent words, and partitions of their vertices: gains and cuts.
+//! Hypergraphs in slots of lent words, and partitions of their vertices: gains and cuts.
 ghost use Rattle.std.specs.Prelude.{◌≡◌, ◌<◌, ◌≤◌, length};
 ghost use Rattle.std.specs.Int.Count.{ones};
 ghost use Rattle.spec.specs.Floats.{whole_float};
-ghost use Rattle.spec.specs.Hypergraph.{fold_over};
 ghost use Rattle.spec.specs.Fm.{gain_net};
-ghost use Rattle.bits.specs.Lowest.{places};
-ghost use Rattle.slots.specs.Rising.{rising_of};
 ghost use Rattle.partition.specs.Common.{common_of};
 ghost use Rattle.partition.specs.Few.{capped, Few};
-ghost use Rattle.partition.specs.Layout.{Laid, gain_step, gain_sum};
-ghost use Rattle.partition.specs.Gains.{IsGain};
-ghost use Rattle.partition.specs.Cuts.{cut_step, IsCutWeight};
 
 mod graph;
 mod layout;
@@ -29,6 +23,7 @@ pub fn common(words: &[u64], w: usize, a: usize, b: usize) -> usize
     let p = a * w;
     let q = b * w;
     let mut n: usize = 0;
+    // By number: a slot may reach past the end of the words, where a read gives 0, so it is no slice.
     for k in 0..w {
         let x = cells::get_or(words, p + k, 0);
         let y = cells::get_or(words, q + k, 0);
@@ -66,7 +61,7 @@ fn few(words: &[u64], a: usize, b: usize) -> usize
 fn gain_net(here: usize, there: usize, w: u8, g: f64) -> f64
     ensures { result ≡ gain_net here there (whole_float w) g }
 {
-    let x = w as f64;
+    let x = f64::from(w);
     if here == 1 {
         if there == 0 {
             return g + x - x;
@@ -77,27 +72,4 @@ fn gain_net(here: usize, there: usize, w: u8, g: f64) -> f64
         return g - x;
     }
     g
-}
-
-/// The weight of the nets that are cut, in a hypergraph of `m` nets and `n` vertices.
-pub fn cut(
-    words: &[u64],
-    nets: usize,
-    vertices: usize,
-    sides: usize,
-    m: usize,
-    n: usize,
-    weights: &[u8],
-) -> f64
-    requires { (nets < 32768) × (sides < 32768) × Laid words.now nets vertices sides m n }
-    ensures { IsCutWeight words.now nets sides weights.now m n result }
-{
-    let place = Place {
-        nets,
-        vertices,
-        sides,
-        net_count: m,
-        vertex_count: n,
-    };
-    place.cut(words, weights)
 }

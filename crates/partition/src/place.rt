@@ -27,7 +27,7 @@ impl Place {
         if crate::common(words, 2, self.nets + e, self.sides + 1) == 0 {
             return c;
         }
-        c + (cells::get_or(weights, e, 0) as f64)
+        c + f64::from(cells::get_or(weights, e, 0))
     }
 
     /// The weight of the nets that are cut; `weights` has the weight of each.

@@ -2,25 +2,28 @@
 // The form of input and output is stated in harness/src/greedy/record.rs, which makes both.
 use greedy::Planned;
 use network::Network;
+use std::io::{self, Read, Write};
 
 // The plan of a network, or the number of the refusal.
-fn plan(network: Network) {
+fn plan<W: Write>(out: &mut W, network: Network) -> io::Result<()> {
     let mut tree = [0u16; 254];
     let mut ws = [0u64; 4096];
-    let planned = greedy::greedy(network, &mut tree, &mut ws);
-    match planned {
-        Planned::Refused(refusal) => stored::refused(refusal),
+    let places = (network.leaf_count % 256).saturating_sub(1) * 2;
+    match greedy::greedy(network, &mut tree, &mut ws) {
+        Planned::Refused(refusal) => write!(out, "refused {refusal}")?,
         Planned::Done => {
-            io::write_all(1, b"plan");
-            stored::numbers(&tree, cells::less(network.leaf_count % 256, 1) * 2);
+            write!(out, "plan")?;
+            stored::write_numbers(out, &tree[..places.min(254)])?;
         }
     }
-    stored::end_line();
+    writeln!(out)
 }
 
-// All cases.
-pub fn all() {
-    for _ in 0..stored::next_number() {
-        plan(stored::next_network());
+/// All cases.
+pub fn all<R: Read, W: Write>(input: &mut R, out: &mut W) -> io::Result<()> {
+    for _ in 0..stored::next_number(input)? {
+        let network = stored::next_network(input, out)?;
+        plan(out, network)?;
     }
+    Ok(())
 }

@@ -1,9 +1,19 @@
 // Improves the trees of stored network files and writes a line for each.
 // The form of input and output is stated in harness/src/reconfigure/record.rs, which makes both.
-use cells::min;
-use netfile::{Answer, Found};
+ghost use Rattle.std.specs.Prelude.{◌≤◌};
+
+use netfile::{Ask, Given};
 use network::Network;
 use reconfigure::{Improved, Limit};
+use std::io::{self, Read, Write};
+
+// What a case asks: k, how many passes, and the limit.
+#[derive(Clone, Copy)]
+struct Asked {
+    k: usize,
+    passes: usize,
+    limit: Limit,
+}
 
 // The limit that a number stands for: none from 65,535 on.
 fn limit_of(x: usize) -> Limit {
@@ -14,83 +24,78 @@ fn limit_of(x: usize) -> Limit {
 }
 
 // The tree improved, or the number of the refusal.
-fn improve(
+fn improve<W: Write>(
+    out: &mut W,
     network: Network,
     flags: &[u8],
     tree: &mut [u16],
-    k: usize,
-    passes: usize,
-    limit: Limit,
-) {
+    asked: Asked,
+) -> io::Result<()> {
     let mut ws = [0u64; 36864];
-    let improved = reconfigure::reconfigure(network, k, passes, limit, flags, tree, &mut ws);
+    let improved = reconfigure::reconfigure(
+        network,
+        asked.k,
+        asked.passes,
+        asked.limit,
+        flags,
+        tree,
+        &mut ws,
+    );
     match improved {
-        Improved::Refused(refusal) => stored::refused(refusal),
+        Improved::Refused(refusal) => write!(out, "refused {refusal}"),
         Improved::Done(counts) => {
-            stored::number(b"improved ", counts.rebuilt);
-            stored::spaced(counts.tried);
-            stored::numbers(tree, tree.len());
+            write!(out, "improved {} {}", counts.rebuilt, counts.tried)?;
+            stored::write_numbers(out, tree)
         }
     }
 }
 
 // Improves the tree that was found in a file, under the flags that were.
-fn improve_found(
+fn improve_given<W: Write>(
+    out: &mut W,
     network: Network,
-    found: Found,
+    given: Given,
     flags: &[u8],
     tree: &mut [u16],
-    k: usize,
-    passes: usize,
-    limit: Limit,
-) {
-    let found_tree = found.tree;
-    let found_ask = found.ask;
-    let places = min(netfile::tree_places(found_tree), tree.len());
-    let count = min(netfile::flag_count(found_ask), flags.len());
-    improve(
-        network,
-        &flags[..count],
-        &mut tree[..places],
-        k,
-        passes,
-        limit,
-    );
+    asked: Asked,
+) -> io::Result<()> {
+    let places = given.tree.unwrap_or(0).min(tree.len());
+    let count = match given.ask {
+        Ask::Plain | Ask::Target(_) => 0,
+        Ask::Flagged(count) => count.min(flags.len()),
+    };
+    improve(out, network, &flags[..count], &mut tree[..places], asked)
 }
 
-// Reads so many bytes from standard input as a network file, and improves its tree.
-fn run(bytes: &mut [u8], count: usize, k: usize, passes: usize, limit: Limit) {
+// Reads a network file, and improves its tree.
+fn run<W: Write>(out: &mut W, file: &[u8], asked: Asked) -> io::Result<()> {
+    let mut network = Network::empty();
     let mut tree = [0u16; 254];
     let mut flags = [0u8; 256];
-    let reading = stored::read(bytes, count, &mut tree, &mut flags);
-    let answer = reading.answer;
-    match answer {
-        Answer::Refused(refusal) => stored::number(b"file refused ", refusal as u64),
-        Answer::Done(found) => {
-            let network = reading.network;
-            improve_found(network, found, &flags, &mut tree, k, passes, limit);
-        }
+    match netfile::read_network(file, &mut network, &mut tree, &mut flags) {
+        Ok(given) => improve_given(out, network, given, &flags, &mut tree, asked)?,
+        Err(refusal) => write!(out, "file refused {}", refusal.number())?,
     }
-    stored::end_line();
+    writeln!(out)
 }
 
-fn next_case() {
+fn next_case<R: Read, W: Write>(input: &mut R, out: &mut W) -> io::Result<()> {
     let mut bytes = [0u8; 131072];
-    let asked = stored::next_number();
-    let count = stored::next_number();
-    let limit = limit_of(asked % 65536);
-    run(
-        &mut bytes,
-        count,
-        asked / 16777216,
-        asked / 65536 % 256,
-        limit,
-    );
+    let number = stored::next_number(input)?;
+    let count = stored::next_number(input)?;
+    let n = stored::take(input, &mut bytes, count)?;
+    let asked = Asked {
+        k: number / 16777216,
+        passes: number / 65536 % 256,
+        limit: limit_of(number % 65536),
+    };
+    run(out, &bytes[..n], asked)
 }
 
-// All cases.
-pub fn all() {
-    for _ in 0..stored::next_number() {
-        next_case();
+/// All cases.
+pub fn all<R: Read, W: Write>(input: &mut R, out: &mut W) -> io::Result<()> {
+    for _ in 0..stored::next_number(input)? {
+        next_case(input, out)?;
     }
+    Ok(())
 }

@@ -5,8 +5,12 @@ mod bisection_runs; // bisection_runs.rt: plans by bisection
 mod greedy_runs; // greedy_runs.rt: greedy's plans
 mod improvement_runs; // improvement_runs.rt: trees improved
 
-fn main() {
-    greedy_runs::all();
-    bisection_runs::all();
-    improvement_runs::all();
+use std::io;
+
+fn main(rt: HostRuntime) -> io::Result<()> {
+    let mut input = rt.reader();
+    let mut out = io::writer(&rt);
+    greedy_runs::all(&mut input, &mut out)?;
+    bisection_runs::all(&mut input, &mut out)?;
+    improvement_runs::all(&mut input, &mut out)
 }

@@ -1,25 +1,27 @@
 #![tactic(auto)]
 // Plans stored network files, then slices trees of stored networks. The form of input and output is stated in harness/plan.py, which makes both.
-mod slices;
+ghost use Rattle.std.specs.Prelude.{◌≤◌};
+
+mod slices; // slices.rt: trees sliced
+
+use std::io::{self, Read, Write};
 
 // One case, with its number: what `plan` prints of a network file.
-fn next_case(k: u64) {
+fn next_case<R: Read, W: Write>(input: &mut R, out: &mut W, k: usize) -> io::Result<()> {
     let mut bytes = [0u8; 131072];
-    let mut out = [0u8; 131072];
-    stored::number(b"case ", k);
-    stored::end_line();
-    let n = stored::take(&mut bytes, stored::next_number());
-    let c = planning::plan(&bytes[..n], &mut out);
-    io::write_all(1, &out[..c]);
+    let mut text = [0u8; 131072];
+    writeln!(out, "case {k}")?;
+    let count = stored::next_number(input)?;
+    let n = stored::take(input, &mut bytes, count)?;
+    let c = planning::plan(&bytes[..n], &mut text);
+    out.write_all(&text[..c])
 }
 
-fn all_cases(count: u64) {
-    for k in 0..count {
-        next_case(k + 1);
+fn main(rt: HostRuntime) -> io::Result<()> {
+    let mut input = rt.reader();
+    let mut out = io::writer(&rt);
+    for k in 0..stored::next_number(&mut input)? {
+        next_case(&mut input, &mut out, k.saturating_add(1))?;
     }
-}
-
-fn main() {
-    all_cases(stored::next_number() as u64);
-    slices::answer_all(stored::next_number());
+    slices::answer_all(&mut input, &mut out)
 }

@@ -1,42 +1,52 @@
 // Slices trees of stored networks.
+ghost use Rattle.std.specs.Prelude.{◌≤◌};
+
 use network::Network;
 use slicetree::Sliced;
+use std::io::{self, Read, Write};
 
 // Both counts, the tree and the flagged indices, or the number of the refusal.
-fn tell(sliced: Sliced, tree: &[u16], flags: &[u8], indices: usize) {
+fn tell<W: Write>(out: &mut W, sliced: Sliced, tree: &[u16], flags: &[u8]) -> io::Result<()> {
     match sliced {
-        Sliced::Refused(refusal) => stored::refused(refusal),
+        Sliced::Refused(refusal) => write!(out, "refused {refusal}"),
         Sliced::Done { rebuilt, tried } => {
-            stored::number(b"sliced ", rebuilt);
-            stored::spaced(tried);
-            stored::numbers(tree, tree.len());
-            io::write_all(1, b" flags");
-            stored::flagged(flags, indices);
+            write!(out, "sliced {rebuilt} {tried}")?;
+            stored::write_numbers(out, tree)?;
+            write!(out, " flags")?;
+            stored::write_flagged(out, flags)
         }
     }
 }
 
-fn slice(network: Network, tree: &mut [u16], asked: usize) {
+fn slice<W: Write>(
+    out: &mut W,
+    network: Network,
+    tree: &mut [u16],
+    asked: usize,
+) -> io::Result<()> {
     let mut flags = [0u8; 256];
     let mut ws = [0u64; 6144];
     let improving = 65536 <= asked;
     let target = (asked % 65536) as u16;
+    let indices = network.index_count.min(256);
     let sliced = slicetree::slice_tree(network, improving, tree, target, &mut flags, &mut ws);
-    tell(sliced, tree, &flags, network.index_count);
+    tell(out, sliced, tree, &flags[..indices])
 }
 
 // One question.
-fn answer_next() {
+fn answer_next<R: Read, W: Write>(input: &mut R, out: &mut W) -> io::Result<()> {
     let mut tree = [0u16; 512];
-    let asked = stored::next_number();
-    let network = stored::next_network();
-    let places = stored::next_tree(&mut tree);
-    slice(network, &mut tree[..places], asked);
-    stored::end_line();
+    let asked = stored::next_number(input)?;
+    let network = stored::next_network(input, out)?;
+    let places = stored::next_tree(input, &mut tree)?;
+    slice(out, network, &mut tree[..places], asked)?;
+    writeln!(out)
 }
 
-pub fn answer_all(count: usize) {
-    for _ in 0..count {
-        answer_next();
+/// All questions.
+pub fn answer_all<R: Read, W: Write>(input: &mut R, out: &mut W) -> io::Result<()> {
+    for _ in 0..stored::next_number(input)? {
+        answer_next(input, out)?;
     }
+    Ok(())
 }

@@ -13,10 +13,6 @@ use Rattle.partition.specs.Folds.{range_next}
 use Rattle.queue.specs.declared.entries.Entry.{Entry}
 use Rattle.queue.specs.Queues.{keys_of, stamps_of, waits_of, queue_in}
 
--- the names that the crates above still use
-abbrev pub place : ℕ → ℕ → ℕ → ℕ → ℕ → Place
-place nets vertices sides m n = record { nets = nets; vertices = vertices; sides = sides; net_count = m; vertex_count = n }
-
 module _ (ws : List ℕ) (o : Place) where
   -- the queue after v was entered, whatever the vertices weigh
   abbrev pub entered_in : List ℕ → List Float → ℕ → ℕ → Queue → Queue

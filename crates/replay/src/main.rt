@@ -1,40 +1,36 @@
 #![tactic(auto)]
 // Prices stored network files and writes a line for each, to be held to the Rust's answers.
 // The form of input and output is stated in harness/src/record.rs, which makes both.
+ghost use Rattle.std.specs.Prelude.{◌≤◌};
+
 mod records; // records.rt: the steps as records
 mod words; // words.rt: the listing
 
+use std::io::{self, Read, Write};
+
 // One case: the listing and the records, or the number of the refusal.
-fn price(file: &[u8]) {
-    let mut out = [0u8; 1286];
-    let refusal = listing::price(file, &mut out);
-    if refusal == 0 {
-        words::write(&out);
-    } else {
-        stored::number(b"refused ", refusal as u64);
+fn price<W: Write>(out: &mut W, file: &[u8]) -> io::Result<()> {
+    let mut listed = [0u8; 1286];
+    match listing::price(file, &mut listed) {
+        0 => words::write(out, &listed)?,
+        refused => write!(out, "refused {refused}")?,
     }
-    records::write(file);
-    io::write_all(1, b"\n");
+    records::write(out, file)?;
+    writeln!(out)
 }
 
-// Reads so many bytes from standard input, and prices them.
-fn take(bytes: &mut [u8], count: usize) {
-    let n = stored::take(bytes, count);
-    price(&bytes[..n]);
-}
-
-fn next_case() {
+fn next_case<R: Read, W: Write>(input: &mut R, out: &mut W) -> io::Result<()> {
     let mut bytes = [0u8; 131072];
-    let count = stored::next_number();
-    take(&mut bytes, count);
+    let count = stored::next_number(input)?;
+    let n = stored::take(input, &mut bytes, count)?;
+    price(out, &bytes[..n])
 }
 
-fn all_cases(count: usize) {
-    for _ in 0..count {
-        next_case();
+fn main(rt: HostRuntime) -> io::Result<()> {
+    let mut input = rt.reader();
+    let mut out = io::writer(&rt);
+    for _ in 0..stored::next_number(&mut input)? {
+        next_case(&mut input, &mut out)?;
     }
-}
-
-fn main() {
-    all_cases(stored::next_number());
+    Ok(())
 }

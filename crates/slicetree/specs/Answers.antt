@@ -156,6 +156,12 @@ module _ (N : Network) (improving : Bool) (kids : List ℕ) where
       check_closed e d =
           sym (past_total ∙ ap (λ (b : Bool). checked (dangling_if N b) (Ok tt)) e ∙ passes_first (dangling_check N) [] (Ok tt) d)
 
+-- the tree that the check made is the one that it was given
+pub same_tree : (N : Network) {n m : ℕ} {kids kids' : List ℕ} → m ≡ n → n ≡ leaf_count N → kids' ≡ kids → wrong_tree m kids' ≡ false
+    → wrong_tree (leaf_count N) kids ≡ false
+same_tree N {n} {m} {kids} {kids'} e f g right =
+    subst (λ (l : List ℕ). wrong_tree (leaf_count N) l ≡ false) g (subst (λ (k : ℕ). wrong_tree k kids' ≡ false) (e ∙ f) right)
+
 -- what holds where none refuses
 pub record Passed (N : Network) (improving : Bool) (kids : List ℕ) : Type 0 where
   pub right : wrong_tree (leaf_count N) kids ≡ false

@@ -1,5 +1,5 @@
 #![tactic(auto)]
-// Slicing of a network's tree to a target, with improvement or without.
+//! Slicing of a network's tree to a target, with improvement or without.
 ghost use Rattle.std.specs.Prelude.{◌≡◌, true, false, ◌+◌, ◌≤◌, length};
 ghost use Rattle.spec.specs.Network.{leaf_count, index_count};
 ghost use Rattle.spec.specs.Tree.{pairs_of};

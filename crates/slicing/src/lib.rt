@@ -1,5 +1,5 @@
 #![tactic(auto)]
-// Slicing on lent lists: turn after turn one index more is flagged, until the widest table is within the target or no candidate is left.
+//! Slicing on lent lists: turn after turn one index more is flagged, until the widest table is within the target or no candidate is left.
 ghost use Rattle.std.specs.Prelude.{◌≡◌, ◌*◌, ◌≤◌, max, length};
 ghost use Rattle.spec.specs.Network.{leaf_count, index_count};
 ghost use Rattle.spec.specs.Calls.{node_places};

@@ -31,6 +31,7 @@ fn add_slots(sums: &mut [u64], sets: &[u64], w: usize, a: usize, b: usize, amoun
 {
     let p = a * w;
     let q = b * w;
+    // Stays: two slots are read at the same word, whose number is the base of its indices as well.
     for k in 0..w {
         add_word(sums, sets[p + k] | sets[q + k], k * 64, amount);
     }

@@ -1,6 +1,6 @@
 -- The lines of sliced indices, the first line and the whole text, put one after another. Assumes nothing.
-use Rattle.std.specs.Prelude.{◌≡◌, Bool, true, false, not, cond, List, [], ◌∷◌, ◌++◌, ℕ, ◌+◌, ◌<◌, ◌≤◌, eqb, length}
-use Rattle.std.proofs.Common.{sym, ap, ◌∙◌, subst, arith, length-append, ne_eqb}
+use Rattle.std.specs.Prelude.{◌≡◌, Bool, true, false, not, cond, List, [], ◌∷◌, ℕ, ◌+◌, ◌<◌, ◌≤◌, eqb, length}
+use Rattle.std.proofs.Common.{sym, ap, ◌∙◌, arith, length-append, ne_eqb}
 use Rattle.spec.specs.Lists.{keep, range}
 use Rattle.spec.specs.Program.{Printed}
 use Rattle.spec.specs.Text.{ascii, spaced, line, lines_of, plan_line, step_line, total_line, widest_line, slice_line, plan_text}

@@ -10,7 +10,6 @@ pub mod figures; // figures.rt: the lines of total, widest and sliced indices
 mod printout; // printout.rt: a plan as it is printed
 
 pub use printout::Printout;
-
 use spec::{Prices, Refusal};
 use steplines::digits::Text;
 use steplines::listed::Listed;
@@ -28,15 +27,15 @@ pub fn put_refusal(out: &mut [u8], refusal: Refusal) -> usize
 
 // The plan of n leaves and m indices with what pricing handed out (w words a set), the flags and improvement's counts. A
 // buffer that is shorter than the text gets its front.
-pub fn put_plan(
+pub fn put_plan<'a>(
     out: &mut [u8],
     n: usize,
     m: usize,
     w: usize,
     prices: Prices,
-    steps: &[u16],
-    sets: &[u64],
-    flags: &[u8],
+    steps: &'a [u16],
+    sets: &'a [u64],
+    flags: &'a [u8],
     improved: u64,
     splits: u64,
 ) -> usize

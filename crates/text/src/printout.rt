@@ -42,7 +42,8 @@ impl<'a> Printout<'a> {
     {
         let indices = self.listed.index_count;
         put_head(text, self.leaf_count, indices);
-        self.listed.put_steps(text, self.leaf_count.saturating_sub(1));
+        self.listed
+            .put_steps(text, self.leaf_count.saturating_sub(1));
         figures::put_total(text, self.prices.total);
         figures::put_widest(text, self.prices.widest);
         figures::put_slices(text, self.flags, indices);

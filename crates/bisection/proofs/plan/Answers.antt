@@ -58,4 +58,3 @@ returns-clause-workspace c = let a = c.args in let g = a.network.now in
     let p : refusal_of (net_of g) ≡ None = subst (λ (N : Network). refusal_of N ≡ None) c.in_ok-lists.ensures.ok l.holds.passed in
     let q = subst (λ (N : Network). Answers N a.imbalance a.cutoff a.draws.now a.tree.now c.plan_accepted.new.tree a.ws.now c.plan_accepted.new.ws c.plan_accepted.result) c.in_ok-lists.ensures.ok c.plan_accepted.ensures in
     q.workspace ∙ sym (ap (λ (r : Result spec.Bisected Refusal). workspace_after bisection_words r a.ws.now) (call_accepted (net_of g) a.imbalance a.cutoff a.draws.now (length a.ws.now) (length a.tree.now) c.if-imbalance-gt1000.false p))
-

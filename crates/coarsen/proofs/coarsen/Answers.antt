@@ -12,7 +12,11 @@ returns-then-is_worthwhile c = let a = c.args in let y = a.layout.now in let o =
 }
 
 pub returns : goal.returns
-returns c = let a = c.args in let y = a.layout.now in let o = c.match_all in let l = c.level-size in (l.result.nets, l.result.vertices, record {
-  same = coarsened a.words.now y.nets y.net_weights.now y.net_count y.vertex_weights.now a.limit a.draws.now _ _ o.ensures _ a.slots.nets _ l.result.nets _ l.result.vertices _ _ (l.ensures.0.level_is a.limit) l.ensures.1 (sym c.if-is_worthwhile.false ∙ c.is_worthwhile.ensures);
-  level = l.ensures.0;
-})
+returns c = let a = c.args in let y = a.layout.now in let o = c.match_all in let l = c.level-size in (
+  l.result.nets,
+  l.result.vertices,
+  record {
+    same = coarsened a.words.now y.nets y.net_weights.now y.net_count y.vertex_weights.now a.limit a.draws.now _ _ o.ensures _ a.slots.nets _ l.result.nets _ l.result.vertices _ _ (l.ensures.0.level_is a.limit) l.ensures.1 (sym c.if-is_worthwhile.false ∙ c.is_worthwhile.ensures);
+    level = l.ensures.0;
+  },
+)

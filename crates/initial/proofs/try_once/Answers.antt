@@ -18,9 +18,9 @@ pub cut-requires : goal.cut-requires
 cut-requires c =
     let a = c.args in let p = c.requires in let f = c.fm.ensures in let o = place_of a.layout.now in
     subst (λ (x : Place). (x.nets < 32768) × (x.sides < 32768) × Laid c.fm.new.words x.nets x.vertices x.sides x.net_count x.vertex_count) (sym c.place.ensures)
-        (p.2.low.0, omega (arith, p.2.low.2), (site_placed _ o _ (site_kept a.words.now _ o p.2 f.kept) f.split).laid)
+    (p.2.low.0, omega (arith, p.2.low.2), (site_placed _ o _ (site_kept a.words.now _ o p.2 f.kept) f.split).laid)
 
 pub returns : goal.returns
 returns c = let a = c.args in let y = a.layout.now in
     tried y.net_weights.now y.vertex_weights.now y.nets y.vertices y.sides y.net_count a.most_weight a.draws.now _ _ a.words.now _ _ _ c.cut.result c.requires.2 c.grown.ensures c.fm.ensures
-        (subst (λ (x : Place). IsCutWeight c.fm.new.words x.nets x.sides y.net_weights.now x.net_count x.vertex_count c.cut.result) c.place.ensures c.cut.ensures)
+    (subst (λ (x : Place). IsCutWeight c.fm.new.words x.nets x.sides y.net_weights.now x.net_count x.vertex_count c.cut.result) c.place.ensures c.cut.ensures)

@@ -2,12 +2,11 @@ use borrow.Author.Rules.{rules}
 use borrow.Author.Tests.{not-true, not-false}
 use Rattle.std.proofs.Common.{◌≡◌, ◌∙◌, ℕ, List, true, false, Err, sym, ap, subst}
 use Rattle.std.proofs.lemmas.Bool.{not_from_true, not_from_false}
-use Rattle.spec.specs.Network.{leaf_count}
 use Rattle.spec.specs.Tree.{pairs_of}
 use Rattle.spec.specs.Calls.{wrong_tree, total_is_beyond}
 use Rattle.spec.specs.declared.Refusal.TheVariants.{InvalidTree}
 use Rattle.network.specs.Views.{net_in}
-use Rattle.slicetree.specs.Answers.{check_wrong, check_beyond, check_as_is, check_dangling, check_closed}
+use Rattle.slicetree.specs.Answers.{same_tree, check_wrong, check_beyond, check_as_is, check_dangling, check_closed}
 use Rattle.slicetree.proofs.check.Goals as goal
 
 pub is_beyond-requires-clause-right : goal.is_beyond-requires-clause-right
@@ -29,8 +28,7 @@ returns-then-is_beyond c =
     let N = net_in a.network.now in
     let t = c.in_ok-tree.tree in
     let ok = c.in_ok-tree.ensures.ok in
-    let right : wrong_tree (leaf_count N) a.kids.now ≡ false =
-    subst (λ (l : List ℕ). wrong_tree (leaf_count N) l ≡ false) ok.0 (subst (λ (k : ℕ). wrong_tree k t.kids.now ≡ false) (ok.1 ∙ c.leaf_count.ensures) t.valid) in
+    let right = same_tree N ok.1 c.leaf_count.ensures ok.0 t.valid in
     let b = c.is_beyond.ensures ∙ ap (λ (l : List ℕ). total_is_beyond N (λ j. false) (pairs_of l)) ok.0 in
     check_beyond N a.improving a.kids.now right (sym b ∙ c.if-is_beyond.true)
 
@@ -40,8 +38,7 @@ returns-then-not-improving c =
     let N = net_in a.network.now in
     let t = c.in_ok-tree.tree in
     let ok = c.in_ok-tree.ensures.ok in
-    let right : wrong_tree (leaf_count N) a.kids.now ≡ false =
-    subst (λ (l : List ℕ). wrong_tree (leaf_count N) l ≡ false) ok.0 (subst (λ (k : ℕ). wrong_tree k t.kids.now ≡ false) (ok.1 ∙ c.leaf_count.ensures) t.valid) in
+    let right = same_tree N ok.1 c.leaf_count.ensures ok.0 t.valid in
     let b = c.is_beyond.ensures ∙ ap (λ (l : List ℕ). total_is_beyond N (λ j. false) (pairs_of l)) ok.0 in
     check_as_is N a.improving a.kids.now right (sym b ∙ c.if-is_beyond.false) (not-true a.improving (not_from_false _ c.if-not-improving.true))
 
@@ -51,8 +48,7 @@ returns-then-is_dangling c =
     let N = net_in a.network.now in
     let t = c.in_ok-tree.tree in
     let ok = c.in_ok-tree.ensures.ok in
-    let right : wrong_tree (leaf_count N) a.kids.now ≡ false =
-    subst (λ (l : List ℕ). wrong_tree (leaf_count N) l ≡ false) ok.0 (subst (λ (k : ℕ). wrong_tree k t.kids.now ≡ false) (ok.1 ∙ c.leaf_count.ensures) t.valid) in
+    let right = same_tree N ok.1 c.leaf_count.ensures ok.0 t.valid in
     let b = c.is_beyond.ensures ∙ ap (λ (l : List ℕ). total_is_beyond N (λ j. false) (pairs_of l)) ok.0 in
     check_dangling N a.improving a.kids.now right (sym b ∙ c.if-is_beyond.false) (not-false a.improving (not_from_true _ c.if-not-improving.false))
     (sym c.is_dangling.ensures ∙ c.if-is_dangling.true)
@@ -63,8 +59,7 @@ returns c =
     let N = net_in a.network.now in
     let t = c.in_ok-tree.tree in
     let ok = c.in_ok-tree.ensures.ok in
-    let right : wrong_tree (leaf_count N) a.kids.now ≡ false =
-    subst (λ (l : List ℕ). wrong_tree (leaf_count N) l ≡ false) ok.0 (subst (λ (k : ℕ). wrong_tree k t.kids.now ≡ false) (ok.1 ∙ c.leaf_count.ensures) t.valid) in
+    let right = same_tree N ok.1 c.leaf_count.ensures ok.0 t.valid in
     let b = c.is_beyond.ensures ∙ ap (λ (l : List ℕ). total_is_beyond N (λ j. false) (pairs_of l)) ok.0 in
     check_closed N a.improving a.kids.now right (sym b ∙ c.if-is_beyond.false) (not-false a.improving (not_from_true _ c.if-not-improving.false))
     (sym c.is_dangling.ensures ∙ c.if-is_dangling.false)

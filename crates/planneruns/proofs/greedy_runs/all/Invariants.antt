@@ -1,8 +1,0 @@
-use Rattle.std.proofs.Common.{◌-◌, ◌≤◌}
-use Rattle.planneruns.proofs.greedy_runs.all.Given as goal
-
-abbrev pub invariant-loop : goal.invariant-loop
-invariant-loop l = l.counter ≤ l.end
-
-abbrev pub decreases-loop : goal.decreases-loop
-decreases-loop l = l.end - l.counter
