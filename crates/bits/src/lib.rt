@@ -30,6 +30,7 @@ pub fn count_parts(rest: u64) -> u64
 {
     let mut sub = rest;
     let mut n: u64 = 0;
+    // the form that a rule names: a loop whose break has the value
     let total = loop {
         n += 1;
         if sub == 0 {
@@ -47,6 +48,7 @@ pub fn most_splits(m: usize) -> u64
     let n = m.min(12);
     let mut splits: u64 = 0;
     let mut masks: u64 = 1;
+    // a step repeated, over no list
     for k in 0..n {
         splits = 3 * splits + masks - 1;
         masks = 2 * masks;

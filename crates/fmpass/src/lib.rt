@@ -110,6 +110,7 @@ pub fn run_pass(
     ensures ran { Brings layout.now.net_weights.now layout.now.vertex_weights.now (place_of layout.now) (λ H p. run_pass H most_weight p) (lists_in split.old entries.old pass.old) (lists_in split.new entries.new pass.new) (run_in pass.old draws.old) (run_in pass.new draws.new) }
 {
     let n = layout.vertex_count();
+    // A number of turns, over no list.
     for k in 0..(n + 1) * (n + 1) {
         if pass.over {
             return;

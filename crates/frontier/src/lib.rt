@@ -91,6 +91,7 @@ fn open_all(
 {
     cells::put(members, 0, v);
     let mut m: usize = 1;
+    // a step repeated, over no list
     for i in 0..k - 1 {
         m = open_most(kids, n, works, members, opened, m);
     }

@@ -60,6 +60,7 @@ fn copy_out(kids: &mut [u16], at: usize, list: &[u16], n: usize)
     requires { (at < 1048576) × (n < 1048576) }
     ensures { kids.new ≡ copied_to kids.old at list.now n }
 {
+    // By an index: the definition is total at both lists, so what lies past an end is skipped.
     for i in 0..n {
         cells::put(kids, at + i, cells::get_or(list, i, 0));
     }

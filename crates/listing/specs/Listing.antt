@@ -109,7 +109,7 @@ pub tells_number : (c : Result (List ℕ) Refusal) (r : Result (Unit {0}) Refusa
     → k ≡ code_of (refusal_in r) → Answered c k out after
 tells_number c r out after t e = (e ∙ ap (λ x. code_of (refusal_in x)) t.0 ∙ told_number c, t.1)
 
-tells_refused : {c : Result (List ℕ) Refusal} (r : Refusal) (out : List ℕ) → c ≡ Err r → Tells c (Err r) out out
+pub tells_refused : {c : Result (List ℕ) Refusal} (r : Refusal) (out : List ℕ) → c ≡ Err r → Tells c (Err r) out out
 tells_refused r out e = rw e (refl, refl)
 
 tells_done : {c : Result (List ℕ) Refusal} {after : List ℕ} (bytes out : List ℕ) → c ≡ Ok bytes → after ≡ over out bytes → Tells c (Ok tt) out after

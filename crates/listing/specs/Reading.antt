@@ -1,14 +1,13 @@
 -- From what the reader answers to the answer of a file. Assumes nothing.
-use Rattle.std.specs.Prelude.{◌≡◌, refl, List, ◌++◌, ℕ, ◌-◌, ◌≤◌, ◌<◌, length, get_or, take, drop, Option, None, Some, Result, Err, Ok}
+use Rattle.std.specs.Prelude.{◌≡◌, refl, List, ◌++◌, ℕ, ◌-◌, ◌≤◌, ◌<◌, length, get_or, take, drop, Option, None, Some, Result, Err, Ok, unwrap_or}
 use Rattle.std.proofs.Common.{sym, ap, ap₂, ◌∙◌, subst, arith, length-append, take_at}
 use Rattle.spec.specs.declared.Refusal.{Refusal}
 use Rattle.std.proofs.lemmas.List.{take-append-le}
 use Rattle.spec.specs.Memory.{filled}
-use Rattle.spec.specs.Refusal.{number_of}
 use Rattle.spec.specs.Network.{Network, leaf_count, index_count}
 use Rattle.spec.specs.File.{Ask, plain, flagged, target, Contents, flag_bytes, tree_bytes, tree_written, flags_written, read_of}
 use Rattle.spec.specs.FileClaims.{LawfulTree, LawfulAsk, RoomForTree, RoomForFlags}
-use Rattle.spec.specs.Host.{listing_call, host_call, Answered}
+use Rattle.spec.specs.Host.{listing_call, host_call}
 use Rattle.laws.specs.FileReads.{reads_just}
 use Rattle.laws.specs.FileFields.{accepted_parts}
 use Rattle.laws.specs.FileLists.{placed_front, valid_length}
@@ -17,14 +16,13 @@ use Rattle.cells.specs.Cells.{filled_length}
 use Rattle.network.specs.Layouts.{leaf_count_lem}
 use Rattle.network.specs.Record.{net_of}
 use Rattle.network.specs.declared.Network.{Network as Record}
-use Rattle.netfile.specs.Answers.{places_of, flag_count, tree_answer, ask_answer, answer_of, network_in, tree_after, flags_after}
-use Rattle.netfile.specs.declared.Found.{Found}
-use Rattle.netfile.specs.declared.Answer.TheVariants.{Refused, Done}
-use Rattle.listing.specs.Listing.{answered_refused}
+use Rattle.netfile.specs.Answers.{flag_count, places_in, ask_answer, given_in, given_of, network_in, tree_after, flags_after}
+use Rattle.netfile.specs.declared.Given.{Given}
+use Rattle.listing.specs.Listing.{Tells, tells_refused}
 
 -- ---- how many places of the lists a file fills with its own tree and flags ----
 
-places_are : (t : Option (List ℕ)) → places_of (tree_answer t) ≡ length (tree_bytes t)
+places_are : (t : Option (List ℕ)) → unwrap_or (places_in t) 0 ≡ length (tree_bytes t)
 places_are None = refl
 places_are (Some kids) = refl
 
@@ -60,11 +58,11 @@ flags_part N t (flagged f) l (h, b) r =
 -- ---- the answer ----
 
 -- after an answer: the network is small, the lists have their places, and what is left is to price
-pub record Whole (file : List ℕ) (f : Found) (R : Record) (kids flags : List ℕ) : Type 0 where
+pub record Whole (file : List ℕ) (f : Given) (R : Record) (kids flags : List ℕ) : Type 0 where
   pub few : R.leaf_count ≤ 128
-  pub tree_room : places_of f.tree ≤ 254
+  pub tree_room : unwrap_or f.tree 0 ≤ 254
   pub flag_room : flag_count f.ask ≤ 256
-  pub rest : (size : ℕ) → host_call size file ≡ listing_call size (net_of R) (take (flag_count f.ask) flags) (take (places_of f.tree) kids)
+  pub rest : (size : ℕ) → host_call size file ≡ listing_call size (net_of R) (take (flag_count f.ask) flags) (take (unwrap_or f.tree 0) kids)
 
 host_done : (size : ℕ) (file : List ℕ) (c : Contents) → read_of 254 256 file ≡ Ok c
     → host_call size file ≡ listing_call size c.network (flag_bytes c.ask) (tree_bytes c.tree)
@@ -79,35 +77,35 @@ module _ (file a b : List ℕ) (h : length a ≡ 254) (k : length b ≡ 256) whe
   same_read : read_of (length a) (length b) file ≡ read_of 254 256 file
   same_read = cc
 
-  refused_cases : (x : Result Contents Refusal) {n : ℕ} → x ≡ read_of 254 256 file → Refused n ≡ answer_of x → (size : ℕ) (out : List ℕ)
-      → Answered (host_call size file) n out out
-  refused_cases (Err r) {n} e q size out = let w : n ≡ number_of r = cc in answered_refused r out (host_refused size file r (sym e)) w
+  refused_cases : (x : Result Contents Refusal) {r : Refusal} → x ≡ read_of 254 256 file → Err r ≡ given_of x → (size : ℕ) (out : List ℕ)
+      → Tells (host_call size file) (Err r) out out
+  refused_cases (Err k) {r} e q size out = let w : k ≡ r = cc in tells_refused r out (host_refused size file r (sym e ∙ ap Err w))
   refused_cases (Ok c) e q size out = absurd (let w : ◌≡◌ {A = ℕ} 0 1 = cc in omega arith)
 
-  done_cases : (x : Result Contents Refusal) {f : Found} {R : Record} {kids flags : List ℕ} → x ≡ read_of 254 256 file → ((i : ℕ) → get_or file i 0 < 256)
-      → Done f ≡ answer_of x → net_of R ≡ network_in x → kids ≡ tree_after x a → flags ≡ flags_after x b → Whole file f R kids flags
+  done_cases : (x : Result Contents Refusal) {f : Given} {R : Record} {kids flags : List ℕ} → x ≡ read_of 254 256 file → ((i : ℕ) → get_or file i 0 < 256)
+      → Ok f ≡ given_of x → net_of R ≡ network_in x → kids ≡ tree_after x a → flags ≡ flags_after x b → Whole file f R kids flags
   done_cases (Err r) e bytes q n s t = absurd (let w : ◌≡◌ {A = ℕ} 0 1 = cc in omega arith)
   done_cases (Ok c) {f} {R} {kids} {flags} e bytes q n s t =
-      let found : f ≡ record { tree = tree_answer c.tree; ask = ask_answer c.ask } = cc in
+      let found : f ≡ given_in c.tree c.ask = cc in
       let (lawful, (r, u), _) = (reads_just 254 256 file c (all_bytes file (λ i _. bytes i))).0 (sym e) in
       let (i, x) = tree_part c.network c.tree c.ask a lawful.tree (subst (λ p. RoomForTree c.network p c.tree) (sym h) r) in
       let (j, y) = flags_part c.network c.tree c.ask b lawful.ask (subst (λ p. RoomForFlags c.network p c.ask) (sym k) u) in
-      let places : places_of f.tree ≡ length (tree_bytes c.tree) = ap (λ z. places_of z.tree) found ∙ places_are c.tree in
+      let places : unwrap_or f.tree 0 ≡ length (tree_bytes c.tree) = ap (λ z. unwrap_or z.tree 0) found ∙ places_are c.tree in
       let count : flag_count f.ask ≡ length (flag_bytes c.ask) = ap (λ z. flag_count z.ask) found ∙ count_is c.ask in
       record {
         few = omega (arith, leaf_count_lem R, ap leaf_count n, (accepted_parts c.network lawful.network).0.few);
         tree_room = omega arith;
         flag_room = omega arith;
         rest = λ size. host_done size file c (sym e)
-            ∙ sym (ap₂ (λ N l. listing_call size N l (take (places_of f.tree) kids)) n (ap₂ take count t ∙ y)
+            ∙ sym (ap₂ (λ N l. listing_call size N l (take (unwrap_or f.tree 0) kids)) n (ap₂ take count t ∙ y)
             ∙ ap (listing_call size c.network (flag_bytes c.ask)) (ap₂ take places s ∙ x));
       }
 
   -- the reader's answer, a refusal or what is found
-  pub read_refused : {n : ℕ} → Refused n ≡ answer_of (read_of (length a) (length b) file) → (size : ℕ) (out : List ℕ) → Answered (host_call size file) n out out
+  pub read_refused : {r : Refusal} → Err r ≡ given_of (read_of (length a) (length b) file) → (size : ℕ) (out : List ℕ) → Tells (host_call size file) (Err r) out out
   read_refused = refused_cases (read_of (length a) (length b) file) same_read
 
-  pub read_done : {f : Found} {R : Record} {kids flags : List ℕ} → ((i : ℕ) → get_or file i 0 < 256)
-      → Done f ≡ answer_of (read_of (length a) (length b) file) → net_of R ≡ network_in (read_of (length a) (length b) file)
+  pub read_done : {f : Given} {R : Record} {kids flags : List ℕ} → ((i : ℕ) → get_or file i 0 < 256)
+      → Ok f ≡ given_of (read_of (length a) (length b) file) → net_of R ≡ network_in (read_of (length a) (length b) file)
       → kids ≡ tree_after (read_of (length a) (length b) file) a → flags ≡ flags_after (read_of (length a) (length b) file) b → Whole file f R kids flags
   read_done = done_cases (read_of (length a) (length b) file) same_read

@@ -1,10 +1,10 @@
 #![tactic(auto)]
 // The listing of a priced tree as bytes: a head, and ten bytes a step; of a network in memory, and of a file.
-ghost use Rattle.std.specs.Prelude.{◌≡◌, ◌≤◌, ◌*◌, length, take};
+ghost use Rattle.std.specs.Prelude.{◌≡◌, ◌≤◌, ◌*◌, length, take, unwrap_or};
 ghost use Rattle.spec.specs.Memory.{placed};
 ghost use Rattle.spec.specs.Host.{two_each, head_bytes, listing_call, host_call, Answered};
 ghost use Rattle.network.specs.Record.{net_of};
-ghost use Rattle.netfile.specs.Answers.{places_of, flag_count};
+ghost use Rattle.netfile.specs.Answers.{flag_count};
 ghost use Rattle.spec.specs.Refusal.{code_of};
 ghost use Rattle.spec.specs.FileClaims.{refusal_in};
 ghost use Rattle.listing.specs.Listing.{FullRoom, Tells};
@@ -12,7 +12,7 @@ ghost use Rattle.listing.specs.Listing.{FullRoom, Tells};
 pub mod bytes; // bytes.rt: numbers as bytes, high byte first
 pub mod head; // head.rt: the listing's head
 
-use netfile::{Answer, Found};
+use netfile::Given;
 use network::{Network, refusal};
 use pricing::list::PriceList;
 use spec::{Prices, Refusal};
@@ -69,22 +69,31 @@ pub fn list(network: &Network, flags: &[u8], kids: &[u16], out: &mut [u8]) -> Re
     list_with(network, flags, kids, &mut ws, &mut list, &mut steps, out)
 }
 
-// Lists a network with the tree and the flags that were found.
-fn price_found(
+// Lists a network with the tree and the flags that its file has.
+fn price_given(
     network: &Network,
-    found: Found,
+    given: &Given,
     tree: &[u16],
     flags: &[u8],
     out: &mut [u8],
 ) -> Result<(), Refusal>
-    requires { (network.now.leaf_count ≤ 128) × (places_of found.tree ≤ length tree.now) × (flag_count found.ask ≤ length flags.now) }
-    ensures { Tells (listing_call (length out.old) (net_of network.now) (take (flag_count found.ask) flags.now) (take (places_of found.tree) tree.now)) result out.old out.new }
+    requires { (network.now.leaf_count ≤ 128) × (unwrap_or given.now.tree 0 ≤ length tree.now) × (flag_count given.now.ask ≤ length flags.now) }
+    ensures { Tells (listing_call (length out.old) (net_of network.now) (take (flag_count given.now.ask) flags.now) (take (unwrap_or given.now.tree 0) tree.now)) result out.old out.new }
 {
-    let found_tree = found.tree;
-    let found_ask = found.ask;
-    let places = netfile::tree_places(found_tree);
-    let count = netfile::flag_count(found_ask);
+    let places = given.tree.unwrap_or(0);
+    let count = netfile::flag_count(given.ask);
     list(network, &flags[..count], &tree[..places], out)
+}
+
+/// Reads the file, and lists its network with its own tree and flags. The reader's refusals come first, then those of `list`.
+pub fn price_file(file: &[u8], out: &mut [u8]) -> Result<(), Refusal>
+    ensures { Tells (host_call (length out.old) file.now) result out.old out.new }
+{
+    let mut tree = [0u16; 254];
+    let mut flags = [0u8; 256];
+    let mut network = Network::empty();
+    let given = netfile::read_network(file, &mut network, &mut tree, &mut flags)?;
+    price_given(&network, &given, &tree, &flags, out)
 }
 
 // The number of an answer's refusal, 0 where there is none.
@@ -97,19 +106,9 @@ fn number(answer: Result<(), Refusal>) -> u8
     }
 }
 
-/// Reads the file, and lists its network with its own tree and flags.
+// The same by number, for the C host.
 pub fn price(file: &[u8], out: &mut [u8]) -> u8
     ensures { Answered (host_call (length out.old) file.now) result out.old out.new }
 {
-    let mut tree = [0u16; 254];
-    let mut flags = [0u8; 256];
-    let reading = netfile::read(file, &mut tree, &mut flags);
-    let answer = reading.answer;
-    match answer {
-        Answer::Refused(number) => number,
-        Answer::Done(found) => {
-            let network = reading.network;
-            number(price_found(&network, found, &tree, &flags, out))
-        }
-    }
+    number(price_file(file, out))
 }

@@ -12,7 +12,7 @@ ghost use Rattle.live.specs.Merged.{merged_set, pair_bits, word_at};
 use tables::slotted::Tables;
 use tables::{OUTSIDE, THRICE, TWICE, WIDTH};
 
-/// Word `k` of slot `s`.
+/// Word `k` of slot `s`. The read is total, as the definition's: past the end a slot is empty.
 #[inline]
 fn word(sets: &[u64], s: usize, k: usize) -> u64
     requires { (s < 1048576) × (k < 1048576) }
@@ -26,6 +26,7 @@ pub fn share(sets: &[u64], x: usize, y: usize) -> bool
     requires { (x < 1048576) × (y < 1048576) }
     ensures { result ≡ shares sets.now 4 x y }
 {
+    // By the number of a word: two slots of one list are read side by side.
     for k in 0..WIDTH {
         let a = word(sets, x, k);
         let b = word(sets, y, k);
@@ -74,6 +75,7 @@ fn put_words(sets: &mut [u64], k: usize, two: u64, three: u64)
 pub fn put_holders(sets: &mut [u64], live: &[u8])
     ensures { sets.new ≡ with_holders sets.old 4 live.now (length live.now) }
 {
+    // By the number of a word: the list that is read is also written.
     for k in 0..WIDTH {
         let held = count_holders(sets, live, k);
         let staying = word(sets, OUTSIDE, k);
@@ -99,6 +101,7 @@ pub fn merged_size(sets: &[u64], x: usize, y: usize, weights: &[u8]) -> usize
     ensures { result ≡ pair_bits sets.now 4 weights.now x y }
 {
     let mut sum: usize = 0;
+    // By the number of a word: four slots are read side by side.
     for k in 0..WIDTH {
         let v = merged_word(sets, x, y, k);
         sum += slots::weigh_word(v, k * 64, weights, &weights[..0]);
@@ -111,6 +114,7 @@ pub fn put_merged(sets: &mut [u64], x: usize, y: usize, z: usize)
     requires { (x < 1048576) × (y < 1048576) × (z < 1048576) }
     ensures { sets.new ≡ with_set sets.old 4 z (merged_set sets.old 4 x y) }
 {
+    // By the number of a word: the list that is read is also written.
     for k in 0..WIDTH {
         let v = merged_word(sets, x, y, k);
         cells::put(sets, z * WIDTH + k, v);

@@ -27,6 +27,7 @@ fn add_slot(words: &mut [u64], w: usize, c: usize, sets: &[u64], s: usize)
 {
     let p = c * w;
     let q = s * w;
+    // reads and writes past an end are allowed here: slices of both lists would ask for bounds first
     for k in 0..w {
         let x = cells::get_or(words, p + k, 0);
         let y = cells::get_or(sets, q + k, 0);
@@ -41,6 +42,7 @@ fn take_slot(words: &mut [u64], w: usize, c: usize, sets: &[u64], s: usize)
 {
     let p = c * w;
     let q = s * w;
+    // reads and writes past an end are allowed here: slices of both lists would ask for bounds first
     for k in 0..w {
         let x = cells::get_or(words, p + k, 0);
         let y = cells::get_or(sets, q + k, 0);

@@ -45,6 +45,7 @@ fn weigh_word(x: u64, base: usize, weights: &[u8]) -> usize
     ensures { (result ≡ weight_below weights.now base 64 x) × (result ≤ 512) }
 {
     let mut sum: usize = 0;
+    // i is a digit's place as well as a weight's: an iterator over the weights would need it too
     for i in 0..64 {
         sum += ((x >> i) % 2) as usize * weights[base + i] as usize;
     }
@@ -66,6 +67,7 @@ pub fn unions(united: &mut [[u64; 2]])
     requires { (1 ≤ length united.old) × (length united.old ≤ 4096) }
     ensures { United united.old united.new (length united.old) (length united.old) }
 {
+    // s is a mask, and rows before it are read: no iterator lends these beside the row that is written
     for s in 1..united.len() {
         let rest = s & (s - 1);
         if rest != 0 {
@@ -81,6 +83,7 @@ pub fn keep_sets(united: &[[u64; 2]], weights: &[u8], kept: &mut [[u64; 2]], bit
     ensures { KeptBelow united.now weights.now kept.new bits.new (length united.now) (length united.now) }
 {
     let n = united.len();
+    // s is a mask, and rows on both sides of it are read
     for s in 1..n {
         let outside = unite(united[0], united[n - 1 - s]);
         let row = meet(united[s], outside);

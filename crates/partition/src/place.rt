@@ -36,6 +36,7 @@ impl Place {
         ensures { IsCutWeight words.now self.now.nets self.now.sides weights.now self.now.net_count self.now.vertex_count result }
     {
         let mut c = 0.0;
+        // By number: the nets are slots of the words, and no list.
         for e in 0..self.net_count {
             c = self.cut_step(words, weights, e, c);
         }

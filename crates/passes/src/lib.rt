@@ -113,6 +113,7 @@ pub fn improve(
     let mut rebuilt: u64 = 0;
     let mut tried: u64 = 0;
     let mut left = most;
+    // stops after a pass that rebuilds nothing: a loop over counts would need a break for it
     while 0 < left {
         let made = pass(words, list, kids, network, search);
         rebuilt += made.rebuilt;

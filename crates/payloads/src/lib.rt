@@ -102,6 +102,7 @@ pub fn check_tree(bytes: &[u8], n: usize) -> Result<(), Refusal>
 pub fn copy_bytes(to: &mut [u16], bytes: &[u8])
     ensures { to.new ≡ over to.old bytes.now }
 {
+    // by number: of a list that is written through a zip only the length is known afterwards
     for k in 0..to.len().min(bytes.len()) {
         to[k] = u16::from(bytes[k]);
     }

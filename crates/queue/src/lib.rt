@@ -100,6 +100,7 @@ pub fn enter(graph: &Hypergraph, entries: &mut [Entry], draws: &mut Draws, v: us
 pub fn enter_all(graph: &Hypergraph, entries: &mut [Entry], draws: &mut Draws)
     ensures { AllEntered graph.now.words.now graph.now.place graph.now.weights.now graph.now.place.vertex_count (queue_in entries.old draws.old) (queue_in entries.new draws.new) }
 {
+    // By number: the entries may be fewer than the vertices, and a write past their end does nothing.
     for v in 0..graph.place.vertex_count {
         enter(graph, entries, draws, v, 0);
     }

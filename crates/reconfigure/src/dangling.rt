@@ -31,6 +31,7 @@ fn tally_leaves<'a>(tally: &mut [u8], n: usize, counts: &'a [u8], legs: &'a [u16
     requires { Rows n counts.now legs.now }
     ensures { tally.new ≡ tally_rows tally.old (leaves_of n counts.now legs.now) }
 {
+    // i is the leaf that `scan::leaf` cuts out of both lists
     for i in 0..n {
         tally_row(tally, scan::leaf(counts, legs, i));
     }

@@ -57,6 +57,7 @@ fn put_outside(sets: &mut [u64], n: usize, counts: &[u8], legs: &[u16], outputs:
     ensures { sets.new ≡ outside_to 4 counts.now legs.now sets.old outputs.now n }
 {
     put_list(sets, OUTSIDE, outputs);
+    // Over numbers: the leaves that are not planned stand in no list.
     for l in 0..n {
         put_other(sets, counts, legs, l);
     }
@@ -84,6 +85,7 @@ pub fn weigh_all(sizes: &mut [u16], sets: &[u64], weights: &[u8], n: usize)
     requires { (n < 1048576) × Light weights.now }
     ensures { sizes.new ≡ with_sizes sets.now 4 weights.now sizes.old n }
 {
+    // By an index, which is also the slot that is weighed.
     for i in 0..n {
         let bits = slots::weigh(sets, WIDTH, i, i, weights, &weights[..0]);
         cells::put(sizes, i, bits as u16);
@@ -95,6 +97,7 @@ pub fn count_up(list: &mut [u16], n: usize)
     requires { n < 65536 }
     ensures { list.new ≡ put_all (λ i. i) list.old n }
 {
+    // By an index, which is also what is written.
     for i in 0..n {
         cells::put(list, i, i as u16);
     }

@@ -48,6 +48,7 @@ impl<'a> Listed<'a> {
         ensures written { Puts text.old (spaced (keep (held self.now.sets.now self.now.width v) (range self.now.index_count))) text.new }
         ensures short { text.new.len ≤ text.old.len + 914 }
     {
+        // by number: an index is what is tested and printed
         for j in 0..self.index_count {
             self.put_member(text, v, j);
         }
@@ -89,6 +90,7 @@ impl<'a> Listed<'a> {
         ensures written { Puts text.old (lines_of step_line (steps_from self.now.steps.now self.now.sets.now self.now.width self.now.index_count n)) text.new }
         ensures short { text.new.len ≤ text.old.len + n * 949 }
     {
+        // by number: a step is read by its number, and 0 past the listing's end
         for k in 0..n {
             self.put_step(text, k);
         }

@@ -44,8 +44,8 @@ pub fn next_tree<R: Read>(input: &mut R, tree: &mut [u16]) -> io::Result<usize>
     ensures { IfOk result (λ n. n ≤ length tree.new) }
 {
     let places = next_number(input)?.min(tree.len());
-    for i in 0..places {
-        tree[i] = u16::from(input.read_u8()?);
+    for place in &mut tree[..places] {
+        *place = u16::from(input.read_u8()?);
     }
     Ok(places)
 }

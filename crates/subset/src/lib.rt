@@ -91,6 +91,7 @@ fn cheapest_split(tables: &Tables, cost: &[u64], low: usize, rest: usize) -> Cho
         part: 0,
     };
     let mut sub = rest;
+    // the form that a rule names: a loop whose break has the value
     let cheapest = loop {
         if sub == 0 {
             break found;
@@ -152,6 +153,7 @@ fn fill(tables: &Tables, limit: Option<u16>, cost: &mut [u64], part: &mut [u64])
     ensures { Filled (best_at cost.new) (split_at part.new) (work_at tables.now.kept.now tables.now.weights.now) (length tables.now.bits.now) limit (length tables.now.bits.now) result }
 {
     let mut tried: u64 = 0;
+    // s is a mask, and costs before it are read: no iterator lends these beside the one that is written
     for s in 1..tables.len() {
         let e = search_mask(tables, cost, limit, s);
         cost[s] = e.cost;

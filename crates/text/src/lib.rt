@@ -16,7 +16,8 @@ use steplines::listed::Listed;
 
 /// Puts the line of a refusal at the front of a buffer, and returns how long it is.
 pub fn put_refusal(out: &mut [u8], refusal: Refusal) -> usize
-    ensures { Put out.old out.new 0 result (refused_line (number_of refusal)) × (result ≤ 131072) }
+    ensures written { Put out.old out.new 0 result (refused_line (number_of refusal)) }
+    ensures short { result ≤ 131072 }
 {
     let mut text = Text::new(out);
     text.put_line(b"refused", u64::from(refusal.number()));
