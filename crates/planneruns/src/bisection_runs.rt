@@ -1,26 +1,18 @@
 // Plans stored network files by bisection and writes a line for each.
 // The form of input and output is stated in harness/src/bisection/record.rs, which makes both.
-use bisection::Bisected;
 use byteorder::{BigEndian, ReadBytesExt};
 use network::Network;
 use std::io::{self, Read, Write};
 
 // The plan of a network and the words that it took, or the number of the refusal.
-fn plan<W: Write>(out: &mut W, network: Network, asked: usize, draws: &[u64]) -> io::Result<()> {
+fn plan<W: Write>(out: &mut W, network: &Network, asked: usize, draws: &[u64]) -> io::Result<()> {
     let mut tree = [0u16; 254];
     let mut ws = [0u64; 32768];
     let places = (network.leaf_count % 256).saturating_sub(1) * 2;
-    let bisected = bisection::bisection(
-        network,
-        asked / 65536,
-        asked % 65536,
-        draws,
-        &mut tree,
-        &mut ws,
-    );
-    match bisected {
-        Bisected::Refused(refusal) => write!(out, "refused {refusal}")?,
-        Bisected::Done(taken) => {
+    let (imbalance, cutoff) = (asked / 65536, asked % 65536);
+    match bisection::plan(network, imbalance, cutoff, draws, &mut tree, &mut ws) {
+        Err(refusal) => write!(out, "refused {}", refusal.number())?,
+        Ok(taken) => {
             write!(out, "taken {taken}")?;
             stored::write_numbers(out, &tree[..places.min(254)])?;
         }
@@ -44,7 +36,7 @@ fn next_case<R: Read, W: Write>(input: &mut R, out: &mut W) -> io::Result<()> {
     let count = stored::next_number(input)?.min(65536);
     put_words(&mut words[..count], input.read_u64::<BigEndian>()?);
     let network = stored::next_network(input, out)?;
-    plan(out, network, asked, &words[..count])
+    plan(out, &network, asked, &words[..count])
 }
 
 /// All cases.

@@ -1,17 +1,16 @@
 // Plans stored network files by greedy and writes a line for each.
 // The form of input and output is stated in harness/src/greedy/record.rs, which makes both.
-use greedy::Planned;
 use network::Network;
 use std::io::{self, Read, Write};
 
 // The plan of a network, or the number of the refusal.
-fn plan<W: Write>(out: &mut W, network: Network) -> io::Result<()> {
+fn plan<W: Write>(out: &mut W, network: &Network) -> io::Result<()> {
     let mut tree = [0u16; 254];
     let mut ws = [0u64; 4096];
     let places = (network.leaf_count % 256).saturating_sub(1) * 2;
-    match greedy::greedy(network, &mut tree, &mut ws) {
-        Planned::Refused(refusal) => write!(out, "refused {refusal}")?,
-        Planned::Done => {
+    match greedy::plan(network, &mut tree, &mut ws) {
+        Err(refusal) => write!(out, "refused {}", refusal.number())?,
+        Ok(()) => {
             write!(out, "plan")?;
             stored::write_numbers(out, &tree[..places.min(254)])?;
         }
@@ -23,7 +22,7 @@ fn plan<W: Write>(out: &mut W, network: Network) -> io::Result<()> {
 pub fn all<R: Read, W: Write>(input: &mut R, out: &mut W) -> io::Result<()> {
     for _ in 0..stored::next_number(input)? {
         let network = stored::next_network(input, out)?;
-        plan(out, network)?;
+        plan(out, &network)?;
     }
     Ok(())
 }

@@ -2,9 +2,9 @@
 // The form of input and output is stated in harness/src/reconfigure/record.rs, which makes both.
 ghost use Rattle.std.specs.Prelude.{◌≤◌};
 
-use netfile::{Ask, Given};
+use netfile::Given;
 use network::Network;
-use reconfigure::{Improved, Limit};
+use reconfigure::Ask;
 use std::io::{self, Read, Write};
 
 // What a case asks: k, how many passes, and the limit.
@@ -12,38 +12,32 @@ use std::io::{self, Read, Write};
 struct Asked {
     k: usize,
     passes: usize,
-    limit: Limit,
+    limit: Option<u16>,
 }
 
 // The limit that a number stands for: none from 65,535 on.
-fn limit_of(x: usize) -> Limit {
-    if x < 65535 {
-        return Limit::Bits(x as u16);
-    }
-    Limit::Unlimited
+fn limit_of(x: usize) -> Option<u16> {
+    if x < 65535 { Some(x as u16) } else { None }
 }
 
 // The tree improved, or the number of the refusal.
 fn improve<W: Write>(
     out: &mut W,
-    network: Network,
+    network: &Network,
     flags: &[u8],
     tree: &mut [u16],
     asked: Asked,
 ) -> io::Result<()> {
     let mut ws = [0u64; 36864];
-    let improved = reconfigure::reconfigure(
-        network,
-        asked.k,
-        asked.passes,
-        asked.limit,
+    let ask = Ask {
         flags,
-        tree,
-        &mut ws,
-    );
-    match improved {
-        Improved::Refused(refusal) => write!(out, "refused {refusal}"),
-        Improved::Done(counts) => {
+        k: asked.k,
+        passes: asked.passes,
+        limit: asked.limit,
+    };
+    match reconfigure::improve(network, &ask, tree, &mut ws) {
+        Err(refusal) => write!(out, "refused {}", refusal.number()),
+        Ok(counts) => {
             write!(out, "improved {} {}", counts.rebuilt, counts.tried)?;
             stored::write_numbers(out, tree)
         }
@@ -53,7 +47,7 @@ fn improve<W: Write>(
 // Improves the tree that was found in a file, under the flags that were.
 fn improve_given<W: Write>(
     out: &mut W,
-    network: Network,
+    network: &Network,
     given: Given,
     flags: &[u8],
     tree: &mut [u16],
@@ -61,8 +55,8 @@ fn improve_given<W: Write>(
 ) -> io::Result<()> {
     let places = given.tree.unwrap_or(0).min(tree.len());
     let count = match given.ask {
-        Ask::Plain | Ask::Target(_) => 0,
-        Ask::Flagged(count) => count.min(flags.len()),
+        netfile::Ask::Plain | netfile::Ask::Target(_) => 0,
+        netfile::Ask::Flagged(count) => count.min(flags.len()),
     };
     improve(out, network, &flags[..count], &mut tree[..places], asked)
 }
@@ -73,7 +67,7 @@ fn run<W: Write>(out: &mut W, file: &[u8], asked: Asked) -> io::Result<()> {
     let mut tree = [0u16; 254];
     let mut flags = [0u8; 256];
     match netfile::read_network(file, &mut network, &mut tree, &mut flags) {
-        Ok(given) => improve_given(out, network, given, &flags, &mut tree, asked)?,
+        Ok(given) => improve_given(out, &network, given, &flags, &mut tree, asked)?,
         Err(refusal) => write!(out, "file refused {}", refusal.number())?,
     }
     writeln!(out)

@@ -94,9 +94,9 @@ pub struct Visited {
     pub tried: u64,
 }
 
-// Visits node `v` of the tree `kids` of a network, whose price list is at hand: the region below it, down to a frontier of at most as many members as
-// asked, is rebuilt in `kids` if a tree over the members is cheaper.
-fn reconf_node(
+/// Visits node `v` of the tree `kids` of a network, whose price list is at hand: the region below it, down to a frontier of at most as many members as
+/// asked, is rebuilt in `kids` if a tree over the members is cheaper.
+pub fn reconf_node(
     words: &mut [u64],
     list: &PriceList,
     kids: &mut [u16],
