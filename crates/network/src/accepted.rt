@@ -1,4 +1,4 @@
-// The lists of a network that passed the check: made by the check alone, read by all that plan and price.
+// The lists of a network that passes the check, as its ghost field says: the check makes it, and all that plan and price read it.
 ghost use Rattle.network.specs.Lists.{Holds};
 
 /// An accepted network: at most 128 leaves of at most 32 indices each, at most 256 indices of 0 to 8 bits, at most 32 outputs; every index

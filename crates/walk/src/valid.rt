@@ -1,4 +1,4 @@
-// A tree that passed the check: made by the check alone, read by all that walk it.
+// A tree that passes the check, as its ghost field says: the check makes it, or a planner whose tree is proved to pass; all that walk a tree read it.
 ghost use Rattle.std.specs.Prelude.{◌≡◌, ◌≤◌, false};
 ghost use Rattle.spec.specs.Calls.{wrong_tree};
 
