@@ -20,7 +20,7 @@ use Rattle.spec.specs.Bisection.{Halved, left_half, right_half, small_end, join_
 use Rattle.laws.specs.BisectionHalves.{halves_length, fuel_enough}
 use Rattle.laws.specs.Booleans.{clash}
 use Rattle.merging.specs.Merge.{with_node}
-use Rattle.greedynodes.specs.Ends.{Greedied, is_refused, is_built}
+use Rattle.greedynodes.specs.Ends.{Planned, is_too_wide, is_planned}
 
 -- bisection of some leaves, with fuel enough
 unfoldable pub halved : Network → Float → ℕ → List ℕ → List Pair → Words → Result Halved Refusal
@@ -95,14 +95,10 @@ pub data Small (N : Network) (a : List Pair) (leaves kids₀ kids : List ℕ) (a
   small_built : (top : ℕ) → answer ≡ Ok top → (b : Built) → greedy_from N a (leaves_of leaves) ≡ Ok b → kids ≡ over kids₀ (flat_of b.pairs)
       → length b.pairs ≡ length a + (length leaves - 1) → (0 < length leaves → (t : Tree) × (b.tops ≡ t ∷ []) × (top ≡ number t)) → Small N a leaves kids₀ kids answer
 
--- by the number that greedy answers
-pub small_off : (N : Network) (a : List Pair) (leaves kids₀ kids : List ℕ) (r : ℕ) → Greedied N a leaves kids₀ kids r → 65536 ≤ r → Small N a leaves kids₀ kids (Err TableTooWide)
-small_off N a leaves kids₀ kids r (is_refused z q) h = small_wide refl q
-small_off N a leaves kids₀ kids r (is_built z b q w k t) h = absurd (omega arith)
-
-pub small_on : (N : Network) (a : List Pair) (leaves kids₀ kids : List ℕ) (r : ℕ) → Greedied N a leaves kids₀ kids r → r < 65536 → Small N a leaves kids₀ kids (Ok r)
-small_on N a leaves kids₀ kids r (is_refused z q) h = absurd (omega arith)
-small_on N a leaves kids₀ kids r (is_built z b q w k t) h = small_built r refl b q w k t
+-- what greedy answers says it
+pub small_is : {N : Network} {a : List Pair} {leaves kids₀ kids : List ℕ} {r : Result ℕ Refusal} → Planned N a leaves kids₀ kids r → Small N a leaves kids₀ kids r
+small_is (is_too_wide z q) = small_wide z q
+small_is (is_planned top z l b q w k t) = small_built top z b q w k t
 
 -- a refusal, after which the stated words are cleared, or the number of the tree that is built, whose array stands at the front of `kids`; and the words after it
 pub data Halves (N : Network) (eps : Float) (cutoff : ℕ) (a : List Pair) (leaves : List ℕ) (at : Words) (kids₀ kids : List ℕ) (answer : Result ℕ Refusal) (next : Words) : Type 0 where

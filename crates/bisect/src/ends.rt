@@ -3,13 +3,11 @@ ghost use Rattle.std.specs.Prelude.{List, ◌≡◌, ◌+◌, ◌<◌, ◌≤◌
 ghost use Rattle.spec.specs.Network.{Network as Net};
 ghost use Rattle.spec.specs.Tree.{Pair};
 ghost use Rattle.spec.specs.Bisection.{imbalance};
-ghost use Rattle.slots.specs.Weigh.{Light};
-ghost use Rattle.greedynodes.specs.Begin.{Fits, Asks};
+ghost use Rattle.greedynodes.specs.Begin.{Asks};
 ghost use Rattle.merging.specs.Merge.{with_node};
 ghost use Rattle.bisect.specs.Cases.{Small, Unsplit};
 
 use draws::Draws;
-use merging::REFUSED;
 use network::Accepted;
 use spec::Refusal;
 
@@ -18,6 +16,7 @@ pub fn imbalance(i: usize) -> f64
     requires { i ≤ 1000 }
     ensures { result ≡ imbalance i }
 {
+    // Stays: no `From` goes from `usize` to `f64`.
     let x = (i as f64) / 1000.0;
     if x < 0.001 {
         return 0.001;
@@ -36,6 +35,7 @@ pub fn small(cutoff: usize) -> usize
 }
 
 /// Greedy over the leaves of a small end, onto the array of `count` nodes. Returns the top of what is built.
+// Stays: `count` is how many nodes the array has so far, and `kids` is longer.
 pub fn small_end(
     ws: &mut [u64],
     network: &Accepted,
@@ -43,28 +43,14 @@ pub fn small_end(
     kids: &mut [u16],
     count: usize,
 ) -> Result<u16, Refusal>
-    requires { Fits 4 (length network.now.leg_counts.now) count network.now.weights.now network.now.outputs.now leaves.now ws.old × Light network.now.weights.now }
+    requires { (1036 ≤ length ws.old) × (length leaves.now ≤ 128) × (count < 8192) }
     ensures { (N : Net) (a : List Pair) → Asks N a (length network.now.leg_counts.now) count network.now.weights.now network.now.leg_counts.now network.now.legs.now network.now.outputs.now leaves.now kids.old → Small N a leaves.now kids.old kids.new result }
 {
-    let top = greedynodes::greedy_nodes(
-        ws,
-        4,
-        network.weights,
-        network.leg_counts.len(),
-        network.leg_counts,
-        network.legs,
-        network.outputs,
-        leaves,
-        kids,
-        count,
-    );
-    if REFUSED <= top {
-        return Err(Refusal::TableTooWide);
-    }
-    Ok(top as u16)
+    greedynodes::plan_leaves(ws, network, leaves, kids, count)
 }
 
 /// The same over leaves that were to be halved and are not: refused where a draw was due past the end of the words.
+// Stays: `count` is how many nodes the array has so far, and `kids` is longer.
 pub fn unsplit(
     ws: &mut [u64],
     network: &Accepted,
@@ -73,7 +59,7 @@ pub fn unsplit(
     kids: &mut [u16],
     count: usize,
 ) -> Result<u16, Refusal>
-    requires { Fits 4 (length network.now.leg_counts.now) count network.now.weights.now network.now.outputs.now leaves.now ws.old × Light network.now.weights.now }
+    requires { (1036 ≤ length ws.old) × (length leaves.now ≤ 128) × (count < 8192) }
     ensures { (N : Net) (a : List Pair) → Asks N a (length network.now.leg_counts.now) count network.now.weights.now network.now.leg_counts.now network.now.legs.now network.now.outputs.now leaves.now kids.old → Unsplit N a leaves.now draws.now kids.old kids.new result }
 {
     if draws.is_exhausted() {
@@ -83,11 +69,13 @@ pub fn unsplit(
 }
 
 /// The node over the tops of two halves, at place `count` of the array of a tree of `n` leaves.
+// Stays: `count` is how many nodes the array has so far, and `kids` is longer.
 pub fn join_halves(n: usize, kids: &mut [u16], count: usize, left: u16, right: u16) -> u16
     requires { (n ≤ 256) × (count ≤ 4096) }
     ensures node { kids.new ≡ with_node kids.old count left right }
     ensures top { result ≡ n + count }
 {
     merging::put_node(kids, count, left, right);
+    // Stays: the number fits by what is known here; `try_from` would add a failure that never comes.
     (n + count) as u16
 }

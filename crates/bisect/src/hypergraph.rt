@@ -13,9 +13,16 @@ fn put_leaf(words: &mut [u64], nets: usize, network: &Accepted, l: usize, v: usi
     requires { (nets < 32768) × (l < 65536) }
     ensures { words.new ≡ leaf_put nets network.now.leg_counts.now network.now.legs.now l v words.old }
 {
+    // Stays: 32 places for each leaf is the layout of the list of legs in the C interface.
     let first = l * 32;
-    for k in 0..cells::at8(network.leg_counts, l) {
-        slots::insert(words, 2, nets + cells::at16(network.legs, first + k), v);
+    // Stays: a leaf of more legs than the lists hold is read as 0 past their end, as in the definition, so its legs are no slice.
+    for k in 0..usize::from(cells::get_or(network.leg_counts, l, 0)) {
+        slots::insert(
+            words,
+            2,
+            nets + usize::from(cells::get_or(network.legs, first + k, 0)),
+            v,
+        );
     }
 }
 
@@ -31,6 +38,7 @@ fn put_leaves(words: &mut [u64], nets: usize, network: &Accepted, leaves: &[u16]
 }
 
 /// The hypergraph of `leaves`, in slots of its own, with `weights2` and `vw`. Returns how many nets it has.
+// Stays: no conversion: it fills lent words.
 pub fn hypergraph_of(
     words: &mut [u64],
     slots: Slots,

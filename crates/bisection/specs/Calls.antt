@@ -4,27 +4,13 @@ use Rattle.std.proofs.Common.{ap, ◌∙◌, arith, length-drop}
 use Rattle.spec.specs.Network.{Network}
 use Rattle.spec.specs.Tree.{Pair}
 use Rattle.bisect.specs.Whole.{Names}
-use Rattle.greedynodes.specs.Begin.{Fits, Asks}
+use Rattle.greedynodes.specs.Begin.{Asks}
 use Rattle.bisect.specs.Recursion.{rest_part}
 
 -- how long the part behind the left half is, once that is back
 pub rest_length : (l y : List ℕ) (m k : ℕ) → m ≤ length l → length y ≡ length (take m l) → k ≡ length (y ++ drop m l) - m
     → length (take k (drop m (y ++ drop m l))) ≡ length l - m
 rest_length l y m k h e q = ap length (rest_part l y m k h e q) ∙ length-drop m l
-
--- some of the leaves, and other words of the same length
-pub fits_again : {n made made' : ℕ} {weights outputs leaves leaves' ws ws' : List ℕ} → Fits 4 n made weights outputs leaves ws
-    → length leaves' ≤ length leaves → length ws' ≡ length ws → made' < 8192 → Fits 4 n made' weights outputs leaves' ws'
-fits_again f h e m =
-    record {
-      width = f.width;
-      indices = f.indices;
-      leaf_sets = f.leaf_sets;
-      few = omega (arith, f.few, h);
-      outputs_fit = f.outputs_fit;
-      words = omega (arith, f.words, e);
-      array = m;
-    }
 
 pub names_of : {N : Network} {a : List Pair} {n made : ℕ} {weights counts legs outputs leaves kids : List ℕ}
     → Asks N a n made weights counts legs outputs leaves kids → Names N weights counts legs leaves

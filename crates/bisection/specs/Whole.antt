@@ -20,11 +20,10 @@ use Rattle.cells.specs.Cells.{over-nil}
 use Rattle.network.specs.Layouts.{layout_leaf_count}
 use Rattle.network.specs.Codes.{Facts}
 use Rattle.network.specs.Lists.{lists_net}
-use Rattle.slots.specs.Weigh.{Light}
 use Rattle.start.specs.Leaves.{put_all}
 use Rattle.greedynodes.specs.Lends.{Lends, lends_layout}
-use Rattle.greedynodes.specs.Begin.{Fits, Asks}
-use Rattle.greedynodes.specs.Counted.{counted_range, light_front}
+use Rattle.greedynodes.specs.Begin.{Asks}
+use Rattle.greedynodes.specs.Counted.{counted_range}
 use Rattle.bisection.specs.Calls.{names_of}
 use Rattle.bisection.specs.Named.{Named}
 use Rattle.bisect.specs.Cases.{halved, Halves, is_off, is_tree}
@@ -59,21 +58,8 @@ module _ (weights counts cells outputs : List ℕ) (facts : Facts (length weight
     leaves_many : length leaves ≡ n
     leaves_many = ap length all_leaves ∙ range_length 0 n
 
-    -- the lengths fit, for sets of four words
-    pub whole_fits : (ws : List ℕ) → bisection_words ≤ length ws → Fits 4 n 0 weights outputs leaves ws
-    whole_fits ws h =
-        record {
-          width = omega arith;
-          indices = omega (arith, facts.few_indices);
-          leaf_sets = omega (arith, facts.few_leaves);
-          few = omega (arith, leaves_many, facts.few_leaves);
-          outputs_fit = omega (arith, facts.few_outputs);
-          words = omega arith;
-          array = omega arith;
-        }
-
-    pub whole_light : Light weights
-    whole_light = subst Light (take-length weights) (light_front (length weights) weights (omega arith) facts.weights_fit)
+    pub whole_many : length leaves ≤ 128
+    whole_many = omega (arith, leaves_many, facts.few_leaves)
 
     pub whole_few : 0 + length leaves ≤ 4096
     whole_few = omega (arith, leaves_many, facts.few_leaves)

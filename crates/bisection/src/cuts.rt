@@ -12,6 +12,7 @@ use levels::Levels;
 use network::Accepted;
 
 // A partition of the leaves, to the front of `part`. The local lists hold the weights of nets and of vertices and the map to the next level, of each level.
+// Stays: no conversion: it runs the partition and fills a lent list.
 fn partition_of(
     ws: &mut [u64],
     network: &Accepted,

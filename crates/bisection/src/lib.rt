@@ -7,8 +7,7 @@ ghost use Rattle.spec.specs.Draws.{lent_words};
 ghost use Rattle.spec.specs.Calls.{bisection_words, bisection_call, bisected_tree, workspace_after};
 ghost use Rattle.network.specs.Record.{net_of};
 ghost use Rattle.network.specs.Views.{net_in};
-ghost use Rattle.slots.specs.Weigh.{Light};
-ghost use Rattle.greedynodes.specs.Begin.{Fits, Asks};
+ghost use Rattle.greedynodes.specs.Begin.{Asks};
 ghost use Rattle.bisect.specs.Cases.{Halves};
 ghost use Rattle.bisection.specs.Named.{Named};
 ghost use Rattle.bisection.specs.Whole.{Whole};
@@ -31,6 +30,7 @@ pub enum Bisected {
 
 // Bisection of some leaves, onto the array of `count` nodes whose children stand at the front of `kids`: the new nodes' children are put after them. Returns the
 // top. It falls with the number of leaves.
+// Stays: the recursion lends the two halves of the leaves, and the rest as it came.
 fn bisect_rec(
     leaves: &mut [u16],
     ws: &mut [u64],
@@ -41,7 +41,7 @@ fn bisect_rec(
     kids: &mut [u16],
     count: usize,
 ) -> Result<u16, Refusal>
-    requires { Fits 4 (length network.now.leg_counts.now) count network.now.weights.now network.now.outputs.now leaves.old ws.old × Light network.now.weights.now × (count + length leaves.old ≤ 4096) × Named network.now.weights.now network.now.leg_counts.now network.now.legs.now leaves.old × (32768 ≤ length ws.old) }
+    requires { (length leaves.old ≤ 128) × (count + length leaves.old ≤ 4096) × Named network.now.weights.now network.now.leg_counts.now network.now.legs.now leaves.old × (32768 ≤ length ws.old) }
     ensures { (N : Net) (a : List Pair) → Asks N a (length network.now.leg_counts.now) count network.now.weights.now network.now.leg_counts.now network.now.legs.now network.now.outputs.now leaves.old kids.old → Halves N eps cutoff a leaves.old draws.old kids.old kids.new result draws.new }
 {
     let most = ends::small(cutoff);

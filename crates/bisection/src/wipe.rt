@@ -17,11 +17,11 @@ fn any_set(words: &[u64]) -> bool
 fn zero_rest(rest: &mut [u64])
     ensures { rest.new ≡ filled (length rest.old) 0 }
 {
-    let m = cells::min(24576, rest.len());
+    let m = rest.len().min(24576);
     if any_set(&rest[..m]) {
-        cells::fill64(rest, 0);
+        cells::fill(rest, 0);
     } else {
-        cells::fill64(&mut rest[m..], 0);
+        cells::fill(&mut rest[m..], 0);
     }
 }
 
@@ -29,15 +29,16 @@ fn zero_rest(rest: &mut [u64])
 fn zero(words: &mut [u64])
     ensures { words.new ≡ filled (length words.old) 0 }
 {
-    let n = cells::min(4096, words.len());
+    let n = words.len().min(4096);
     cells::clear(words, n);
     zero_rest(&mut words[n..]);
 }
 
 // Makes the first m words 0, or all where there are fewer, as `cells::clear` does.
+// Stays: the stated words are not all that are lent, and `m` may be more than there are, as `cells::clear` has it.
 pub fn wipe(words: &mut [u64], m: usize)
     ensures { words.new ≡ cleared words.old m }
 {
-    let n = cells::min(m, words.len());
+    let n = m.min(words.len());
     zero(&mut words[..n]);
 }

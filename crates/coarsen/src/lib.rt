@@ -16,18 +16,20 @@ use matching::Graph;
 use partition::{Layout, Place};
 
 // What `v` weighs with its mate.
+// Stays: no conversion: two reads and a sum.
 fn weight_of(vw: &[f64], mates: &[u16], v: usize) -> f64
     ensures { result ≡ weight_in mates.now vw.now v }
 {
-    let u = cells::at16(mates, v);
-    let x = cells::getf(vw, v);
+    let u = usize::from(cells::get_or(mates, v, 0));
+    let x = cells::get_or(vw, v, 0.0);
     if u == v {
         return x;
     }
-    x + cells::getf(vw, u)
+    x + cells::get_or(vw, u, 0.0)
 }
 
 // `v` becomes part of the next coarse vertex, `c`, unless its mate is lower: then of its mate's. Returns how many coarse vertices there are then.
+// Stays: one index names a vertex in lists that are lent by different callers, two to read and two to write.
 fn join(
     vw: &[f64],
     mates: &[u16],
@@ -39,15 +41,16 @@ fn join(
     requires { c < 65536 }
     ensures { (joined_of places.new coarse.new result ≡ joined_one vw.now mates.now v (joined_of places.old coarse.old c)) × (result ≤ c + 1) }
 {
-    let u = cells::at16(mates, v);
+    let u = usize::from(cells::get_or(mates, v, 0));
     if v <= u {
         let w = weight_of(vw, mates, v);
-        cells::put16(places, v, c as u16);
-        cells::putf(coarse, c, w);
+        // Stays: the number fits by what is known here; `try_from` would add a failure that never comes.
+        cells::put(places, v, c as u16);
+        cells::put(coarse, c, w);
         return c + 1;
     }
-    let x = cells::get16(places, u);
-    cells::put16(places, v, x);
+    let x = cells::get_or(places, u, 0);
+    cells::put(places, v, x);
     c
 }
 
@@ -57,6 +60,7 @@ fn join_all(vw: &[f64], mates: &[u16], places: &mut [u16], coarse: &mut [f64]) -
     ensures { (joined_of places.new coarse.new result ≡ joined vw.now mates.now (joined_of places.old coarse.old 0) (length vw.now)) × (result ≤ length vw.now) }
 {
     let mut c: usize = 0;
+    // Stays: the turn reads the weights at the mate too, and the definition folds over numbers.
     for v in 0..vw.len() {
         c = join(vw, mates, places, coarse, v, c);
     }
@@ -64,12 +68,18 @@ fn join_all(vw: &[f64], mates: &[u16], places: &mut [u16], coarse: &mut [f64]) -
 }
 
 // Puts the coarse vertices of the pins of a list into slot `s`.
+// Stays: the loop lends the same words to each turn; `for_each` with a closure over them is no plainer.
 fn put_coarse(graph: &mut [u64], s: usize, places: &[u16], pins: &[u16])
     requires { s < 1048576 }
     ensures { graph.new ≡ with_set graph.old 2 s (and_all graph.old 2 s (images places.now pins.now) 0 (length pins.now)) }
 {
     for &v in pins {
-        slots::insert(graph, 2, s, cells::at16(places, usize::from(v)));
+        slots::insert(
+            graph,
+            2,
+            s,
+            usize::from(cells::get_or(places, usize::from(v), 0)),
+        );
     }
 }
 
@@ -85,10 +95,12 @@ fn map_net(graph: &mut [u64], nets: usize, coarse: usize, places: &[u16], e: usi
 }
 
 // The same for each of `m` nets.
+// Stays: the loop lends the same words to each turn; `for_each` with a closure over them is no plainer.
 fn map_nets(graph: &mut [u64], nets: usize, coarse: usize, m: usize, places: &[u16])
     requires { (nets < 32768) × (coarse < 32768) × (m ≤ 256) }
     ensures { graph.new ≡ mapped nets coarse places.now graph.old m }
 {
+    // Stays: the nets are slots of lent words, and no list.
     for e in 0..m {
         map_net(graph, nets, coarse, places, e);
     }
@@ -109,6 +121,7 @@ pub struct Slots {
 }
 
 // The coarser hypergraph of a matching, in slots of its own, with `weights2` and `vw2`, and the coarse vertex of each vertex in `places`.
+// Stays: what is lent here is lent for this call alone, read or written, by callers that hold it apart; a struct of it would be made at the one call.
 fn level(
     words: &mut [u64],
     layout: &Layout,
@@ -142,6 +155,7 @@ fn is_worthwhile(n: usize, left: usize) -> bool
     requires { (n ≤ 128) × (left ≤ 128) }
     ensures { result ≡ not (enough n left) }
 {
+    // Stays: no `From` goes from `usize` to `f64`.
     if 0.95 * (n as f64) < (left as f64) {
         return false;
     }
@@ -150,6 +164,7 @@ fn is_worthwhile(n: usize, left: usize) -> bool
 
 /// A coarser hypergraph, by a matching in a drawn order, in slots of its own, with `weights2` and `vw2`, and the coarse vertex of each vertex in `places`. The
 /// list `mates` is for the matching. Returns how many nets and vertices the coarser hypergraph has; none where too many vertices are left.
+// Stays: what is lent here is lent for this call alone, read or written, by callers that hold it apart; a struct of it would be made at the one call.
 pub fn coarsen(
     words: &mut [u64],
     layout: &Layout,

@@ -19,16 +19,17 @@ pub struct Candidate {
 }
 
 // Vertex `u` is looked at if it is on side 0: its connection with a little noise, which takes a draw.
+// Stays: one index names a vertex in two lists: a side of the caller's partition, and a link made here.
 fn offer(part: &[u8], links: &[f64], draws: &mut Draws, u: usize, best: Candidate) -> Candidate
     requires { (u < length links.now) × IfSome best.vertex (λ v. v < length links.now) }
     ensures offered { strong_in result.link result.vertex draws.new ≡ offered_in part.now links.now u (strong_in best.link best.vertex draws.old) }
     ensures below { IfSome result.vertex (λ v. v < length links.now) }
 {
-    if cells::at8(part, u) != 0 {
+    if cells::get_or(part, u, 0) != 0 {
         return best;
     }
     let noise = draws.unit();
-    let x = cells::getf(links, u) + 1e-6 * noise;
+    let x = cells::get_or(links, u, 0.0) + 1e-6 * noise;
     if best.link < x {
         return Candidate {
             link: x,
@@ -48,6 +49,7 @@ pub fn strongest(part: &[u8], links: &[f64], draws: &mut Draws) -> Candidate
         link: -1.0,
         vertex: None,
     };
+    // Stays: `offer` reads two lists by the number of a vertex, and it is that number that is kept.
     for u in 0..links.len() {
         best = offer(part, links, draws, u, best);
     }
@@ -58,15 +60,15 @@ pub fn strongest(part: &[u8], links: &[f64], draws: &mut Draws) -> Candidate
 fn link(links: &mut [f64], u: usize, x: f64)
     ensures { links.new ≡ linked_pin x u links.old }
 {
-    let y = cells::getf(links, u);
-    cells::putf(links, u, y + x);
+    let y = cells::get_or(links, u, 0.0);
+    cells::put(links, u, y + x);
 }
 
 // The pins of a net of weight `w`.
 fn link_pins(links: &mut [f64], pins: &[u16], w: u8)
     ensures { links.new ≡ linked_pins (whole_float w) pins.now links.old }
 {
-    let x = w as f64;
+    let x = f64::from(w);
     for &u in pins {
         link(links, usize::from(u), x);
     }
@@ -78,7 +80,7 @@ fn link_net(graph: &Graph, pins: &mut [u16], links: &mut [f64], e: usize)
     ensures { links.new ≡ linked_net graph.now.words.now graph.now.layout.nets graph.now.layout.net_weights.now e links.old }
 {
     let len = slots::members(graph.words, 2, graph.layout.nets + e, pins, 0);
-    let w = cells::get8(graph.layout.net_weights, e);
+    let w = cells::get_or(graph.layout.net_weights, e, 0);
     link_pins(links, &pins[..len], w);
 }
 
@@ -100,6 +102,7 @@ pub struct Growth {
 }
 
 // Vertex `v` comes to side 1, which weighed `former`. Growth ends at `goal`, half of the weight.
+// Stays: what is lent here is lent for this call alone, read or written, by callers that hold it apart; a struct of it would be made at the one call.
 fn grow(
     graph: &Graph,
     goal: f64,
@@ -114,7 +117,7 @@ fn grow(
     ensures below { IfSome result.next (λ u. u < length graph.now.layout.vertex_weights.now) }
 {
     cells::put(part, v, 1);
-    let weight = former + cells::getf(graph.layout.vertex_weights, v);
+    let weight = former + cells::get_or(graph.layout.vertex_weights, v, 0.0);
     if goal <= weight {
         return Growth { weight, next: None };
     }
@@ -160,6 +163,7 @@ pub fn grow_turns(
     ensures { growth_of part.new result.weight links.new result.next draws.new ≡ grown_from (graph_of graph.now) (length graph.now.layout.vertex_weights.now + 1) (growth_of part.old growth.weight links.old growth.next draws.old) }
 {
     let mut g = growth;
+    // Stays: a number of turns, one more than there are vertices, over no list.
     for k in 0..graph.layout.vertex_weights.len() + 1 {
         g = grow_on(graph, goal, draws, part, links, g);
     }

@@ -19,6 +19,7 @@ use partition::Layout;
 /// Lists that hold what all levels weigh, and how they hang together: the weights of level l's nets stand from place 256 l on, those of its vertices and the map to
 /// the next level from place 128 l on. The slots of level l stand in words beside them: its nets from slot 512 l on, its vertices from slot 256 l + 128 on.
 #[derive(Drop)]
+// Stays: one list is by net and two are by vertex, and they are lent one by one to each level.
 pub struct Levels<'a> {
     pub net_weights: &'a mut [u8],
     pub vertex_weights: &'a mut [f64],
@@ -44,7 +45,8 @@ pub fn front_weight(levels: &Levels, n: usize) -> f64
     total_weight(&levels.vertex_weights[..n])
 }
 
-// The greater of two numbers, and the lesser.
+// The greater of two numbers.
+// Stays: a comparison of f64 that the definition names: std's `max` answers otherwise for a number that is not one.
 fn greater(x: f64, y: f64) -> f64
     ensures { result ≡ greater x y }
 {
@@ -54,6 +56,8 @@ fn greater(x: f64, y: f64) -> f64
     x
 }
 
+// The lesser of two numbers.
+// Stays: a comparison of f64 that the definition names: std's `min` answers otherwise for a number that is not one.
 fn lesser(x: f64, y: f64) -> f64
     ensures { result ≡ lesser x y }
 {
@@ -74,12 +78,13 @@ pub fn side_limit(total: f64, eps: f64) -> f64
 }
 
 // Each vertex comes to the side of the coarse vertex that it is part of.
+// Stays: an iterator already: each place is read and written once.
 fn project(part: &mut [u8], coarse: &[u8], places: &[u16])
     requires { length part.old ≡ length places.now }
     ensures { part.new ≡ map (side_of coarse.now) places.now }
 {
     for (v, side) in part.iter_mut().enumerate() {
-        let c = cells::at16(places, v);
+        let c = usize::from(cells::get_or(places, v, 0));
         *side = cells::get_or(coarse, c, 0);
     }
 }
@@ -90,6 +95,7 @@ pub fn project_at(part: &mut [u8], levels: &Levels, level: usize, n: usize, coar
     ensures { take n part.new ≡ map (side_of (take coarse part.old)) (span (level * 128) (level * 128 + n) levels.now.places.now) }
 {
     let mut former = [0u8; 128];
+    // Stays: the list holds all levels, 128 vertices for each; no list of lists without a heap.
     let first = level * 128;
     let end = first + n;
     cells::copy(&mut former, part, coarse);
@@ -113,8 +119,10 @@ pub fn refine_at(
     requires { Stage words.old (length levels.now.net_weights.now) (length levels.now.vertex_weights.now) (length levels.now.places.now) level size.nets size.vertices × (size.vertices ≤ length part.old) × Bits (take size.vertices part.old) }
     ensures { Gives size.vertices (fm (graph_at words.old levels.now.net_weights.now levels.now.vertex_weights.now level size.nets size.vertices) most_weight 4 (take size.vertices part.old) draws.old) words.old words.new part.new draws.new }
 {
+    // Stays: the lists hold all levels, 256 nets and 128 vertices for each, as the lent words do; no list of lists without a heap.
     let net = level * 256;
     let nets = net + 256;
+    // Stays: 128 places for each level, as above.
     let first = level * 128;
     let end = first + size.vertices;
     let layout = Layout {
@@ -149,8 +157,10 @@ pub fn initial_at(
     ensures { Gives size.vertices (initial (graph_at words.old levels.now.net_weights.now levels.now.vertex_weights.now level size.nets size.vertices) most_weight draws.old) words.old words.new part.new draws.new }
 {
     let mut trial = [0u8; 128];
+    // Stays: the lists hold all levels, 256 nets and 128 vertices for each, as the lent words do; no list of lists without a heap.
     let net = level * 256;
     let nets = net + 256;
+    // Stays: 128 places for each level, as above.
     let first = level * 128;
     let end = first + size.vertices;
     let layout = Layout {
@@ -174,6 +184,7 @@ pub fn initial_at(
 }
 
 // The coarser hypergraph of a level, at the next level, by lists of its own that are put into those of all levels.
+// Stays: the fields of `Levels` one by one: the proof names what becomes of each; the local lists are of one level.
 fn coarsen_lists(
     words: &mut [u64],
     net_weights: &mut [u8],
@@ -193,8 +204,10 @@ fn coarsen_lists(
     let mut weights2 = [0u8; 256];
     let mut vw2 = [0.0f64; 128];
     let mut mates = [0u16; 128];
+    // Stays: the lists hold all levels, 256 nets and 128 vertices for each, as the lent words do; no list of lists without a heap.
     let net = level * 256;
     let nets = net + 256;
+    // Stays: 128 places for each level, as above.
     let first = level * 128;
     let end = first + size.vertices;
     let next = level + 1;

@@ -3,8 +3,9 @@ use Rattle.std.specs.Prelude.{Err, Ok}
 use Rattle.bisect.specs.Recursion.{rest_part, rec_small, cut_same, rec_unsplit, left_asks, rec_left, rec_joined}
 use Rattle.bisect.specs.Cases.{is_right, is_node}
 use Rattle.greedynodes.specs.Begin.{Asks}
-use Rattle.bisection.specs.Calls.{rest_length, fits_again, names_of}
+use Rattle.bisection.specs.Calls.{rest_length, names_of}
 use Rattle.bisection.specs.Named.{left_named, right_named}
+use Rattle.network.specs.Views.{in_facts}
 use Rattle.bisection.proofs.+bisect_rec.Goals as goal
 
 pub returns-then-all-most : goal.returns-then-all-most
@@ -16,12 +17,25 @@ returns-in-None t c = let a = c.args in let n = a.network.now in λ N b s.
     rec_unsplit N a.eps a.cutoff b a.leaves.now a.draws.now a.kids.now (omega (arith, c.if-all-most.false, c.small-most.ensures)) _ 0 _ cut refl _ _
     (c.unsplit.ensures N b (subst (λ l. Asks N b (length n.leg_counts.now) a.count n.weights.now n.leg_counts.now n.legs.now n.outputs.now l a.kids.now) (sym (cut_same N a.eps a.cutoff b a.leaves.now a.draws.now a.kids.now _ 0 _ cut refl)) s))
 
+pub cut_leaves-requires : goal.cut_leaves-requires
+cut_leaves-requires t c =
+    let n = c.args.network.now in (
+      omega (arith, (in_facts n n.holds).few_indices),
+      omega (arith, c.if-all-most.false, c.small-most.ensures),
+      c.requires.0,
+      c.requires.2,
+      c.requires.3,
+    )
+
+pub join_halves-requires : goal.join_halves-requires
+join_halves-requires t c = let n = c.args.network.now in (omega (arith, (in_facts n n.holds).few_leaves), omega (arith, c.requires.1))
+
 pub bisect_rec-requires : goal.bisect_rec-requires
 bisect_rec-requires t c =
     let a = c.args in let n = a.network.now in let cut = c.cut_leaves in let cl = cut.new.leaves in let left = c.in-Some.left in let lb = c.in-Some.ensures.left_in_bounds in
     let z = length-take-le left cl (omega (arith, lb.1)) in (
       omega (arith, z, lb.1, c.decreases),
-      (fits_again c.requires.0 (omega (arith, z, lb.1)) (omega arith) c.requires.0.array, c.requires.1, omega (arith, z, lb.1, c.requires.2), left_named _ _ _ _ c.requires.3 _ _ cl _ _ (c.in-Some.ensures.cut_by _ c.requires.3.names), omega (arith, c.requires.4)),
+      (omega (arith, c.requires.0, z, lb.1), omega (arith, z, lb.1, c.requires.1), left_named _ _ _ _ c.requires.2 _ _ cl _ _ (c.in-Some.ensures.cut_by _ c.requires.2.names), omega (arith, c.requires.3)),
     )
 
 pub returns-in_err-first-in-Some : goal.returns-in_err-first-in-Some
@@ -43,11 +57,10 @@ bisect_rec-requires-in-Some t c =
     let z = rest_length cl y left _ h c.bisect_rec.auto.leaves refl in (
       omega (arith, z, lb.0, lb.1, c.decreases),
       (
-        fits_again c.requires.0 (omega (arith, z)) (omega arith) (omega (arith, lb.1, c.requires.2)),
-        c.requires.1,
-        omega (arith, z, lb.0, lb.1, c.requires.2),
-        right_named _ _ _ _ c.requires.3 _ _ cl _ _ (c.in-Some.ensures.cut_by _ c.requires.3.names) y _ h c.bisect_rec.auto.leaves refl,
-        omega (arith, c.requires.4),
+        omega (arith, c.requires.0, z),
+        omega (arith, z, lb.0, lb.1, c.requires.1),
+        right_named _ _ _ _ c.requires.2 _ _ cl _ _ (c.in-Some.ensures.cut_by _ c.requires.2.names) y _ h c.bisect_rec.auto.leaves refl,
+        omega (arith, c.requires.3),
       ),
     )
 

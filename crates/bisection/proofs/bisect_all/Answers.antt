@@ -1,12 +1,11 @@
-use Rattle.bisection.specs.Whole.{whole_fits, whole_light, whole_few, whole_named, whole_answer}
+use Rattle.bisection.specs.Whole.{whole_many, whole_few, whole_named, whole_answer}
 use Rattle.network.specs.Views.{in_facts}
 use Rattle.std.proofs.Common.{arith, ap, sym, length, take, length-take-le}
 use Rattle.bisection.proofs.bisect_all.Goals as goal
 
 pub bisect_rec-requires : goal.bisect_rec-requires
 bisect_rec-requires c = let a = c.args in let n = a.network.now in let f = in_facts n n.holds in (
-  whole_fits n.weights.now n.leg_counts.now n.legs.now n.outputs.now f _ (omega arith) _ (ap (take (length n.leg_counts.now)) c.count_up.ensures) a.ws.now c.requires.0,
-  whole_light n.weights.now n.leg_counts.now n.legs.now n.outputs.now f _ (omega arith) _ (ap (take (length n.leg_counts.now)) c.count_up.ensures),
+  whole_many n.weights.now n.leg_counts.now n.legs.now n.outputs.now f _ (omega arith) _ (ap (take (length n.leg_counts.now)) c.count_up.ensures),
   whole_few n.weights.now n.leg_counts.now n.legs.now n.outputs.now f _ (omega arith) _ (ap (take (length n.leg_counts.now)) c.count_up.ensures),
   whole_named n.weights.now n.leg_counts.now n.legs.now n.outputs.now f _ (omega arith) _ (ap (take (length n.leg_counts.now)) c.count_up.ensures) a.kids.now,
   c.requires.0,

@@ -5,8 +5,8 @@ use Rattle.growth.proofs.offer.Goals as goal
 
 pub returns-then-best-x-clause-offered : goal.returns-then-best-x-clause-offered
 unfolding of_bits round
-returns-then-best-x-clause-offered c = let a = c.args in offered_better a.part.now a.links.now a.draws.now _ a.u c.unit-noise.result c.getf.result a.best.link a.best.vertex c.unit-noise.ensures.value c.unit-noise.ensures.words c.getf.ensures _ refl c.if-best-x.true (sym c.at8.ensures.0 ∙ c.if-at8-ne0.false)
+returns-then-best-x-clause-offered c = let a = c.args in offered_better a.part.now a.links.now a.draws.now _ a.u c.unit-noise.result c.get_or-2.result a.best.link a.best.vertex c.unit-noise.ensures.value c.unit-noise.ensures.words c.get_or-2.ensures _ refl c.if-best-x.true (sym c.get_or.ensures ∙ c.if-get_or-ne0.false)
 
 pub returns-clause-offered : goal.returns-clause-offered
 unfolding of_bits round
-returns-clause-offered c = let a = c.args in offered_weak a.part.now a.links.now a.draws.now _ a.u c.unit-noise.result c.getf.result a.best.link a.best.vertex c.unit-noise.ensures.value c.unit-noise.ensures.words c.getf.ensures _ refl c.if-best-x.false (sym c.at8.ensures.0 ∙ c.if-at8-ne0.false)
+returns-clause-offered c = let a = c.args in offered_weak a.part.now a.links.now a.draws.now _ a.u c.unit-noise.result c.get_or-2.result a.best.link a.best.vertex c.unit-noise.ensures.value c.unit-noise.ensures.words c.get_or-2.ensures _ refl c.if-best-x.false (sym c.get_or.ensures ∙ c.if-get_or-ne0.false)

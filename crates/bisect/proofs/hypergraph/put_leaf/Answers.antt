@@ -12,11 +12,11 @@ loop-k-init c = sym (turns_none _ _)
 
 pub loop-k-preserved : goal.loop-k-preserved
 unfolding entered
-loop-k-preserved c = let a = c.args in let l = c.loop-k in turns_next _ _ l.k l.invariant (c.insert.ensures ∙ ap (λ (u : ℕ). with_set l.words 2 (a.nets + u) (λ j. held l.words 2 (a.nets + u) j || eqb j a.v)) c.at16.ensures.0)
+loop-k-preserved c = let a = c.args in let l = c.loop-k in turns_next _ _ l.k l.invariant (c.insert.ensures ∙ ap (λ (u : ℕ). with_set l.words 2 (a.nets + u) (λ j. held l.words 2 (a.nets + u) j || eqb j a.v)) (c.from.ensures ∙ c.get_or-in-loop-k.ensures))
 
 pub returns : goal.returns
 unfolding leaf_put
 returns c =
     let a = c.args in let n = a.network.now in
-    let e : c.loop-k.k ≡ get_or n.leg_counts.now a.l 0 = omega (arith, c.loop-k-test.false, c.loop-k.auto.k-end, c.at8-k-end.ensures.0) in
+    let e : c.loop-k.k ≡ get_or n.leg_counts.now a.l 0 = omega (arith, c.loop-k-test.false, c.loop-k.auto.k-end, c.from-k-end.ensures ∙ c.get_or.ensures) in
     c.loop-k.invariant ∙ ap (entered 2 a.nets n.legs.now (a.l * 32) a.v a.words.now) e

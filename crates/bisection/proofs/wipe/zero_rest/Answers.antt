@@ -12,4 +12,4 @@ returns-else-any_set c =
     let w = c.args.rest.now in
     let b : m.result ≤ length w = omega (arith, m.ensures) in
     let e = c.any_set.ensures c.if-any_set.false in
-    zeros_behind w c.fill64-else-any_set.new.words m.result _ b (e ∙ ap zeros (length-take-le m.result w b)) refl c.fill64-else-any_set.ensures
+    zeros_behind w c.fill-else-any_set.new.list m.result _ b (e ∙ ap zeros (length-take-le m.result w b)) refl c.fill-else-any_set.ensures
