@@ -4,6 +4,7 @@ use byteorder::{BigEndian, ReadBytesExt};
 use network::Network;
 use std::io::{self, Read, Write};
 
+// Stays: what is asked is two halves of one number of the input; twice the leaves less one is the tree's length.
 // The plan of a network and the words that it took, or the number of the refusal.
 fn plan<W: Write>(out: &mut W, network: &Network, asked: usize, draws: &[u64]) -> io::Result<()> {
     let mut tree = [0u16; 254];
@@ -41,8 +42,5 @@ fn next_case<R: Read, W: Write>(input: &mut R, out: &mut W) -> io::Result<()> {
 
 /// All cases.
 pub fn all<R: Read, W: Write>(input: &mut R, out: &mut W) -> io::Result<()> {
-    for _ in 0..stored::next_number(input)? {
-        next_case(input, out)?;
-    }
-    Ok(())
+    stored::each_case(input, out, next_case)
 }

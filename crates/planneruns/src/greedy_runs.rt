@@ -3,6 +3,7 @@
 use network::Network;
 use std::io::{self, Read, Write};
 
+// Stays: twice the leaves less one is the length of the tree that was planned.
 // The plan of a network, or the number of the refusal.
 fn plan<W: Write>(out: &mut W, network: &Network) -> io::Result<()> {
     let mut tree = [0u16; 254];
@@ -18,11 +19,12 @@ fn plan<W: Write>(out: &mut W, network: &Network) -> io::Result<()> {
     writeln!(out)
 }
 
+fn next_case<R: Read, W: Write>(input: &mut R, out: &mut W) -> io::Result<()> {
+    let network = stored::next_network(input, out)?;
+    plan(out, &network)
+}
+
 /// All cases.
 pub fn all<R: Read, W: Write>(input: &mut R, out: &mut W) -> io::Result<()> {
-    for _ in 0..stored::next_number(input)? {
-        let network = stored::next_network(input, out)?;
-        plan(out, &network)?;
-    }
-    Ok(())
+    stored::each_case(input, out, next_case)
 }

@@ -54,10 +54,7 @@ fn improve_given<W: Write>(
     asked: Asked,
 ) -> io::Result<()> {
     let places = given.tree.unwrap_or(0).min(tree.len());
-    let count = match given.ask {
-        netfile::Ask::Plain | netfile::Ask::Target(_) => 0,
-        netfile::Ask::Flagged(count) => count.min(flags.len()),
-    };
+    let count = netfile::flag_count(given.ask).min(flags.len());
     improve(out, network, &flags[..count], &mut tree[..places], asked)
 }
 
@@ -88,8 +85,5 @@ fn next_case<R: Read, W: Write>(input: &mut R, out: &mut W) -> io::Result<()> {
 
 /// All cases.
 pub fn all<R: Read, W: Write>(input: &mut R, out: &mut W) -> io::Result<()> {
-    for _ in 0..stored::next_number(input)? {
-        next_case(input, out)?;
-    }
-    Ok(())
+    stored::each_case(input, out, next_case)
 }

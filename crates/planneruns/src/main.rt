@@ -5,12 +5,18 @@ mod bisection_runs; // bisection_runs.rt: plans by bisection
 mod greedy_runs; // greedy_runs.rt: greedy's plans
 mod improvement_runs; // improvement_runs.rt: trees improved
 
-use std::io;
+use std::io::{self, Read, Write};
 
-fn main(rt: HostRuntime) -> io::Result<()> {
-    let mut input = rt.reader();
+// All cases.
+fn run_all<R: Read, W: Write>(input: &mut R, out: &mut W) -> io::Result<()> {
+    greedy_runs::all(input, out)?;
+    bisection_runs::all(input, out)?;
+    improvement_runs::all(input, out)
+}
+
+// An input that ends early goes on with zeros. A read or a write that fails ends the run, and is not told.
+fn main(rt: HostRuntime) {
+    let mut input = stored::with_zeros(rt.reader());
     let mut out = io::writer(&rt);
-    greedy_runs::all(&mut input, &mut out)?;
-    bisection_runs::all(&mut input, &mut out)?;
-    improvement_runs::all(&mut input, &mut out)
+    let _ = run_all(&mut input, &mut out);
 }
