@@ -110,7 +110,7 @@ pub extern "C" fn loqshyber_bisection(
     match bisected {
         Bisected::Refused(number) => number as u32,
         Bisected::Done(taken) => {
-            cells::put64(answer, 0, taken as u64);
+            cells::put(answer, 0, taken as u64);
             refusal::NONE as u32
         }
     }
@@ -130,8 +130,8 @@ fn limit_of(x: u32) -> Limit
 fn put_counts(answer: &mut [u64], counts: Visited)
     ensures { answer.new ≡ over answer.old (counts.rebuilt ∷ counts.tried ∷ []) }
 {
-    cells::put64(answer, 0, counts.rebuilt);
-    cells::put64(answer, 1, counts.tried);
+    cells::put(answer, 0, counts.rebuilt);
+    cells::put(answer, 1, counts.tried);
 }
 
 // Improves a tree of the network where it stands; the two counts, to the front of `answer`.

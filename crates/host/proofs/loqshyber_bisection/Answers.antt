@@ -24,4 +24,4 @@ returns-in-Refused c = let a = c.args in
 pub returns-in-Done : goal.returns-in-Done
 returns-in-Done c = let a = c.args in
     let q = c.bisection-bisected.ensures in
-    bisect_done (lent_network a.weights.now a.leg_counts.now a.legs.now a.outputs.now) a.imbalance a.cutoff a.draws.now a.tree.now a.ws.now a.answer.now c.if-imbalance-gt1000.false c.if-answer-lt1.false c.record_of-network.ensures q.answer q.plan q.workspace c.in-Done.is c.put64.ensures
+    bisect_done (lent_network a.weights.now a.leg_counts.now a.legs.now a.outputs.now) a.imbalance a.cutoff a.draws.now a.tree.now a.ws.now a.answer.now c.if-imbalance-gt1000.false c.if-answer-lt1.false c.record_of-network.ensures q.answer q.plan q.workspace c.in-Done.is c.put.ensures
