@@ -1,5 +1,5 @@
 -- What bisection of a network in memory promises: the number, the tree, the workspace, the answer. Assumes nothing.
-use Rattle.std.specs.Prelude.{◌≡◌, Bool, cond, ℕ, ◌≤◌, ◌<◌, ltb, length, set, Option, None, Some, Result, Err, Ok}
+use Rattle.std.specs.Prelude.{◌≡◌, Bool, cond, ℕ, ◌≤◌, ◌<◌, ltb, length, set, Option, None, Some, Result, Err, Ok, unwrap_or}
 use Rattle.std.proofs.Math.Path.{refl, sym, ap}
 use Rattle.std.proofs.Common.{◌∙◌, arith, lt-ltb, le-ltb}
 use Rattle.std.proofs.Math.Bool.{true, false}
@@ -18,10 +18,7 @@ use Rattle.spec.specs.Host.{memory_bisection_call, taken_after}
 use Rattle.laws.specs.Results.{checked_done}
 use Rattle.laws.specs.BisectionLaws.{bisection_valid}
 use Rattle.memory.specs.Call.{checked-append, decide_twice, untouched}
-use Rattle.memory.specs.Numbers.{or_short}
-use Rattle.bisection.specs.declared.Bisected.{Bisected}
-use Rattle.bisection.specs.declared.Bisected.TheVariants.{Refused, Done}
-use Rattle.bisection.specs.Answers.{answer_of}
+use Rattle.bisection.specs.Answers.{taken_of}
 
 -- every list follows the call c, and an answered tree is valid
 pub record Follows (N : Network) (c : Result spec.Bisected Refusal) (tree₀ ws₀ answer₀ tree ws answer : List ℕ) (r : ℕ) : Type 0 where
@@ -46,11 +43,11 @@ one_over (x ∷ y ∷ l) a = refl
 
 -- ---- what bisection's answer comes from ----
 
-of_refused : (x : Result spec.Bisected Refusal) {k : ℕ} → Refused k ≡ answer_of x → (r : Refusal) × (x ≡ Err r) × (k ≡ number_of r)
-of_refused (Err r) {k} e = let w : k ≡ number_of r = cc in (r, refl, w)
+of_refused : (x : Result spec.Bisected Refusal) {k : Refusal} → Err k ≡ taken_of x → x ≡ Err k
+of_refused (Err r) {k} e = let w : k ≡ r = cc in ap Err (sym w)
 of_refused (Ok b) {k} e = absurd (let w : ◌≡◌ {A = ℕ} 0 1 = cc in omega arith)
 
-of_done : (x : Result spec.Bisected Refusal) {k : ℕ} → Done k ≡ answer_of x → (b : spec.Bisected) × (x ≡ Ok b) × (k ≡ b.taken)
+of_done : (x : Result spec.Bisected Refusal) {k : ℕ} → Ok k ≡ taken_of x → (b : spec.Bisected) × (x ≡ Ok b) × (k ≡ b.taken)
 of_done (Err r) {k} e = absurd (let w : ◌≡◌ {A = ℕ} 0 1 = cc in omega arith)
 of_done (Ok b) {k} e = let w : k ≡ b.taken = cc in (b, refl, w)
 
@@ -123,18 +120,18 @@ module _ (N : Network) (i cutoff : ℕ) (draws tree₀ ws₀ answer₀ : List �
     pub large_network : refusal_of N ≡ Some TooLarge → MemoryBisects N i cutoff draws tree₀ ws₀ answer₀ tree₀ ws₀ answer₀ 3
     large_network e = stays TooLarge (as_refused TooLarge e) refl refl
 
-    short_cases : (o : Option Refusal) {r : ℕ} → refusal_of N ≡ o → length answer₀ < 1 → r ≡ or_short o
-        → MemoryBisects N i cutoff draws tree₀ ws₀ answer₀ tree₀ ws₀ answer₀ r
-    short_cases None e h q = stays ShortBuffer (as_short e h) refl q
-    short_cases (Some x) e h q = stays x (as_refused x e) (untouched N x e) q
+    short_cases : (o : Option Refusal) {r : Refusal} → refusal_of N ≡ o → length answer₀ < 1 → r ≡ unwrap_or o ShortBuffer
+        → MemoryBisects N i cutoff draws tree₀ ws₀ answer₀ tree₀ ws₀ answer₀ (number_of r)
+    short_cases None e h q = stays ShortBuffer (as_short e h) refl (ap number_of q)
+    short_cases (Some x) e h q = stays x (as_refused x e) (untouched N x e) (ap number_of q)
 
-    pub short_answer : {M : Network} {r : ℕ} → M ≡ N → length answer₀ < 1 → r ≡ or_short (refusal_of M)
-        → MemoryBisects N i cutoff draws tree₀ ws₀ answer₀ tree₀ ws₀ answer₀ r
-    short_answer m h q = short_cases (refusal_of N) refl h (q ∙ ap (λ (L : Network). or_short (refusal_of L)) m)
+    pub short_answer : {M : Network} {r : Refusal} → M ≡ N → length answer₀ < 1 → r ≡ unwrap_or (refusal_of M) ShortBuffer
+        → MemoryBisects N i cutoff draws tree₀ ws₀ answer₀ tree₀ ws₀ answer₀ (number_of r)
+    short_answer m h q = short_cases (refusal_of N) refl h (q ∙ ap (λ (L : Network). unwrap_or (refusal_of L) ShortBuffer) m)
 
     -- the lists follow bisection's call on a network that is this one
-    module _ (h : 1 ≤ length answer₀) {M : Network} (m : M ≡ N) {tree ws : List ℕ} {x : Bisected}
-        (a : x ≡ answer_of (bisection_call M i cutoff draws (length ws₀) (length tree₀)))
+    module _ (h : 1 ≤ length answer₀) {M : Network} (m : M ≡ N) {tree ws : List ℕ} {x : Result ℕ Refusal}
+        (a : x ≡ taken_of (bisection_call M i cutoff draws (length ws₀) (length tree₀)))
         (t : tree ≡ bisected_tree (bisection_call M i cutoff draws (length ws₀) (length tree₀)) tree₀)
         (w : ws ≡ workspace_after bisection_words (bisection_call M i cutoff draws (length ws₀) (length tree₀)) ws₀)
       where
@@ -152,14 +149,14 @@ module _ (N : Network) (i cutoff : ℕ) (draws tree₀ ws₀ answer₀ : List �
               sound = sound_of;
             }
 
-        pub bisect_refused : {r : ℕ} → x ≡ Refused r → MemoryBisects N i cutoff draws tree₀ ws₀ answer₀ tree ws answer₀ r
+        pub bisect_refused : {r : Refusal} → x ≡ Err r → MemoryBisects N i cutoff draws tree₀ ws₀ answer₀ tree ws answer₀ (number_of r)
         bisect_refused e =
-            let (y, z, q) = of_refused own (sym e ∙ a ∙ ap answer_of same) in
-            follows (q ∙ sym (ap (λ (c : Result spec.Bisected Refusal). code_of (refusal_in c)) z)) (sym (ap (λ (c : Result spec.Bisected Refusal). taken_after c answer₀) z))
+            let z = of_refused own (sym e ∙ a ∙ ap taken_of same) in
+            follows (sym (ap (λ (c : Result spec.Bisected Refusal). code_of (refusal_in c)) z)) (sym (ap (λ (c : Result spec.Bisected Refusal). taken_after c answer₀) z))
 
-        pub bisect_done : {answer : List ℕ} {taken : ℕ} → x ≡ Done taken → answer ≡ set answer₀ 0 taken
+        pub bisect_done : {answer : List ℕ} {taken : ℕ} → x ≡ Ok taken → answer ≡ set answer₀ 0 taken
             → MemoryBisects N i cutoff draws tree₀ ws₀ answer₀ tree ws answer 0
         bisect_done {answer} {taken} e b =
-            let (y, z, q) = of_done own (sym e ∙ a ∙ ap answer_of same) in
+            let (y, z, q) = of_done own (sym e ∙ a ∙ ap taken_of same) in
             follows (sym (ap (λ (c : Result spec.Bisected Refusal). code_of (refusal_in c)) z))
             (b ∙ one_over answer₀ taken ∙ ap (λ (k : ℕ). over answer₀ (k ∷ [])) q ∙ sym (ap (λ (c : Result spec.Bisected Refusal). taken_after c answer₀) z))

@@ -12,9 +12,7 @@ use Rattle.spec.specs.Greedy.{greedy}
 use Rattle.laws.specs.Results.{checked_done}
 use Rattle.laws.specs.GreedyLaws.{greedy_valid}
 use Rattle.walk.specs.Entry.{Untouched, answers, same_words, same_list}
-use Rattle.greedy.specs.declared.Planned.{Planned}
-use Rattle.greedy.specs.declared.Planned.TheVariants.{Refused, Done}
-use Rattle.greedy.specs.Answers.{planned_of, greedy_refused}
+use Rattle.greedy.specs.Answers.{done_of, greedy_refused}
 
 -- both lists follow greedy's call, and an answered tree is valid
 pub record MemoryGreedy (N : Network) (tree₀ ws₀ tree ws : List ℕ) (r : ℕ) : Type 0 where
@@ -23,12 +21,7 @@ pub record MemoryGreedy (N : Network) (tree₀ ws₀ tree ws : List ℕ) (r : �
   pub workspace : ws ≡ workspace_after plain_words (greedy_call N (length ws₀) (length tree₀)) ws₀
   pub sound : (a : List Pair) → greedy_call N (length ws₀) (length tree₀) ≡ Ok a → valid (leaf_count N) a ≡ true
 
--- the number that stands for greedy's answer
-abbrev pub planned_number : Planned → ℕ
-planned_number (Refused k) = k
-planned_number Done = 0
-
-number_of : (c : Result (List Pair) Refusal) → planned_number (planned_of c) ≡ code_of (refusal_in c)
+number_of : (c : Result (List Pair) Refusal) → code_of (refusal_in (done_of c)) ≡ code_of (refusal_in c)
 number_of (Err r) = refl
 number_of (Ok a) = refl
 
@@ -52,15 +45,15 @@ module _ (N : Network) (tree₀ ws₀ : List ℕ) where
       }
 
   -- greedy ran
-  pub plan_follows : {M : Network} {tree ws : List ℕ} {x : Planned} {k : ℕ} → M ≡ N → k ≡ planned_number x
-      → x ≡ planned_of (greedy_call M (length ws₀) (length tree₀))
+  pub plan_follows : {M : Network} {tree ws : List ℕ} {x : Result (Unit {0}) Refusal} → M ≡ N
+      → x ≡ done_of (greedy_call M (length ws₀) (length tree₀))
       → tree ≡ greedy_tree (greedy_call M (length ws₀) (length tree₀)) tree₀
       → ws ≡ workspace_after plain_words (greedy_call M (length ws₀) (length tree₀)) ws₀
-      → MemoryGreedy N tree₀ ws₀ tree ws k
-  plan_follows m k x t w =
+      → MemoryGreedy N tree₀ ws₀ tree ws (code_of (refusal_in x))
+  plan_follows m x t w =
       let e : greedy_call _ (length ws₀) (length tree₀) ≡ call = ap (λ L. greedy_call L (length ws₀) (length tree₀)) m in
       record {
-        number = k ∙ ap planned_number (x ∙ ap planned_of e) ∙ number_of call;
+        number = ap (λ (y : Result (Unit {0}) Refusal). code_of (refusal_in y)) (x ∙ ap done_of e) ∙ number_of call;
         plan = t ∙ ap (λ c. greedy_tree c tree₀) e;
         workspace = w ∙ ap (λ c. workspace_after plain_words c ws₀) e;
         sound = sound_of;

@@ -1,5 +1,5 @@
 -- What improvement on a network in memory promises: the number, the tree, the workspace, the answer. Assumes nothing.
-use Rattle.std.specs.Prelude.{◌≡◌, Bool, cond, ℕ, ◌≤◌, ◌<◌, ltb, length, set, Option, None, Some, Result, Err, Ok}
+use Rattle.std.specs.Prelude.{◌≡◌, Bool, cond, ℕ, ◌≤◌, ◌<◌, ltb, length, Option, None, Some, Result, Err, Ok, unwrap_or}
 use Rattle.std.proofs.Math.Path.{refl, sym, ap}
 use Rattle.std.proofs.Common.{◌∙◌, subst, arith, lt-ltb, le-ltb}
 use Rattle.std.proofs.Math.Bool.{true, false}
@@ -16,11 +16,8 @@ use Rattle.spec.specs.Improve.{improve}
 use Rattle.spec.specs.Calls.{lent, length_check, tree_check, flags_check, beyond_check, dangling_check, flag_at, touches, improve_words, improve_call, workspace_after, improved_tree}
 use Rattle.spec.specs.Host.{limit_number, memory_improve_call, improve_after}
 use Rattle.memory.specs.Call.{checked-append, decide_twice, untouched}
-use Rattle.memory.specs.Numbers.{or_short}
 use Rattle.reconf.specs.declared.Visited.{Visited}
-use Rattle.reconfigure.specs.declared.Improved.{Improved}
-use Rattle.reconfigure.specs.declared.Improved.TheVariants.{Refused, Done}
-use Rattle.reconfigure.specs.Answers.{answer_of, counts_of, Reconfigures}
+use Rattle.reconfigure.specs.Answers.{given, counts_of, Improving}
 
 -- every list follows the call c
 pub record Follows (c : Result spec.Improved Refusal) (stated : ℕ) (kids₀ ws₀ answer₀ kids ws answer : List ℕ) (r : ℕ) : Type 0 where
@@ -34,7 +31,7 @@ abbrev pub MemoryReconfigures : (N : Network) (k passes : ℕ) (limit : Option �
 MemoryReconfigures N k passes limit flags kids₀ ws₀ answer₀ kids ws answer r =
     Follows (memory_improve_call (length answer₀) N k passes limit (length ws₀) flags kids₀) (improve_words k) kids₀ ws₀ answer₀ kids ws answer r
 
--- ---- the limit, and two numbers over the front of a list ----
+-- ---- the limit ----
 
 pub limit_bits : (x y : ℕ) → x < 65536 → y ≡ x → Some y ≡ limit_number x
 limit_bits x y h e = ap Some e ∙ sym (ap (λ (b : Bool). cond b (Some x) None) (lt-ltb x 65536 h))
@@ -42,23 +39,13 @@ limit_bits x y h e = ap Some e ∙ sym (ap (λ (b : Bool). cond b (Some x) None)
 pub limit_none : (x : ℕ) → 65536 ≤ x → None ≡ limit_number x
 limit_none x h = sym (ap (λ (b : Bool). cond b (Some x) None) (le-ltb x 65536 h))
 
-two_over : (l : List ℕ) (a b : ℕ) → set (set l 0 a) 1 b ≡ over l (a ∷ b ∷ [])
-unfolding over
-two_over [] a b = refl
-two_over (x ∷ []) a b = refl
-two_over (x ∷ y ∷ []) a b = refl
-two_over (x ∷ y ∷ z ∷ l) a b = refl
-
-pub counts_put : {d e : List ℕ} (l : List ℕ) (a b : ℕ) → d ≡ set l 0 a → e ≡ set d 1 b → e ≡ over l (a ∷ b ∷ [])
-counts_put l a b p q = q ∙ ap (λ (t : List ℕ). set t 1 b) p ∙ two_over l a b
-
 -- ---- what improvement's answer comes from ----
 
-of_refused : (x : Result spec.Improved Refusal) {k : ℕ} → Refused k ≡ answer_of x → (r : Refusal) × (x ≡ Err r) × (k ≡ number_of r)
-of_refused (Err r) {k} e = let w : k ≡ number_of r = cc in (r, refl, w)
+of_refused : (x : Result spec.Improved Refusal) {k : Refusal} → Err k ≡ given x → x ≡ Err k
+of_refused (Err r) {k} e = let w : k ≡ r = cc in ap Err (sym w)
 of_refused (Ok d) {k} e = absurd (let w : ◌≡◌ {A = ℕ} 0 1 = cc in omega arith)
 
-of_done : (x : Result spec.Improved Refusal) {h : Visited} → Done h ≡ answer_of x → (d : spec.Improved) × (x ≡ Ok d) × (h ≡ counts_of d)
+of_done : (x : Result spec.Improved Refusal) {h : Visited} → Ok h ≡ given x → (d : spec.Improved) × (x ≡ Ok d) × (h ≡ counts_of d)
 of_done (Err r) {h} e = absurd (let w : ◌≡◌ {A = ℕ} 0 1 = cc in omega arith)
 of_done (Ok d) {h} e = let w : h ≡ counts_of d = cc in (d, refl, w)
 
@@ -130,47 +117,45 @@ module _ (N : Network) (k passes : ℕ) (limit : Option ℕ) (flags kids₀ ws�
     pub large_network : refusal_of N ≡ Some TooLarge → MemoryReconfigures N k passes limit flags kids₀ ws₀ answer₀ kids₀ ws₀ answer₀ 3
     large_network e = stays TooLarge (as_refused TooLarge e) refl refl
 
-    short_cases : (o : Option Refusal) {r : ℕ} → refusal_of N ≡ o → length answer₀ < 2 → r ≡ or_short o
-        → MemoryReconfigures N k passes limit flags kids₀ ws₀ answer₀ kids₀ ws₀ answer₀ r
-    short_cases None e h q = stays ShortBuffer (as_short e h) refl q
-    short_cases (Some x) e h q = stays x (as_refused x e) (untouched N x e) q
+    short_cases : (o : Option Refusal) {r : Refusal} → refusal_of N ≡ o → length answer₀ < 2 → r ≡ unwrap_or o ShortBuffer
+        → MemoryReconfigures N k passes limit flags kids₀ ws₀ answer₀ kids₀ ws₀ answer₀ (number_of r)
+    short_cases None e h q = stays ShortBuffer (as_short e h) refl (ap number_of q)
+    short_cases (Some x) e h q = stays x (as_refused x e) (untouched N x e) (ap number_of q)
 
-    pub short_answer : {M : Network} {r : ℕ} → M ≡ N → length answer₀ < 2 → r ≡ or_short (refusal_of M)
-        → MemoryReconfigures N k passes limit flags kids₀ ws₀ answer₀ kids₀ ws₀ answer₀ r
-    short_answer m h q = short_cases (refusal_of N) refl h (q ∙ ap (λ (L : Network). or_short (refusal_of L)) m)
+    pub short_answer : {M : Network} {r : Refusal} → M ≡ N → length answer₀ < 2 → r ≡ unwrap_or (refusal_of M) ShortBuffer
+        → MemoryReconfigures N k passes limit flags kids₀ ws₀ answer₀ kids₀ ws₀ answer₀ (number_of r)
+    short_answer m h q = short_cases (refusal_of N) refl h (q ∙ ap (λ (L : Network). unwrap_or (refusal_of L) ShortBuffer) m)
 
     module _ (h : 2 ≤ length answer₀) where
-      follows : {kids ws answer : List ℕ} {x : Improved} {r : ℕ} → Reconfigures N k passes limit flags kids₀ ws₀ kids ws x
+      follows : {kids ws answer : List ℕ} {x : Result Visited Refusal} {r : ℕ} → Improving N k passes limit flags kids₀ ws₀ kids ws x
           → r ≡ code_of (refusal_in improving) → answer ≡ improve_after improving answer₀
           → MemoryReconfigures N k passes limit flags kids₀ ws₀ answer₀ kids ws answer r
       follows t q a =
           let s : own ≡ improving = as_improving h in
           record {
             number = q ∙ sym (ap (λ (c : Result spec.Improved Refusal). code_of (refusal_in c)) s);
-            tree = t.answered.tree ∙ sym (ap (λ (c : Result spec.Improved Refusal). improved_tree c kids₀) s);
+            tree = t.follows.tree ∙ sym (ap (λ (c : Result spec.Improved Refusal). improved_tree c kids₀) s);
             workspace = t.workspace ∙ sym (ap (λ (c : Result spec.Improved Refusal). workspace_after (improve_words k) c ws₀) s);
             answer_is = a ∙ sym (ap (λ (c : Result spec.Improved Refusal). improve_after c answer₀) s);
           }
 
-      same : {M : Network} {l : Option ℕ} {kids ws : List ℕ} {x : Improved} → M ≡ N → l ≡ limit → Reconfigures M k passes l flags kids₀ ws₀ kids ws x
-          → Reconfigures N k passes limit flags kids₀ ws₀ kids ws x
-      same {M} {l} {kids} {ws} {x} m e t =
-          subst (λ (y : Option ℕ). Reconfigures N k passes y flags kids₀ ws₀ kids ws x) e
-          (subst (λ (L : Network). Reconfigures L k passes l flags kids₀ ws₀ kids ws x) m t)
+      same : {M : Network} {kids ws : List ℕ} {x : Result Visited Refusal} → M ≡ N → Improving M k passes limit flags kids₀ ws₀ kids ws x
+          → Improving N k passes limit flags kids₀ ws₀ kids ws x
+      same {M} {kids} {ws} {x} m t = subst (λ (L : Network). Improving L k passes limit flags kids₀ ws₀ kids ws x) m t
 
-      pub improve_refused : {M : Network} {l : Option ℕ} {kids ws : List ℕ} {x : Improved} {r : ℕ} → M ≡ N → l ≡ limit → x ≡ Refused r
-          → Reconfigures M k passes l flags kids₀ ws₀ kids ws x
-          → MemoryReconfigures N k passes limit flags kids₀ ws₀ answer₀ kids ws answer₀ r
-      improve_refused m l e t =
-          let u = same m l t in
-          let (y, z, q) = of_refused improving (sym e ∙ u.answered.answer) in
-          follows u (q ∙ sym (ap (λ (c : Result spec.Improved Refusal). code_of (refusal_in c)) z)) (sym (ap (λ (c : Result spec.Improved Refusal). improve_after c answer₀) z))
+      pub improve_refused : {M : Network} {kids ws : List ℕ} {x : Result Visited Refusal} {r : Refusal} → M ≡ N → x ≡ Err r
+          → Improving M k passes limit flags kids₀ ws₀ kids ws x
+          → MemoryReconfigures N k passes limit flags kids₀ ws₀ answer₀ kids ws answer₀ (number_of r)
+      improve_refused m e t =
+          let u = same m t in
+          let z = of_refused improving (sym e ∙ u.follows.answer) in
+          follows u (sym (ap (λ (c : Result spec.Improved Refusal). code_of (refusal_in c)) z)) (sym (ap (λ (c : Result spec.Improved Refusal). improve_after c answer₀) z))
 
-      pub improve_done : {M : Network} {l : Option ℕ} {kids ws answer : List ℕ} {x : Improved} {v : Visited} → M ≡ N → l ≡ limit → x ≡ Done v
-          → Reconfigures M k passes l flags kids₀ ws₀ kids ws x → answer ≡ over answer₀ (v.rebuilt ∷ v.tried ∷ [])
+      pub improve_done : {M : Network} {kids ws answer : List ℕ} {x : Result Visited Refusal} {v : Visited} → M ≡ N → x ≡ Ok v
+          → Improving M k passes limit flags kids₀ ws₀ kids ws x → answer ≡ over answer₀ (v.rebuilt ∷ v.tried ∷ [])
           → MemoryReconfigures N k passes limit flags kids₀ ws₀ answer₀ kids ws answer 0
-      improve_done m l e t a =
-          let u = same m l t in
-          let (d, z, q) = of_done improving (sym e ∙ u.answered.answer) in
+      improve_done m e t a =
+          let u = same m t in
+          let (d, z, q) = of_done improving (sym e ∙ u.follows.answer) in
           follows u (sym (ap (λ (c : Result spec.Improved Refusal). code_of (refusal_in c)) z))
           (a ∙ ap (λ (v : Visited). over answer₀ (v.rebuilt ∷ v.tried ∷ [])) q ∙ sym (ap (λ (c : Result spec.Improved Refusal). improve_after c answer₀) z))

@@ -1,5 +1,5 @@
 -- What slicing of a network in memory promises: the number, the tree, the flags, the workspace, the answer. Assumes nothing.
-use Rattle.std.specs.Prelude.{◌≡◌, refl, Bool, cond, ℕ, ◌≤◌, ◌<◌, length, Option, None, Some, Result, Err, Ok}
+use Rattle.std.specs.Prelude.{◌≡◌, refl, Bool, cond, ℕ, ◌≤◌, ◌<◌, length, Option, None, Some, Result, Err, Ok, unwrap_or}
 use Rattle.std.proofs.Math.Path.{sym, ap}
 use Rattle.std.proofs.Common.{◌∙◌, arith, lt-ltb, le-ltb}
 use Rattle.std.proofs.Math.Bool.{false}
@@ -15,10 +15,8 @@ use Rattle.spec.specs.Slicing.{Plan, slice}
 use Rattle.spec.specs.Calls.{lent, length_check, tree_check, beyond_check, dangling_if, follow_up, touches, slice_words, slice_call, workspace_after, sliced_tree, sliced_flags}
 use Rattle.spec.specs.Host.{memory_slice_call, slice_after}
 use Rattle.memory.specs.Call.{checked-append, decide_twice, untouched}
-use Rattle.memory.specs.Numbers.{or_short}
-use Rattle.slicetree.specs.declared.Sliced.{Sliced}
-use Rattle.slicetree.specs.declared.Sliced.TheVariants.{Refused, Done}
-use Rattle.slicetree.specs.Answers.{sliced_of}
+use Rattle.reconf.specs.declared.Visited.{Visited}
+use Rattle.slicetree.specs.Answers.{counts}
 
 -- every list follows the call c
 pub record Follows (N : Network) (c : Result Plan Refusal) (stated : ℕ) (kids₀ flags₀ ws₀ answer₀ kids flags ws answer : List ℕ) (r : ℕ) : Type 0 where
@@ -36,13 +34,13 @@ MemorySlices N improving target kids₀ flags₀ ws₀ answer₀ kids flags ws a
 
 -- ---- what slicing's answer comes from ----
 
-of_refused : (x : Result Plan Refusal) {k : ℕ} → Refused k ≡ sliced_of x → (r : Refusal) × (x ≡ Err r) × (k ≡ number_of r)
-of_refused (Err r) {k} e = let w : k ≡ number_of r = cc in (r, refl, w)
+of_refused : (x : Result Plan Refusal) {k : Refusal} → Err k ≡ counts x → x ≡ Err k
+of_refused (Err r) {k} e = let w : k ≡ r = cc in ap Err (sym w)
 of_refused (Ok p) {k} e = absurd (let w : ◌≡◌ {A = ℕ} 0 1 = cc in omega arith)
 
-of_done : (x : Result Plan Refusal) {a b : ℕ} → Done a b ≡ sliced_of x → (p : Plan) × (x ≡ Ok p) × (a ≡ p.rebuilt) × (b ≡ p.tried)
-of_done (Err r) {a} {b} e = absurd (let w : ◌≡◌ {A = ℕ} 0 1 = cc in omega arith)
-of_done (Ok p) {a} {b} e = let w : a ≡ p.rebuilt = cc in let v : b ≡ p.tried = cc in (p, refl, w, v)
+of_done : (x : Result Plan Refusal) {d : Visited} → Ok d ≡ counts x → (p : Plan) × (x ≡ Ok p) × (d ≡ record { rebuilt = p.rebuilt; tried = p.tried })
+of_done (Err r) {d} e = absurd (let w : ◌≡◌ {A = ℕ} 0 1 = cc in omega arith)
+of_done (Ok p) {d} e = let w : d ≡ record { rebuilt = p.rebuilt; tried = p.tried } = cc in (p, refl, w)
 
 -- ---- the call ----
 
@@ -100,18 +98,18 @@ module _ (N : Network) (improving : Bool) (target : ℕ) (kids₀ flags₀ ws₀
   pub large_network : refusal_of N ≡ Some TooLarge → MemorySlices N improving target kids₀ flags₀ ws₀ answer₀ kids₀ flags₀ ws₀ answer₀ 3
   large_network e = stays TooLarge (as_refused TooLarge e) refl refl
 
-  short_cases : (o : Option Refusal) {r : ℕ} → refusal_of N ≡ o → length answer₀ < 2 → r ≡ or_short o
-      → MemorySlices N improving target kids₀ flags₀ ws₀ answer₀ kids₀ flags₀ ws₀ answer₀ r
-  short_cases None e h q = stays ShortBuffer (as_short e h) refl q
-  short_cases (Some x) e h q = stays x (as_refused x e) (untouched N x e) q
+  short_cases : (o : Option Refusal) {r : Refusal} → refusal_of N ≡ o → length answer₀ < 2 → r ≡ unwrap_or o ShortBuffer
+      → MemorySlices N improving target kids₀ flags₀ ws₀ answer₀ kids₀ flags₀ ws₀ answer₀ (number_of r)
+  short_cases None e h q = stays ShortBuffer (as_short e h) refl (ap number_of q)
+  short_cases (Some x) e h q = stays x (as_refused x e) (untouched N x e) (ap number_of q)
 
-  pub short_answer : {M : Network} {r : ℕ} → M ≡ N → length answer₀ < 2 → r ≡ or_short (refusal_of M)
-      → MemorySlices N improving target kids₀ flags₀ ws₀ answer₀ kids₀ flags₀ ws₀ answer₀ r
-  short_answer m h q = short_cases (refusal_of N) refl h (q ∙ ap (λ (L : Network). or_short (refusal_of L)) m)
+  pub short_answer : {M : Network} {r : Refusal} → M ≡ N → length answer₀ < 2 → r ≡ unwrap_or (refusal_of M) ShortBuffer
+      → MemorySlices N improving target kids₀ flags₀ ws₀ answer₀ kids₀ flags₀ ws₀ answer₀ (number_of r)
+  short_answer m h q = short_cases (refusal_of N) refl h (q ∙ ap (λ (L : Network). unwrap_or (refusal_of L) ShortBuffer) m)
 
   -- the lists follow slicing's call on a network that is this one
-  module _ (h : 2 ≤ length answer₀) {M : Network} (m : M ≡ N) {kids flags ws : List ℕ} {x : Sliced}
-      (a : x ≡ sliced_of (slice_call M improving target (length ws₀) (length flags₀) kids₀))
+  module _ (h : 2 ≤ length answer₀) {M : Network} (m : M ≡ N) {kids flags ws : List ℕ} {x : Result Visited Refusal}
+      (a : x ≡ counts (slice_call M improving target (length ws₀) (length flags₀) kids₀))
       (t : kids ≡ sliced_tree (slice_call M improving target (length ws₀) (length flags₀) kids₀) kids₀)
       (f : flags ≡ sliced_flags M (slice_call M improving target (length ws₀) (length flags₀) kids₀) flags₀)
       (w : ws ≡ workspace_after (slice_words improving) (slice_call M improving target (length ws₀) (length flags₀) kids₀) ws₀) where
@@ -130,14 +128,14 @@ module _ (N : Network) (improving : Bool) (target : ℕ) (kids₀ flags₀ ws₀
           answer_is = b;
         }
 
-    pub slice_refused : {r : ℕ} → x ≡ Refused r → MemorySlices N improving target kids₀ flags₀ ws₀ answer₀ kids flags ws answer₀ r
+    pub slice_refused : {r : Refusal} → x ≡ Err r → MemorySlices N improving target kids₀ flags₀ ws₀ answer₀ kids flags ws answer₀ (number_of r)
     slice_refused e =
-        let (y, z, q) = of_refused own (sym e ∙ a ∙ ap sliced_of same) in
-        follows (q ∙ sym (ap (λ (c : Result Plan Refusal). code_of (refusal_in c)) z)) (sym (ap (λ (c : Result Plan Refusal). slice_after c answer₀) z))
+        let z = of_refused own (sym e ∙ a ∙ ap counts same) in
+        follows (sym (ap (λ (c : Result Plan Refusal). code_of (refusal_in c)) z)) (sym (ap (λ (c : Result Plan Refusal). slice_after c answer₀) z))
 
-    pub slice_done : {answer : List ℕ} {rebuilt tried : ℕ} → x ≡ Done rebuilt tried → answer ≡ over answer₀ (rebuilt ∷ tried ∷ [])
+    pub slice_done : {answer : List ℕ} {d : Visited} → x ≡ Ok d → answer ≡ over answer₀ (d.rebuilt ∷ d.tried ∷ [])
         → MemorySlices N improving target kids₀ flags₀ ws₀ answer₀ kids flags ws answer 0
-    slice_done {answer} {rebuilt} {tried} e b =
-        let (p, z, u, v) = of_done own (sym e ∙ a ∙ ap sliced_of same) in
+    slice_done {answer} {d} e b =
+        let (p, z, u) = of_done own (sym e ∙ a ∙ ap counts same) in
         follows (sym (ap (λ (c : Result Plan Refusal). code_of (refusal_in c)) z))
-        (b ∙ ap (λ (k : ℕ). over answer₀ (k ∷ tried ∷ [])) u ∙ ap (λ (k : ℕ). over answer₀ (p.rebuilt ∷ k ∷ [])) v ∙ sym (ap (λ (c : Result Plan Refusal). slice_after c answer₀) z))
+        (b ∙ ap (λ (v : Visited). over answer₀ (v.rebuilt ∷ v.tried ∷ [])) u ∙ sym (ap (λ (c : Result Plan Refusal). slice_after c answer₀) z))

@@ -1,8 +1,10 @@
 #![tactic(auto)]
-// The functions that a C host calls: a file's bytes priced, a file planned, a network in memory priced, its greedy plan, its plan by bisection, a tree
-// of it improved, a tree of it sliced.
-ghost use Rattle.std.specs.Prelude.{◌≡◌, ◌∷◌, [], ◌≤◌, length, take};
+//! The functions that a C host calls: a file's bytes priced, a file planned, a network in memory priced, its greedy plan, its plan by bisection, a tree
+//! of it improved, a tree of it sliced.
+ghost use Rattle.std.specs.Prelude.{◌≡◌, ◌≤◌, length, take};
 ghost use Rattle.spec.specs.Memory.{over};
+ghost use Rattle.spec.specs.Refusal.{code_of};
+ghost use Rattle.spec.specs.FileClaims.{refusal_in};
 ghost use Rattle.spec.specs.Host.{host_call, Answered, lent_network, limit_number, improving_number};
 ghost use Rattle.spec.specs.Output.{plan_bytes};
 ghost use Rattle.host.specs.Sound.{HandsOut};
@@ -12,25 +14,34 @@ ghost use Rattle.host.specs.Bisection.{MemoryBisects};
 ghost use Rattle.host.specs.Reconfigure.{MemoryReconfigures};
 ghost use Rattle.host.specs.Slice.{MemorySlices};
 ghost use Rattle.planning.specs.Output.{Prints};
-ghost use Rattle.reconfigure.specs.Answers.{limit_from};
 
-use bisection::Bisected;
-use greedy::Planned;
-use network::refusal;
-use reconf::Visited;
-use reconfigure::{Improved, Limit};
-use slicetree::Sliced;
+mod calls; // calls.rt: the calls on a network whose lists are lent
 
-// Reads the file, and lists its network with its own tree and flags.
+use calls::Lists;
+use pricing::list::PriceList;
+use reconfigure::Ask;
+use spec::Refusal;
+
+// The number that the host is handed: 0, or the refusal's.
+fn status(answer: Result<(), Refusal>) -> u32
+    ensures { result ≡ code_of (refusal_in answer) }
+{
+    match answer {
+        Ok(()) => 0,
+        Err(refusal) => u32::from(refusal.number()),
+    }
+}
+
+/// Reads the file, and lists its network with its own tree and flags.
 #[unsafe(no_mangle)]
 pub extern "C" fn loqshyber_price(file: &[u8], out: &mut [u8]) -> u32
     ensures { Answered (host_call (length out.old) file.now) result out.old out.new
         × (result ≡ 0 → HandsOut file.now out.old out.new) }
 {
-    listing::price(file, out) as u32
+    u32::from(listing::price(file, out))
 }
 
-// Prices a tree of the network, into lists that are lent.
+/// Prices a tree of the network, into lists that are lent.
 #[unsafe(no_mangle)]
 pub extern "C" fn loqshyber_tree_cost(
     weights: &[u8],
@@ -50,12 +61,13 @@ pub extern "C" fn loqshyber_tree_cost(
         ws.old sets.old sizes.old works.old steps.old answer.old
         ws.new sets.new sizes.new works.new steps.new answer.new result }
 {
-    memory::tree_cost(
-        weights, leg_counts, legs, outputs, flags, tree, ws, sets, sizes, works, steps, answer,
-    ) as u32
+    let mut list = PriceList { sets, sizes, works };
+    status(memory::price(
+        weights, leg_counts, legs, outputs, flags, tree, ws, &mut list, steps, answer,
+    ))
 }
 
-// The greedy plan of the network, to the front of `tree`.
+/// The greedy plan of the network, to the front of `tree`.
 #[unsafe(no_mangle)]
 pub extern "C" fn loqshyber_greedy(
     weights: &[u8],
@@ -68,18 +80,16 @@ pub extern "C" fn loqshyber_greedy(
     ensures { MemoryGreedy (lent_network weights.now leg_counts.now legs.now outputs.now)
         tree.old ws.old tree.new ws.new result }
 {
-    if memory::too_large(weights.len(), outputs.len(), leg_counts) {
-        return refusal::TOO_LARGE as u32;
-    }
-    let network = memory::record_of(weights, leg_counts, legs, outputs);
-    let planned = greedy::greedy(network, tree, ws);
-    match planned {
-        Planned::Refused(number) => number as u32,
-        Planned::Done => refusal::NONE as u32,
-    }
+    let lists = Lists {
+        weights,
+        leg_counts,
+        legs,
+        outputs,
+    };
+    status(calls::plan(&lists, tree, ws))
 }
 
-// The plan of the network by bisection, to the front of `tree`; how many words were taken, to the front of `answer`.
+/// The plan of the network by bisection, to the front of `tree`; how many words were taken, to the front of `answer`.
 #[unsafe(no_mangle)]
 pub extern "C" fn loqshyber_bisection(
     weights: &[u8],
@@ -96,45 +106,16 @@ pub extern "C" fn loqshyber_bisection(
     ensures { MemoryBisects (lent_network weights.now leg_counts.now legs.now outputs.now) imbalance cutoff
         draws.now tree.old ws.old answer.old tree.new ws.new answer.new result }
 {
-    if imbalance > 1000 {
-        return refusal::TOO_LARGE as u32;
-    }
-    if memory::too_large(weights.len(), outputs.len(), leg_counts) {
-        return refusal::TOO_LARGE as u32;
-    }
-    let network = memory::record_of(weights, leg_counts, legs, outputs);
-    if answer.len() < 1 {
-        return memory::number_or_short(network) as u32;
-    }
-    let bisected = bisection::bisection(network, imbalance, cutoff, draws, tree, ws);
-    match bisected {
-        Bisected::Refused(number) => number as u32,
-        Bisected::Done(taken) => {
-            cells::put(answer, 0, taken as u64);
-            refusal::NONE as u32
-        }
-    }
+    let lists = Lists {
+        weights,
+        leg_counts,
+        legs,
+        outputs,
+    };
+    status(calls::bisect(&lists, imbalance, cutoff, draws, tree, ws, answer))
 }
 
-// The limit that a number stands for: none from 65,536 on.
-fn limit_of(x: u32) -> Limit
-    ensures { limit_from result ≡ limit_number x }
-{
-    if x < 65536 {
-        return Limit::Bits(x as u16);
-    }
-    Limit::Unlimited
-}
-
-// Writes the two numbers.
-fn put_counts(answer: &mut [u64], counts: Visited)
-    ensures { answer.new ≡ over answer.old (counts.rebuilt ∷ counts.tried ∷ []) }
-{
-    cells::put(answer, 0, counts.rebuilt);
-    cells::put(answer, 1, counts.tried);
-}
-
-// Improves a tree of the network where it stands; the two counts, to the front of `answer`.
+/// Improves a tree of the network where it stands; the two counts, to the front of `answer`.
 #[unsafe(no_mangle)]
 pub extern "C" fn loqshyber_reconfigure(
     weights: &[u8],
@@ -152,28 +133,23 @@ pub extern "C" fn loqshyber_reconfigure(
     ensures { MemoryReconfigures (lent_network weights.now leg_counts.now legs.now outputs.now) k passes (limit_number limit)
         flags.now tree.old ws.old answer.old tree.new ws.new answer.new result }
 {
-    if passes > 255 {
-        return refusal::TOO_LARGE as u32;
-    }
-    if memory::too_large(weights.len(), outputs.len(), leg_counts) {
-        return refusal::TOO_LARGE as u32;
-    }
-    let network = memory::record_of(weights, leg_counts, legs, outputs);
-    if answer.len() < 2 {
-        return memory::number_or_short(network) as u32;
-    }
-    let bits = limit_of(limit);
-    let improved = reconfigure::reconfigure(network, k, passes, bits, flags, tree, ws);
-    match improved {
-        Improved::Refused(number) => number as u32,
-        Improved::Done(counts) => {
-            put_counts(answer, counts);
-            refusal::NONE as u32
-        }
-    }
+    let lists = Lists {
+        weights,
+        leg_counts,
+        legs,
+        outputs,
+    };
+    let limit = calls::limit_of(limit);
+    let ask = Ask {
+        flags,
+        k,
+        passes,
+        limit,
+    };
+    status(calls::improve(&lists, &ask, tree, ws, answer))
 }
 
-// Slices a tree of the network to a target, improved where it stands unless `improving` is 0; the two counts, to the front of `answer`.
+/// Slices a tree of the network to a target, improved where it stands unless `improving` is 0; the two counts, to the front of `answer`.
 #[unsafe(no_mangle)]
 pub extern "C" fn loqshyber_slice_tree(
     weights: &[u8],
@@ -190,24 +166,16 @@ pub extern "C" fn loqshyber_slice_tree(
     ensures { MemorySlices (lent_network weights.now leg_counts.now legs.now outputs.now) (improving_number improving) target
         tree.old flags.old ws.old answer.old tree.new flags.new ws.new answer.new result }
 {
-    if memory::too_large(weights.len(), outputs.len(), leg_counts) {
-        return refusal::TOO_LARGE as u32;
-    }
-    let network = memory::record_of(weights, leg_counts, legs, outputs);
-    if answer.len() < 2 {
-        return memory::number_or_short(network) as u32;
-    }
-    let sliced = slicetree::slice_tree(network, improving != 0, tree, target, flags, ws);
-    match sliced {
-        Sliced::Refused(number) => number as u32,
-        Sliced::Done { rebuilt, tried } => {
-            put_counts(answer, Visited { rebuilt, tried });
-            refusal::NONE as u32
-        }
-    }
+    let lists = Lists {
+        weights,
+        leg_counts,
+        legs,
+        outputs,
+    };
+    status(calls::slice(&lists, improving != 0, tree, target, flags, ws, answer))
 }
 
-// The program `plan`: the text for a file's bytes to the front of `out`, and its length. A buffer that is shorter gets the text's front.
+/// The program `plan`: the text for a file's bytes to the front of `out`, and its length. A buffer that is shorter gets the text's front.
 #[unsafe(no_mangle)]
 pub extern "C" fn loqshyber_plan(file: &[u8], out: &mut [u8]) -> usize
     ensures bytes { out.new ≡ over out.old (plan_bytes file.now) }

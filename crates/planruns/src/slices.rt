@@ -2,15 +2,21 @@
 ghost use Rattle.std.specs.Prelude.{◌≤◌};
 
 use network::Network;
-use slicetree::Sliced;
+use reconf::Visited;
+use spec::Refusal;
 use std::io::{self, Read, Write};
 
 // Both counts, the tree and the flagged indices, or the number of the refusal.
-fn tell<W: Write>(out: &mut W, sliced: Sliced, tree: &[u16], flags: &[u8]) -> io::Result<()> {
+fn tell<W: Write>(
+    out: &mut W,
+    sliced: Result<Visited, Refusal>,
+    tree: &[u16],
+    flags: &[u8],
+) -> io::Result<()> {
     match sliced {
-        Sliced::Refused(refusal) => write!(out, "refused {refusal}"),
-        Sliced::Done { rebuilt, tried } => {
-            write!(out, "sliced {rebuilt} {tried}")?;
+        Err(refusal) => write!(out, "refused {}", refusal.number()),
+        Ok(counts) => {
+            write!(out, "sliced {} {}", counts.rebuilt, counts.tried)?;
             stored::write_numbers(out, tree)?;
             write!(out, " flags")?;
             stored::write_flagged(out, flags)
@@ -20,7 +26,7 @@ fn tell<W: Write>(out: &mut W, sliced: Sliced, tree: &[u16], flags: &[u8]) -> io
 
 fn slice<W: Write>(
     out: &mut W,
-    network: Network,
+    network: &Network,
     tree: &mut [u16],
     asked: usize,
 ) -> io::Result<()> {
@@ -29,7 +35,7 @@ fn slice<W: Write>(
     let improving = 65536 <= asked;
     let target = (asked % 65536) as u16;
     let indices = network.index_count.min(256);
-    let sliced = slicetree::slice_tree(network, improving, tree, target, &mut flags, &mut ws);
+    let sliced = slicetree::slice(network, improving, tree, target, &mut flags, &mut ws);
     tell(out, sliced, tree, &flags[..indices])
 }
 
@@ -39,7 +45,7 @@ fn answer_next<R: Read, W: Write>(input: &mut R, out: &mut W) -> io::Result<()> 
     let asked = stored::next_number(input)?;
     let network = stored::next_network(input, out)?;
     let places = stored::next_tree(input, &mut tree)?;
-    slice(out, network, &mut tree[..places], asked)?;
+    slice(out, &network, &mut tree[..places], asked)?;
     writeln!(out)
 }
 

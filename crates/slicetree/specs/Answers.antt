@@ -6,7 +6,7 @@ use Rattle.spec.specs.declared.Refusal.TheVariants.{ShortBuffer, InvalidTree, To
 use Rattle.spec.specs.Memory.{cleared, copied}
 use Rattle.spec.specs.Network.{Network, leaf_count, index_count, refusal_of}
 use Rattle.spec.specs.Tree.{pairs_of, flat_of}
-use Rattle.spec.specs.Refusal.{number_of, Check, check, first, decide, checked}
+use Rattle.spec.specs.Refusal.{Check, check, first, decide, checked}
 use Rattle.spec.specs.Calls.{Lent, lent, length_check, plain_words, slice_words, wrong_tree, tree_check, beyond_check, total_is_beyond, dangling, dangling_check, dangling_if, follow_up, slice_call, sliced_tree, sliced_flags, workspace_after}
 use Rattle.spec.specs.Slicing.{Plan, slice_loop}
 use Rattle.laws.specs.Booleans.{clash}
@@ -15,7 +15,6 @@ use Rattle.walk.specs.Entry.{network_refused, network_quiet, quiet_words, quiet_
 use Rattle.reconf.specs.declared.Visited.{Visited}
 use Rattle.slicing.specs.Promise.{plan_with}
 use Rattle.slicing.specs.Turns.{Sliced as Turned}
-use Rattle.slicetree.specs.declared.Sliced.{Sliced}
 use Rattle.slicetree.specs.Choices.{Stands, ChoicesMade}
 use Rattle.slicetree.specs.Clear.{flags_for, plan_of, SlicedTo, sliced_to, stands_clear}
 
@@ -23,19 +22,6 @@ use Rattle.slicetree.specs.Clear.{flags_for, plan_of, SlicedTo, sliced_to, stand
 abbrev pub counts : Result Plan Refusal → Result Visited Refusal
 counts (Err r) = Err r
 counts (Ok p) = Ok (record { rebuilt = p.rebuilt; tried = p.tried })
-
--- the answer of the old entry
-abbrev pub named : Result Visited Refusal → Sliced
-named (Err r) = Sliced.Refused (number_of r)
-named (Ok d) = Sliced.Done d.rebuilt d.tried
-
-abbrev pub sliced_of : Result Plan Refusal → Sliced
-sliced_of (Err r) = Sliced.Refused (number_of r)
-sliced_of (Ok p) = Sliced.Done p.rebuilt p.tried
-
-pub named_counts : (c : Result Plan Refusal) → named (counts c) ≡ sliced_of c
-named_counts (Err r) = refl
-named_counts (Ok p) = refl
 
 -- the tree and the flags that slicing leaves, and its counts
 pub record SlicedBy (N : Network) (improving : Bool) (target : ℕ) (kids₀ flags₀ kids flags : List ℕ) (d : Visited) : Type 0 where

@@ -7,7 +7,7 @@ ghost use Rattle.spec.specs.Calls.{plain_words, slice_words, wrong_tree, total_i
 ghost use Rattle.network.specs.Record.{net_of};
 ghost use Rattle.network.specs.Views.{net_in};
 ghost use Rattle.slicetree.specs.Choices.{Stands};
-ghost use Rattle.slicetree.specs.Answers.{counts, check_call, SlicedBy, Answered, Slices, sliced_of, named};
+ghost use Rattle.slicetree.specs.Answers.{counts, check_call, SlicedBy, Answered, Slices};
 
 mod choices; // choices.rt: slicing on lent lists, a pass of improvement after each choice
 
@@ -161,40 +161,4 @@ pub fn slice(
 {
     let network = network.accepted()?;
     slice_of(&network, improving, tree, target, flags, ws)
-}
-
-// The answer of the old entry, a refusal by its number.
-#[derive(Clone, Copy)]
-pub enum Sliced {
-    Refused(u8),
-    Done { rebuilt: u64, tried: u64 },
-}
-
-fn numbered(answer: Result<Visited, Refusal>) -> Sliced
-    ensures { result ≡ named answer }
-{
-    match answer {
-        Ok(done) => Sliced::Done {
-            rebuilt: done.rebuilt,
-            tried: done.tried,
-        },
-        Err(refusal) => Sliced::Refused(refusal.number()),
-    }
-}
-
-// The same as `slice`, for callers of the old entry.
-pub fn slice_tree(
-    network: Network,
-    improving: bool,
-    tree: &mut [u16],
-    target: u16,
-    flags: &mut [u8],
-    ws: &mut [u64],
-) -> Sliced
-    ensures answer { result ≡ sliced_of (slice_call (net_of network) improving target (length ws.old) (length flags.old) tree.old) }
-    ensures tree { tree.new ≡ sliced_tree (slice_call (net_of network) improving target (length ws.old) (length flags.old) tree.old) tree.old }
-    ensures sliced { flags.new ≡ sliced_flags (net_of network) (slice_call (net_of network) improving target (length ws.old) (length flags.old) tree.old) flags.old }
-    ensures workspace { ws.new ≡ workspace_after (slice_words improving) (slice_call (net_of network) improving target (length ws.old) (length flags.old) tree.old) ws.old }
-{
-    numbered(slice(&network, improving, tree, target, flags, ws))
 }

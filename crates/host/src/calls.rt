@@ -1,0 +1,141 @@
+// The calls on a network whose lists are lent: its plans, a tree of it improved, a tree of it sliced.
+ghost use Rattle.std.specs.Prelude.{◌≡◌, ◌∷◌, [], ◌<◌, ◌≤◌, length, Some, IfOk, IfErr, OnOk, unwrap_or};
+ghost use Rattle.spec.specs.Memory.{over};
+ghost use Rattle.spec.specs.Refusal.{code_of};
+ghost use Rattle.spec.specs.FileClaims.{refusal_in};
+ghost use Rattle.spec.specs.declared.Refusal.TheVariants.{TooLarge, ShortBuffer};
+ghost use Rattle.spec.specs.Network.{refusal_of};
+ghost use Rattle.spec.specs.Host.{lent_network, limit_number};
+ghost use Rattle.network.specs.Record.{net_of};
+ghost use Rattle.host.specs.Greedy.{MemoryGreedy};
+ghost use Rattle.host.specs.Bisection.{MemoryBisects};
+ghost use Rattle.host.specs.Reconfigure.{MemoryReconfigures};
+ghost use Rattle.host.specs.Slice.{MemorySlices};
+
+use network::Network;
+use reconf::Visited;
+use reconfigure::Ask;
+use spec::Refusal;
+
+// A network's lists, as the host lends them.
+#[derive(Clone, Copy)]
+pub struct Lists<'a> {
+    pub weights: &'a [u8],
+    pub leg_counts: &'a [u8],
+    pub legs: &'a [u16],
+    pub outputs: &'a [u16],
+}
+
+// The record of the lists, unless a count is above its limit.
+fn record_of(lists: &Lists) -> Result<Network, Refusal>
+    ensures ok { IfOk result (λ n. net_of n ≡ lent_network lists.now.weights.now lists.now.leg_counts.now lists.now.legs.now lists.now.outputs.now) }
+    ensures err { IfErr result (λ r. (r ≡ TooLarge) × (refusal_of (lent_network lists.now.weights.now lists.now.leg_counts.now lists.now.legs.now lists.now.outputs.now) ≡ Some TooLarge)) }
+{
+    if memory::too_large(lists.weights.len(), lists.outputs.len(), lists.leg_counts) {
+        return Err(Refusal::TooLarge);
+    }
+    Ok(memory::record_of(lists.weights, lists.leg_counts, lists.legs, lists.outputs))
+}
+
+// Refuses an answer of fewer places than it takes; the network's own refusals come first.
+fn check_room(network: &Network, places: usize, takes: usize) -> Result<(), Refusal>
+    ensures ok { OnOk result (takes ≤ places) }
+    ensures err { IfErr result (λ r. (places < takes) × (r ≡ unwrap_or (refusal_of (net_of network.now)) ShortBuffer)) }
+{
+    if takes <= places {
+        return Ok(());
+    }
+    network.accepted()?;
+    Err(Refusal::ShortBuffer)
+}
+
+// The greedy plan.
+pub fn plan(lists: &Lists, tree: &mut [u16], ws: &mut [u64]) -> Result<(), Refusal>
+    ensures { MemoryGreedy (lent_network lists.now.weights.now lists.now.leg_counts.now lists.now.legs.now lists.now.outputs.now)
+        tree.old ws.old tree.new ws.new (code_of (refusal_in result)) }
+{
+    let network = record_of(lists)?;
+    greedy::plan(&network, tree, ws)
+}
+
+// The plan by bisection; how many words were taken, to the front of `answer`.
+pub fn bisect(
+    lists: &Lists,
+    imbalance: usize,
+    cutoff: usize,
+    draws: &[u64],
+    tree: &mut [u16],
+    ws: &mut [u64],
+    answer: &mut [u64],
+) -> Result<(), Refusal>
+    ensures { MemoryBisects (lent_network lists.now.weights.now lists.now.leg_counts.now lists.now.legs.now lists.now.outputs.now) imbalance cutoff
+        draws.now tree.old ws.old answer.old tree.new ws.new answer.new (code_of (refusal_in result)) }
+{
+    if imbalance > 1000 {
+        return Err(Refusal::TooLarge);
+    }
+    let network = record_of(lists)?;
+    check_room(&network, answer.len(), 1)?;
+    let taken = bisection::plan(&network, imbalance, cutoff, draws, tree, ws)?;
+    cells::put(answer, 0, taken as u64);
+    Ok(())
+}
+
+// The limit that a number stands for: none from 65,536 on.
+pub fn limit_of(x: u32) -> Option<u16>
+    ensures { result ≡ limit_number x }
+{
+    if x < 65536 {
+        return Some(x as u16);
+    }
+    None
+}
+
+// Writes the two numbers.
+fn put_counts(answer: &mut [u64], counts: Visited)
+    ensures { answer.new ≡ over answer.old (counts.rebuilt ∷ counts.tried ∷ []) }
+{
+    let numbers = [counts.rebuilt, counts.tried];
+    cells::copy(answer, &numbers, 2);
+}
+
+// Improves a tree where it stands; the two counts, to the front of `answer`.
+pub fn improve(
+    lists: &Lists,
+    ask: &Ask,
+    tree: &mut [u16],
+    ws: &mut [u64],
+    answer: &mut [u64],
+) -> Result<(), Refusal>
+    ensures { MemoryReconfigures (lent_network lists.now.weights.now lists.now.leg_counts.now lists.now.legs.now lists.now.outputs.now)
+        ask.now.k ask.now.passes ask.now.limit ask.now.flags.now tree.old ws.old answer.old tree.new ws.new answer.new (code_of (refusal_in result)) }
+{
+    if ask.passes > 255 {
+        return Err(Refusal::TooLarge);
+    }
+    let network = record_of(lists)?;
+    check_room(&network, answer.len(), 2)?;
+    let counts = reconfigure::improve(&network, ask, tree, ws)?;
+    put_counts(answer, counts);
+    Ok(())
+}
+
+// Slices a tree to a target, with improvement or without; the two counts, to the front of `answer`.
+pub fn slice(
+    lists: &Lists,
+    improving: bool,
+    tree: &mut [u16],
+    target: u16,
+    flags: &mut [u8],
+    ws: &mut [u64],
+    answer: &mut [u64],
+) -> Result<(), Refusal>
+    ensures { MemorySlices (lent_network lists.now.weights.now lists.now.leg_counts.now lists.now.legs.now lists.now.outputs.now) improving target
+        tree.old flags.old ws.old answer.old tree.new flags.new ws.new answer.new (code_of (refusal_in result)) }
+{
+    let network = record_of(lists)?;
+    check_room(&network, answer.len(), 2)?;
+    let made = slicetree::slice(&network, improving, tree, target, flags, ws)?;
+    put_counts(answer, made);
+    Ok(())
+}
