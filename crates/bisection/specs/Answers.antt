@@ -16,25 +16,11 @@ use Rattle.merging.specs.Removed.{flat_length}
 use Rattle.walk.specs.Entry.{holds_first, past_network, past_length, network_refused, too_short, quiet_words, quiet_list, network_quiet, done_words, refused_words}
 use Rattle.bisect.specs.Cases.{ok_or_err, same_err}
 use Rattle.bisection.specs.Whole.{Whole, is_refused, is_plan, copied_out}
-use Rattle.bisection.specs.declared.Bisected.{Bisected}
 
 -- refused, or the words taken
 abbrev pub taken_of : Result spec.Bisected Refusal → Result ℕ Refusal
 taken_of (Err r) = Err r
 taken_of (Ok b) = Ok b.taken
-
--- the same with a refusal by its number
-abbrev pub named : Result ℕ Refusal → Bisected
-named (Err r) = Bisected.Refused (number_of r)
-named (Ok k) = Bisected.Done k
-
-abbrev pub answer_of : Result spec.Bisected Refusal → Bisected
-answer_of (Err r) = Bisected.Refused (number_of r)
-answer_of (Ok b) = Bisected.Done b.taken
-
-pub named_is : (x : Result spec.Bisected Refusal) → named (taken_of x) ≡ answer_of x
-named_is (Err r) = refl
-named_is (Ok b) = refl
 
 -- the call, the imbalance's and the network's own checks aside
 unfoldable pub bisection_in : Network → ℕ → ℕ → List ℕ → ℕ → ℕ → Result spec.Bisected Refusal

@@ -11,7 +11,7 @@ ghost use Rattle.greedynodes.specs.Begin.{Asks};
 ghost use Rattle.bisect.specs.Cases.{Halves};
 ghost use Rattle.bisection.specs.Named.{Named};
 ghost use Rattle.bisection.specs.Whole.{Whole};
-ghost use Rattle.bisection.specs.Answers.{answer_of, taken_of, Answers};
+ghost use Rattle.bisection.specs.Answers.{taken_of, Answers};
 
 use bisect::ends;
 use draws::Draws;
@@ -20,13 +20,6 @@ use spec::Refusal;
 
 pub mod cuts; // cuts.rt: leaves halved by a partition
 mod wipe; // wipe.rt: the stated words made 0
-
-/// The answer of the entry by number: a refusal's number, or how many words were taken.
-#[derive(Clone, Copy)]
-pub enum Bisected {
-    Refused(u8),
-    Done(usize),
-}
 
 // Bisection of some leaves, onto the array of `count` nodes whose children stand at the front of `kids`: the new nodes' children are put after them. Returns the
 // top. It falls with the number of leaves.
@@ -160,23 +153,4 @@ pub fn plan(
     }
     let lists = network.accepted()?;
     plan_accepted(&lists, imbalance, cutoff, draws, tree, ws)
-}
-
-/// The same with a refusal by its number.
-pub fn bisection(
-    network: Network,
-    imbalance: usize,
-    cutoff: usize,
-    draws: &[u64],
-    tree: &mut [u16],
-    ws: &mut [u64],
-) -> Bisected
-    ensures answer { result ≡ answer_of (bisection_call (net_of network) imbalance cutoff draws.now (length ws.old) (length tree.old)) }
-    ensures plan { tree.new ≡ bisected_tree (bisection_call (net_of network) imbalance cutoff draws.now (length ws.old) (length tree.old)) tree.old }
-    ensures workspace { ws.new ≡ workspace_after bisection_words (bisection_call (net_of network) imbalance cutoff draws.now (length ws.old) (length tree.old)) ws.old }
-{
-    match plan(&network, imbalance, cutoff, draws, tree, ws) {
-        Ok(taken) => Bisected::Done(taken),
-        Err(refusal) => Bisected::Refused(refusal.number()),
-    }
 }

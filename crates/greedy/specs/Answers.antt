@@ -11,28 +11,13 @@ use Rattle.spec.specs.Tree.{Pair, flat_of}
 use Rattle.spec.specs.Refusal.{number_of, code_of, checked}
 use Rattle.spec.specs.Calls.{Lent, lent, length_check, plain_words, tree_places, greedy_call, workspace_after, greedy_tree}
 use Rattle.spec.specs.Greedy.{greedy}
-use Rattle.walk.specs.Entry.{Untouched, by_network, past_network, past_length, network_refused, too_short, quiet_words, quiet_list, done_words, refused_words}
+use Rattle.walk.specs.Entry.{past_network, past_length, network_refused, too_short, quiet_words, quiet_list, done_words, refused_words}
 use Rattle.greedy.specs.Whole.{Grown, is_left, is_grown}
-use Rattle.greedy.specs.declared.Planned.{Planned}
 
 -- refused, or done
 abbrev pub done_of : Result (List Pair) Refusal → Result (Unit {0}) Refusal
 done_of (Err r) = Err r
 done_of (Ok a) = Ok tt
-
--- the same by number
-abbrev pub planned_of : Result (List Pair) Refusal → Planned
-planned_of (Err r) = Planned.Refused (number_of r)
-planned_of (Ok a) = Planned.Done
-
--- the one from the other
-abbrev pub by_number : Result (Unit {0}) Refusal → Planned
-by_number (Err r) = Planned.Refused (number_of r)
-by_number (Ok u) = Planned.Done
-
-pub planned_done : (c : Result (List Pair) Refusal) → by_number (done_of c) ≡ planned_of c
-planned_done (Err r) = refl
-planned_done (Ok a) = refl
 
 -- the call, the network's own checks aside
 unfoldable pub greedy_in : Network → ℕ → ℕ → Result (List Pair) Refusal

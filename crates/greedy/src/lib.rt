@@ -5,17 +5,10 @@ ghost use Rattle.spec.specs.Calls.{plain_words, greedy_call, greedy_tree, worksp
 ghost use Rattle.network.specs.Record.{net_of};
 ghost use Rattle.network.specs.Views.{net_in};
 ghost use Rattle.greedy.specs.Whole.{Grown};
-ghost use Rattle.greedy.specs.Answers.{done_of, planned_of, Answers};
+ghost use Rattle.greedy.specs.Answers.{done_of, Answers};
 
 use network::{Accepted, Network};
 use spec::Refusal;
-
-/// The answer of greedy by number, for whoever hands numbers on.
-#[derive(Clone, Copy)]
-pub enum Planned {
-    Refused(u8),
-    Done,
-}
 
 /// Greedy over all leaves of a network, whose children are put to the front of `tree`, which stays as it was where a scored pair is too wide.
 fn plan_all(network: &Accepted, tree: &mut [u16], words: &mut [u64]) -> Result<(), Refusal>
@@ -55,16 +48,4 @@ pub fn plan(network: &Network, tree: &mut [u16], ws: &mut [u64]) -> Result<(), R
 {
     let network = network.accepted()?;
     plan_in(&network, tree, ws)
-}
-
-/// The same, answered by number.
-pub fn greedy(network: Network, tree: &mut [u16], ws: &mut [u64]) -> Planned
-    ensures answer { result ≡ planned_of (greedy_call (net_of network) (length ws.old) (length tree.old)) }
-    ensures plan { tree.new ≡ greedy_tree (greedy_call (net_of network) (length ws.old) (length tree.old)) tree.old }
-    ensures workspace { ws.new ≡ workspace_after plain_words (greedy_call (net_of network) (length ws.old) (length tree.old)) ws.old }
-{
-    match plan(&network, tree, ws) {
-        Ok(()) => Planned::Done,
-        Err(refusal) => Planned::Refused(refusal.number()),
-    }
 }

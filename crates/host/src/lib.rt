@@ -38,7 +38,7 @@ pub extern "C" fn loqshyber_price(file: &[u8], out: &mut [u8]) -> u32
     ensures { Answered (host_call (length out.old) file.now) result out.old out.new
         × (result ≡ 0 → HandsOut file.now out.old out.new) }
 {
-    u32::from(listing::price(file, out))
+    status(listing::price_file(file, out))
 }
 
 /// Prices a tree of the network, into lists that are lent.

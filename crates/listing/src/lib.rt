@@ -13,7 +13,7 @@ pub mod bytes; // bytes.rt: numbers as bytes, high byte first
 pub mod head; // head.rt: the listing's head
 
 use netfile::Given;
-use network::{Network, refusal};
+use network::Network;
 use pricing::list::PriceList;
 use spec::{Prices, Refusal};
 
@@ -97,23 +97,4 @@ pub fn price_file(file: &[u8], out: &mut [u8]) -> Result<(), Refusal>
     let mut network = Network::empty();
     let given = netfile::read_network(file, &mut network, &mut tree, &mut flags)?;
     price_given(&network, &given, &tree, &flags, out)
-}
-
-// The number of an answer's refusal, 0 where there is none.
-// Stays: the C interface answers by number, 0 for no refusal.
-fn number(answer: Result<(), Refusal>) -> u8
-    ensures { result ≡ code_of (refusal_in answer) }
-{
-    match answer {
-        Ok(()) => refusal::NONE,
-        Err(refused) => refused.number(),
-    }
-}
-
-// The same by number, for the C host.
-// Stays: the C interface answers by number, 0 for no refusal.
-pub fn price(file: &[u8], out: &mut [u8]) -> u8
-    ensures { Answered (host_call (length out.old) file.now) result out.old out.new }
-{
-    number(price_file(file, out))
 }

@@ -14,7 +14,7 @@ ghost use Rattle.cost.specs.Answers.{told, room};
 ghost use Rattle.memory.specs.Numbers.{or_short};
 ghost use Rattle.memory.specs.Promise.{MemoryCost};
 
-use network::{Accepted, Network, refusal, scan};
+use network::{Accepted, Network, scan};
 use pricing::list::PriceList;
 use spec::{Prices, Refusal, Total};
 
@@ -94,17 +94,6 @@ fn put_answer(answer: &mut [u64], prices: &Prices)
     cells::copy(answer, &numbers, 4);
 }
 
-// The number of the network's refusal; 7 where there is none.
-pub fn number_or_short(network: Network) -> u8
-    ensures { result ≡ or_short (refusal_of (net_of network)) }
-{
-    let number = network::number(network);
-    if number == refusal::NONE {
-        return refusal::SHORT_BUFFER;
-    }
-    number
-}
-
 // Prices a tree of the network, whose list of legs has all its places.
 // Stays: the C interface lends each list apart.
 fn price_lists(
@@ -177,33 +166,4 @@ pub fn price(
     price_lists(
         weights, leg_counts, legs, outputs, flags, kids, ws, list, steps, answer,
     )
-}
-
-// The same with the lists of the price list apart, answered by number. It stands until the host calls `price`.
-pub fn tree_cost(
-    weights: &[u8],
-    leg_counts: &[u8],
-    legs: &[u16],
-    outputs: &[u16],
-    flags: &[u8],
-    tree: &[u16],
-    ws: &mut [u64],
-    sets: &mut [u64],
-    sizes: &mut [u16],
-    works: &mut [u16],
-    steps: &mut [u16],
-    answer: &mut [u64],
-) -> u8
-    ensures { MemoryCost (lent_network weights.now leg_counts.now legs.now outputs.now) flags.now tree.now
-        ws.old sets.old sizes.old works.old steps.old answer.old
-        ws.new sets.new sizes.new works.new steps.new answer.new result }
-{
-    let mut list = PriceList { sets, sizes, works };
-    let answered = price(
-        weights, leg_counts, legs, outputs, flags, tree, ws, &mut list, steps, answer,
-    );
-    match answered {
-        Ok(()) => refusal::NONE,
-        Err(refused) => refused.number(),
-    }
 }

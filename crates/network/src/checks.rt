@@ -1,13 +1,11 @@
 // The check by number, on lists that are lent: all of the counts, then the weights, then the indices' range, then their repeats.
 ghost use Rattle.std.specs.Prelude.{◌≡◌, ◌≤◌, length};
-ghost use Rattle.spec.specs.Refusal.{code_of};
-ghost use Rattle.spec.specs.Network.{refusal_of, max_leaves, accepting};
-ghost use Rattle.spec.specs.Layout.{network_of};
-ghost use Rattle.network.specs.Checks.{Rows, Lent, Fitting};
+ghost use Rattle.spec.specs.Network.{max_leaves, accepting};
+ghost use Rattle.network.specs.Checks.{Rows};
 ghost use Rattle.network.specs.Codes.{large_of, out_of_range_of, repeat_of};
 ghost use Rattle.network.specs.Lists.{HasRows, lists_net};
 
-use crate::{Accepted, Network, refusal, scan};
+use crate::{Network, scan};
 use spec::Refusal;
 
 // Is a count above its limit. No list is read past its limit.
@@ -72,39 +70,4 @@ pub fn check_lists(
         return Err(Refusal::Repeated);
     }
     Ok(())
-}
-
-// The number of the refusal, or 0, on lists that are as long as their counts.
-pub fn number_in(
-    m: usize,
-    n: usize,
-    o: usize,
-    weights: &[u8],
-    counts: &[u8],
-    legs: &[u16],
-    outputs: &[u16],
-) -> u8
-    requires { Fitting m n o weights.now counts.now legs.now outputs.now }
-    ensures { result ≡ code_of (refusal_of (network_of m n o weights.now counts.now legs.now outputs.now)) }
-{
-    match Accepted::of_counts((m, n, o), weights, counts, legs, outputs) {
-        Ok(_) => refusal::NONE,
-        Err(refused) => refused.number(),
-    }
-}
-
-// The same on lists of a record's lengths.
-pub fn number<'a>(
-    m: usize,
-    n: usize,
-    o: usize,
-    weights: &'a [u8],
-    counts: &'a [u8],
-    legs: &'a [u16],
-    outputs: &'a [u16],
-) -> u8
-    requires { Lent weights.now counts.now legs.now outputs.now }
-    ensures { result ≡ code_of (refusal_of (network_of m n o weights.now counts.now legs.now outputs.now)) }
-{
-    number_in(m, n, o, weights, counts, legs, outputs)
 }

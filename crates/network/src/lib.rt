@@ -1,7 +1,6 @@
 #![tactic(auto)]
 // Networks as records: limits, what a record stands for, the check by number, networks made step by step, and accepted networks.
 ghost use Rattle.std.specs.Prelude.{◌≡◌, [], IfOk, IfErr, Some};
-ghost use Rattle.spec.specs.Refusal.{code_of};
 ghost use Rattle.spec.specs.Network.{refusal_of, accepting};
 ghost use Rattle.network.specs.Record.{net_of};
 ghost use Rattle.spec.specs.Building.{if_accepted, add_weight, add_leaf, add_output};
@@ -10,7 +9,6 @@ ghost use Rattle.network.specs.Views.{net_in};
 
 use spec::Refusal;
 
-pub mod refusal; // refusal.rt: the refusals by their numbers
 mod accepted; // accepted.rt: an accepted network
 pub mod scan; // scan.rt: searches of lists that are lent
 pub mod checks; // checks.rt: the check by number, on lists that are lent
@@ -136,15 +134,5 @@ impl Network {
         next.check()?;
         *self = *next;
         Ok(())
-    }
-}
-
-// The number of the refusal, or 0.
-pub fn number(network: Network) -> u8
-    ensures { result ≡ code_of (refusal_of (net_of network)) }
-{
-    match network.check() {
-        Ok(()) => refusal::NONE,
-        Err(refused) => refused.number(),
     }
 }

@@ -8,7 +8,7 @@ ghost use Rattle.spec.specs.Improve.{clamped};
 ghost use Rattle.network.specs.Record.{net_of};
 ghost use Rattle.network.specs.Views.{net_in};
 ghost use Rattle.pricing.specs.Sums.{work_sum};
-ghost use Rattle.reconfigure.specs.Answers.{limit_from, rest_call, last_call, Follows, Improving, Reconfigures};
+ghost use Rattle.reconfigure.specs.Answers.{rest_call, last_call, Follows, Improving};
 
 pub mod dangling; // dangling.rt: indices that just one leaf names
 
@@ -30,20 +30,6 @@ pub struct Ask<'a> {
     pub limit: Option<u16>,
 }
 
-// The limit on the size bits of the tables that a search makes, for callers of the old entry.
-#[derive(Clone, Copy)]
-pub enum Limit {
-    Unlimited,
-    Bits(u16),
-}
-
-// The answer of the old entry.
-#[derive(Clone, Copy)]
-pub enum Improved {
-    Refused(u8),
-    Done(Visited),
-}
-
 // At least 3 and at most 12.
 fn clamp(k: usize) -> usize
     ensures { (result ≡ clamped k) × (3 ≤ result) × (result ≤ 12) }
@@ -57,16 +43,6 @@ fn stated(k: usize) -> usize
     ensures { result ≡ 4096 + 8 * 2 ^ k }
 {
     4096 + 8 * subset::mask_count(k)
-}
-
-// The limit of the old entry.
-fn limit_of(limit: Limit) -> Option<u16>
-    ensures { result ≡ limit_from limit }
-{
-    match limit {
-        Limit::Unlimited => None,
-        Limit::Bits(x) => Some(x),
-    }
 }
 
 /// Is the total of a tree of `n` leaves, whose nodes' work bits are at hand, beyond.
@@ -185,28 +161,4 @@ pub fn improve(
     }
     let accepted = network.accepted()?;
     improve_of(&accepted, ask, tree, ws)
-}
-
-// The same as `improve`, answered by a number.
-pub fn reconfigure(
-    network: Network,
-    k: usize,
-    passes: usize,
-    limit: Limit,
-    flags: &[u8],
-    tree: &mut [u16],
-    ws: &mut [u64],
-) -> Improved
-    ensures { Reconfigures (net_of network) k passes (limit_from limit) flags.now tree.old ws.old tree.new ws.new result }
-{
-    let ask = Ask {
-        flags,
-        k,
-        passes,
-        limit: limit_of(limit),
-    };
-    match improve(&network, &ask, tree, ws) {
-        Ok(made) => Improved::Done(made),
-        Err(refusal) => Improved::Refused(refusal.number()),
-    }
 }
