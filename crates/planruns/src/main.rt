@@ -20,6 +20,7 @@ fn next_case<R: Read, W: Write>(input: &mut R, out: &mut W, k: usize) -> io::Res
 fn main(rt: HostRuntime) -> io::Result<()> {
     let mut input = rt.reader();
     let mut out = io::writer(&rt);
+    // Stays: the input states how many cases follow; there is no list
     for k in 0..stored::next_number(&mut input)? {
         next_case(&mut input, &mut out, k.saturating_add(1))?;
     }
