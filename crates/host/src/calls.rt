@@ -87,10 +87,7 @@ pub fn bisect(
 pub fn limit_of(x: u32) -> Option<u16>
     ensures { result ≡ limit_number x }
 {
-    if x < 65536 {
-        return Some(x as u16);
-    }
-    None
+    u16::try_from(x).ok()
 }
 
 // Writes the two numbers.
