@@ -12,10 +12,10 @@ pub returns-in-Ok-clause-sound : goal.returns-in-Ok-clause-sound
 returns-in-Ok-clause-sound c = let w = (bytes_told c.args.file.now c.plan_file.ensures c.in-Ok.is).0 in λ fits. handed_out c.args.file.now c.args.out.now _ _ w.bytes w.count fits
 
 pub returns-in-Err-clause-bytes : goal.returns-in-Err-clause-bytes
-returns-in-Err-clause-bytes c = (bytes_refused c.args.file.now c.plan_file.ensures c.in-Err.is c.put_refusal.ensures.0).bytes
+returns-in-Err-clause-bytes c = (bytes_refused c.args.file.now c.plan_file.ensures c.in-Err.is c.put_refusal.ensures.written).bytes
 
 pub returns-in-Err-clause-count : goal.returns-in-Err-clause-count
-returns-in-Err-clause-count c = ((bytes_refused c.args.file.now c.plan_file.ensures c.in-Err.is c.put_refusal.ensures.0).count, c.put_refusal.ensures.1)
+returns-in-Err-clause-count c = ((bytes_refused c.args.file.now c.plan_file.ensures c.in-Err.is c.put_refusal.ensures.written).count, c.put_refusal.ensures.short)
 
 pub returns-in-Err-clause-sound : goal.returns-in-Err-clause-sound
-returns-in-Err-clause-sound c = let w = bytes_refused c.args.file.now c.plan_file.ensures c.in-Err.is c.put_refusal.ensures.0 in λ fits. handed_out c.args.file.now c.args.out.now _ _ w.bytes w.count fits
+returns-in-Err-clause-sound c = let w = bytes_refused c.args.file.now c.plan_file.ensures c.in-Err.is c.put_refusal.ensures.written in λ fits. handed_out c.args.file.now c.args.out.now _ _ w.bytes w.count fits
