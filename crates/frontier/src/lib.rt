@@ -78,9 +78,10 @@ fn open_most(
     }
 }
 
-// Opens members of the node `v`, until there are `k` or only leaves are left, and returns how many there are.
-// Stays: a step repeated, over no list; the tree is read and two arrays are written that are no `Frontier` before all is opened.
-fn open_all(
+/// Opens members of the node `v`, until there are `k` or only leaves are left, and returns how many there are. They are put to the front of `members`, and the
+/// nodes opened for them to the front of `opened`.
+// Stays: a step repeated, over no list; the tree is read and two arrays are written that are no `Frontier` before all is opened, and may be longer than its own.
+pub fn open_all(
     kids: &[u16],
     n: usize,
     works: &[u16],

@@ -55,9 +55,9 @@ fn weigh_word(x: u64, base: usize, weights: &[u8]) -> usize
     sum
 }
 
-// The summed weights of the indices of either row.
+/// The summed weights of the indices of either row.
 // Stays: a row is two words, written out; std has no `From` of a `usize` for a `u64`.
-fn weigh(a: [u64; 2], b: [u64; 2], weights: &[u8]) -> u64
+pub fn weigh(a: [u64; 2], b: [u64; 2], weights: &[u8]) -> u64
     requires { (128 ≤ length weights.now) × Light weights.now }
     ensures { (result ≡ weighed weights.now [] (in_either a b) 128) × (result ≤ 1024) }
 {
