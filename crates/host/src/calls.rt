@@ -59,6 +59,7 @@ pub fn plan(lists: &Lists, tree: &mut [u16], ws: &mut [u64]) -> Result<(), Refus
 }
 
 // The plan by bisection; how many words were taken, to the front of `answer`.
+// Stays: seven parameters, as the C function hands them on; its four lists of the network are one already.
 pub fn bisect(
     lists: &Lists,
     imbalance: usize,
@@ -77,6 +78,7 @@ pub fn bisect(
     let network = record_of(lists)?;
     check_room(&network, answer.len(), 1)?;
     let taken = bisection::plan(&network, imbalance, cutoff, draws, tree, ws)?;
+    // Stays: u64 has no From<usize>, and TryFrom would add an error that cannot come
     cells::put(answer, 0, taken as u64);
     Ok(())
 }
@@ -85,10 +87,7 @@ pub fn bisect(
 pub fn limit_of(x: u32) -> Option<u16>
     ensures { result ≡ limit_number x }
 {
-    if x < 65536 {
-        return Some(x as u16);
-    }
-    None
+    u16::try_from(x).ok()
 }
 
 // Writes the two numbers.
@@ -121,6 +120,7 @@ pub fn improve(
 }
 
 // Slices a tree to a target, with improvement or without; the two counts, to the front of `answer`.
+// Stays: seven parameters, as the C function hands them on; its four lists of the network are one already.
 pub fn slice(
     lists: &Lists,
     improving: bool,

@@ -42,6 +42,7 @@ pub extern "C" fn loqshyber_price(file: &[u8], out: &mut [u8]) -> u32
 }
 
 /// Prices a tree of the network, into lists that are lent.
+// Stays: the C interface: a host calls it with these parameters.
 #[unsafe(no_mangle)]
 pub extern "C" fn loqshyber_tree_cost(
     weights: &[u8],
@@ -68,6 +69,7 @@ pub extern "C" fn loqshyber_tree_cost(
 }
 
 /// The greedy plan of the network, to the front of `tree`.
+// Stays: the C interface: a host calls it with these parameters.
 #[unsafe(no_mangle)]
 pub extern "C" fn loqshyber_greedy(
     weights: &[u8],
@@ -90,6 +92,7 @@ pub extern "C" fn loqshyber_greedy(
 }
 
 /// The plan of the network by bisection, to the front of `tree`; how many words were taken, to the front of `answer`.
+// Stays: the C interface: a host calls it with these parameters.
 #[unsafe(no_mangle)]
 pub extern "C" fn loqshyber_bisection(
     weights: &[u8],
@@ -116,6 +119,7 @@ pub extern "C" fn loqshyber_bisection(
 }
 
 /// Improves a tree of the network where it stands; the two counts, to the front of `answer`.
+// Stays: the C interface: a host calls it with these parameters.
 #[unsafe(no_mangle)]
 pub extern "C" fn loqshyber_reconfigure(
     weights: &[u8],
@@ -150,6 +154,7 @@ pub extern "C" fn loqshyber_reconfigure(
 }
 
 /// Slices a tree of the network to a target, improved where it stands unless `improving` is 0; the two counts, to the front of `answer`.
+// Stays: the C interface: a host calls it with these parameters.
 #[unsafe(no_mangle)]
 pub extern "C" fn loqshyber_slice_tree(
     weights: &[u8],

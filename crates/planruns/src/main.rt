@@ -19,6 +19,7 @@ fn next_case<R: Read, W: Write>(input: &mut R, out: &mut W, k: usize) -> io::Res
 
 // All cases, then all questions on slicing.
 fn run<R: Read, W: Write>(input: &mut R, out: &mut W) -> io::Result<()> {
+    // Stays: the input states how many cases follow; there is no list
     for k in 0..stored::next_number(input)? {
         next_case(input, out, k.saturating_add(1))?;
     }

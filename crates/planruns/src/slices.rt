@@ -33,6 +33,7 @@ fn slice<W: Write>(
     let mut flags = [0u8; 256];
     let mut ws = [0u64; 6144];
     let improving = 65536 <= asked;
+    // Stays: u16 has no From<usize>, and TryFrom would add an error that cannot come
     let target = (asked % 65536) as u16;
     let indices = network.index_count.min(256);
     let sliced = slicetree::slice(network, improving, tree, target, &mut flags, &mut ws);
@@ -51,6 +52,7 @@ fn answer_next<R: Read, W: Write>(input: &mut R, out: &mut W) -> io::Result<()> 
 
 /// All questions.
 pub fn answer_all<R: Read, W: Write>(input: &mut R, out: &mut W) -> io::Result<()> {
+    // Stays: the input states how many questions follow; there is no list
     for _ in 0..stored::next_number(input)? {
         answer_next(input, out)?;
     }
