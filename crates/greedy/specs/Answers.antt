@@ -11,7 +11,7 @@ use Rattle.spec.specs.Tree.{Pair, flat_of}
 use Rattle.spec.specs.Refusal.{number_of, code_of, checked}
 use Rattle.spec.specs.Calls.{Lent, lent, length_check, plain_words, tree_places, greedy_call, workspace_after, greedy_tree}
 use Rattle.spec.specs.Greedy.{greedy}
-use Rattle.walk.specs.Entry.{past_network, past_length, network_refused, too_short, quiet_words, quiet_list, done_words, refused_words}
+use Rattle.walk.specs.Entry.{Untouched, by_network, past_network, past_length, network_refused, too_short, quiet_words, quiet_list, done_words, refused_words}
 use Rattle.greedy.specs.Whole.{Grown, is_left, is_grown}
 
 -- refused, or done
