@@ -27,6 +27,7 @@ mod record;
 mod rust;
 mod slice;
 mod small;
+mod stacks;
 mod tally;
 mod timing;
 mod tree_record;
@@ -45,7 +46,7 @@ const TREE_RUNS: &str = concat!(env!("CARGO_MANIFEST_DIR"), "/../crates/treeruns
 /// The crate whose input and output `planner-record` writes.
 const PLANNER_RUNS: &str = concat!(env!("CARGO_MANIFEST_DIR"), "/../crates/planneruns");
 
-const USAGE: &str = "usage: harness all [SECONDS [SEED]] | compare|greedy|bisection|reconfigure|slice [NETWORKS [SEED]] | bisect [NETWORKS [SEED [LEAVES]]] | families | damage [FILES [SEED]] | bench | price-bench | greedy-bench | bisection-bench | reconfigure-bench | slice-bench | plan-bench | record | tree-record | planner-record";
+const USAGE: &str = "usage: harness all [SECONDS [SEED]] | compare|greedy|bisection|reconfigure|slice [NETWORKS [SEED]] | bisect [NETWORKS [SEED [LEAVES]]] | families | damage [FILES [SEED]] | bench | price-bench | greedy-bench | bisection-bench | reconfigure-bench | slice-bench | plan-bench | stacks | record | tree-record | planner-record";
 
 fn compare(count: usize, seed: u64) -> ExitCode {
     if !port::ready() {
@@ -126,6 +127,7 @@ fn main() -> ExitCode {
             plan_bench::run();
             ExitCode::SUCCESS
         }
+        (Some("stacks"), ..) => stacks::run(),
         (Some("record"), ..) => recorded("replay", record::run(Path::new(REPLAY))),
         _ => {
             println!("{USAGE}");
