@@ -100,6 +100,10 @@ three = refl
 pub third_of : (x : Float) → div binary64 x (of_bits binary64 4613937818241073152) ≡ div binary64 x (whole_float 3)
 third_of x = ap (div binary64 x) three
 
+-- a partition, projected along a map that is read
+pub projected_on : {part places places' : List ℕ} (p : List ℕ) (a e : ℕ) → part ≡ map (side_of p) (span a e places') → places' ≡ places → part ≡ map (side_of p) (span a e places)
+projected_on p a e q r = q ∙ ap (λ (l : List ℕ). map (side_of p) (span a e l)) r
+
 -- ---- a level ----
 
 pub vertices_are : (l m n : ℕ) (ws weights : List ℕ) (vw : List Float) (places : ℕ) → Stage ws (length weights) (length vw) places l m n → vertex_count (graph_at ws weights vw l m n) ≡ n

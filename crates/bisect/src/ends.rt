@@ -3,9 +3,9 @@ ghost use Rattle.std.specs.Prelude.{List, ◌≡◌, ◌+◌, ◌<◌, ◌≤◌
 ghost use Rattle.spec.specs.Network.{Network as Net};
 ghost use Rattle.spec.specs.Tree.{Pair};
 ghost use Rattle.spec.specs.Bisection.{imbalance};
-ghost use Rattle.greedynodes.specs.Begin.{Asks};
-ghost use Rattle.merging.specs.Merge.{with_node};
-ghost use Rattle.bisect.specs.Cases.{Small, Unsplit};
+ghost use Rattle.slots.specs.Weigh.{Light};
+ghost use Rattle.greedynodes.specs.Begin.{Room, Asks};
+ghost use Rattle.bisect.specs.Cases.{Small, Unsplit, Joins};
 
 use draws::Draws;
 use network::Accepted;
@@ -49,9 +49,35 @@ pub fn small_end(
     greedynodes::plan_leaves(ws, network, leaves, kids, count)
 }
 
-/// The same over leaves that were to be halved and are not: refused where a draw was due past the end of the words.
-// Stays: `count` is how many nodes the array has so far, and `kids` is longer.
+/// Greedy over leaves that were to be halved and are not, of a network of `n` leaves whose lists are lent: refused where a draw was due past the end of the words.
+// Stays: asks no more of its callers than lists that fit.
 pub fn unsplit(
+    ws: &mut [u64],
+    weights: &[u8],
+    n: usize,
+    leg_counts: &[u8],
+    legs: &[u16],
+    outputs: &[u16],
+    leaves: &[u16],
+    draws: &Draws,
+    kids: &mut [u16],
+    count: usize,
+) -> Result<u16, Refusal>
+    requires room { Room n count weights.now outputs.now leaves.now ws.old }
+    requires light { Light weights.now }
+    ensures { (N : Net) (a : List Pair) → Asks N a n count weights.now leg_counts.now legs.now outputs.now leaves.now kids.old → Unsplit N a leaves.now draws.now kids.old kids.new result }
+{
+    if draws.is_exhausted() {
+        return Err(Refusal::DrawsExhausted);
+    }
+    greedynodes::greedy_nodes(
+        ws, weights, n, leg_counts, legs, outputs, leaves, kids, count,
+    )
+}
+
+/// The same over an accepted network's leaves.
+// Stays: `count` is how many nodes the array has so far, and `kids` is longer.
+pub fn unsplit_in(
     ws: &mut [u64],
     network: &Accepted,
     leaves: &[u16],
@@ -62,20 +88,34 @@ pub fn unsplit(
     requires { (1036 ≤ length ws.old) × (length leaves.now ≤ 128) × (count < 8192) }
     ensures { (N : Net) (a : List Pair) → Asks N a (length network.now.leg_counts.now) count network.now.weights.now network.now.leg_counts.now network.now.legs.now network.now.outputs.now leaves.now kids.old → Unsplit N a leaves.now draws.now kids.old kids.new result }
 {
-    if draws.is_exhausted() {
-        return Err(Refusal::DrawsExhausted);
-    }
-    small_end(ws, network, leaves, kids, count)
+    unsplit(
+        ws,
+        network.weights,
+        network.leg_counts.len(),
+        network.leg_counts,
+        network.legs,
+        network.outputs,
+        leaves,
+        draws,
+        kids,
+        count,
+    )
 }
 
-/// The node over the tops of two halves, at place `count` of the array of a tree of `n` leaves.
+/// The node over the tops of two halves, at place `count` of the array of a tree of `n` leaves. Returns its number; a refusal of the right half is handed on.
 // Stays: `count` is how many nodes the array has so far, and `kids` is longer.
-pub fn join_halves(n: usize, kids: &mut [u16], count: usize, left: u16, right: u16) -> u16
+pub fn join_halves(
+    n: usize,
+    kids: &mut [u16],
+    count: usize,
+    left: u16,
+    right: Result<u16, Refusal>,
+) -> Result<u16, Refusal>
     requires { (n ≤ 256) × (count ≤ 4096) }
-    ensures node { kids.new ≡ with_node kids.old count left right }
-    ensures top { result ≡ n + count }
+    ensures { Joins n kids.old kids.new count left right result }
 {
-    merging::put_node(kids, count, left, right);
+    let top = right?;
+    merging::put_node(kids, count, left, top);
     // Stays: the number fits by what is known here; `try_from` would add a failure that never comes.
-    (n + count) as u16
+    Ok((n + count) as u16)
 }

@@ -4,17 +4,16 @@ ghost use Rattle.spec.specs.Memory.{over};
 ghost use Rattle.spec.specs.Bisection.{members_at, left_half, right_half};
 ghost use Rattle.bisect.specs.Picks.{on_side, place_after, put_at};
 
+// Stays: `k < 1048576`: a bound of a number, so that a place fits a machine word; a type of its own would be unwrapped at each use.
+
 // Is vertex `v` on the side that is asked for: side 0, or any other.
 fn is_on(part: &[u8], v: usize, left: bool) -> bool
     ensures { result ≡ on_side left part.now v }
 {
-    let side = cells::get_or(part, v, 0);
-    if left {
-        return side == 0;
-    }
-    side != 0
+    (cells::get_or(part, v, 0) == 0) == left
 }
 
+// Stays: `k` is the next free place of the list, not its length.
 // Puts the leaf at place `v` of the list at place `k` if it is on the side that is asked for. Returns the next free place.
 fn pick_leaf(out: &mut [u16], k: usize, leaf: u16, part: &[u8], v: usize, left: bool) -> usize
     requires { k < 1048576 }
@@ -40,6 +39,7 @@ fn pick(out: &mut [u16], leaves: &[u16], part: &[u8], left: bool) -> usize
 }
 
 /// Puts the leaves of side 0 before the others, each in their order, and returns how many are on side 0. The list `others` is for a copy.
+// Stays: a list of leaves, no tree.
 pub fn halve(leaves: &mut [u16], part: &[u8], others: &mut [u16]) -> usize
     requires { (length leaves.old ≤ length others.old) × (length leaves.old ≤ 65536) }
     ensures { (result ≡ length (left_half part.now leaves.old)) × (leaves.new ≡ left_half part.now leaves.old ++ right_half part.now leaves.old) }

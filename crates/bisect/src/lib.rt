@@ -15,28 +15,37 @@ pub mod hypergraph; // hypergraph.rt: the hypergraph of some leaves
 
 use coarsen::Size;
 use draws::Draws;
-use levels::Levels;
+use levels::{Level, Levels};
+
+// Stays: `draws: &mut Draws, part: &mut [u8]`: draws that go on and a list to be filled; the one is passed on where the other is not.
+// Stays: `level.size.vertices ≤ length part.old`: a bound of a number, so that the list has room; a type of its own would be unwrapped at each use.
 
 // A partition of a level, at the front of the list, through coarser levels and back. It falls with the number of vertices.
 fn multilevel(
     words: &mut [u64],
     lists: &mut Levels,
-    level: usize,
-    size: Size,
+    level: Level,
     most_weight: f64,
     draws: &mut Draws,
     part: &mut [u8],
 )
-    requires { Stage words.old (length lists.old.net_weights.now) (length lists.old.vertex_weights.now) (length lists.old.places.now) level size.nets size.vertices × (size.vertices ≤ length part.old) }
+    requires { Stage words.old (length lists.old.net_weights.now) (length lists.old.vertex_weights.now) (length lists.old.places.now) level.number level.size.nets level.size.vertices × (level.size.vertices ≤ length part.old) }
     ensures lent { IsSameLoan lists.old lists.new }
-    ensures through { Through level size.nets size.vertices most_weight draws.old draws.new words.old lists.old.net_weights.now lists.old.vertex_weights.now lists.old.places.now words.new lists.new.net_weights.now lists.new.vertex_weights.now lists.new.places.now part.new }
+    ensures through { Through level.number level.size.nets level.size.vertices most_weight draws.old draws.new words.old lists.old.net_weights.now lists.old.vertex_weights.now lists.old.places.now words.new lists.new.net_weights.now lists.new.vertex_weights.now lists.new.places.now part.new }
 {
-    match levels::coarsen_at(words, lists, level, size, most_weight / 3.0, draws) {
-        None => levels::initial_at(words, lists, level, size, most_weight, draws, part),
-        Some(coarse) => {
-            multilevel(words, lists, level + 1, coarse, most_weight, draws, part);
-            levels::project_at(part, lists, level, size.vertices, coarse.vertices);
-            levels::refine_at(words, lists, level, size, most_weight, draws, part);
+    match levels::coarsen_at(words, lists, level, most_weight / 3.0, draws) {
+        Err(_) => {
+            let weights = lists.weights();
+            levels::initial_at(words, &weights, level, most_weight, draws, part);
+        }
+        Ok(size) => {
+            let number = level.number + 1;
+            let next = Level { number, size };
+            multilevel(words, lists, next, most_weight, draws, part);
+            let n = level.size.vertices;
+            levels::project_at(part, lists.to_next(), level.number, n, size.vertices);
+            let weights = lists.weights();
+            levels::refine_at(words, &weights, level, most_weight, draws, part);
         }
     }
 }
@@ -57,5 +66,6 @@ pub fn bisect(
 {
     let total = levels::front_weight(lists, size.vertices);
     let most_weight = levels::side_limit(total, eps);
-    multilevel(words, lists, 0, size, most_weight, draws, part);
+    let level = Level { number: 0, size };
+    multilevel(words, lists, level, most_weight, draws, part);
 }

@@ -8,12 +8,12 @@ use Rattle.spec.specs.Memory.{copied, cleared}
 use Rattle.spec.specs.Network.{Network, network_checks, refusal_of}
 use Rattle.spec.specs.Draws.{Words}
 use Rattle.spec.specs.Tree.{flat_of}
-use Rattle.spec.specs.Refusal.{number_of, checked}
+use Rattle.spec.specs.Refusal.{checked}
 use Rattle.spec.specs.Calls.{Lent, lent, length_check, bisection_words, tree_places, bisection_call, touches, workspace_after, bisected_tree}
 use Rattle.spec.specs.Bisection as spec
 use Rattle.spec.specs.Bisection.{bisection}
 use Rattle.merging.specs.Removed.{flat_length}
-use Rattle.walk.specs.Entry.{holds_first, past_network, past_length, network_refused, too_short, quiet_words, quiet_list, network_quiet, done_words, refused_words}
+use Rattle.walk.specs.Entry.{past_network, past_length, network_refused, too_short, quiet_words, quiet_list, done_words, refused_words}
 use Rattle.bisect.specs.Cases.{ok_or_err, same_err}
 use Rattle.bisection.specs.Whole.{Whole, is_refused, is_plan, copied_out}
 

@@ -1,6 +1,6 @@
 -- What the calls of `bisect_rec` ask, from what it is given. Assumes nothing.
-use Rattle.std.specs.Prelude.{List, ◌++◌, ◌≡◌, ℕ, ◌-◌, ◌≤◌, ◌<◌, length, take, drop}
-use Rattle.std.proofs.Common.{ap, ◌∙◌, arith, length-drop}
+use Rattle.std.specs.Prelude.{List, ◌++◌, ◌≡◌, ℕ, ◌-◌, ◌≤◌, length, take, drop}
+use Rattle.std.proofs.Common.{ap, ◌∙◌, length-drop}
 use Rattle.spec.specs.Network.{Network}
 use Rattle.spec.specs.Tree.{Pair}
 use Rattle.bisect.specs.Whole.{Names}

@@ -1,7 +1,7 @@
 -- Bisection of all leaves of a network, from bisection of a list of leaves. Assumes nothing.
-use Rattle.std.specs.Prelude.{true, ◌≡◌, refl, ℕ, ◌+◌, ◌-◌, ◌≤◌, ◌<◌, min, Float, length, take, drop, Result, Err, Ok}
+use Rattle.std.specs.Prelude.{true, ◌≡◌, refl, ℕ, ◌+◌, ◌-◌, ◌≤◌, Float, length, take, drop, Result, Err, Ok}
 use Rattle.std.proofs.Math.Path.{sym, ap, subst}
-use Rattle.std.proofs.Common.{◌∙◌, ap₂, arith, length-drop, length-take-le, le-ltb}
+use Rattle.std.proofs.Common.{◌∙◌, ap₂, arith}
 use mathlib.Core.List.{List, []}
 use Rattle.std.proofs.Math.Seq.{take-append_seam, take-length}
 use Rattle.spec.specs.Lists.{memb, count, range}
@@ -12,7 +12,7 @@ use Rattle.spec.specs.Refusal.{and_then}
 use Rattle.spec.specs.declared.Refusal.{Refusal}
 use Rattle.spec.specs.Draws.{Words, lent_words}
 use Rattle.spec.specs.Bisection.{Halved, imbalance, bisect_rec, bisected_from, bisection}
-use Rattle.spec.specs.Calls.{bisection_words, touches}
+use Rattle.spec.specs.Calls.{touches}
 use Rattle.laws.specs.ListLaws.{from_memb, range_length}
 use Rattle.laws.specs.GreedyForest.{leaves_single}
 use Rattle.laws.specs.FileLists.{over_front}

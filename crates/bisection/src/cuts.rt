@@ -11,6 +11,9 @@ use draws::Draws;
 use levels::Levels;
 use network::Accepted;
 
+// Stays: `ws: &mut [u64], network: &Accepted`: the one is written and the other read; a struct of both would be taken apart at each call below.
+// Stays: `32768 ≤ length ws.old`: a bound of a number, so that the words have room for all levels; a type of its own would be unwrapped at each use.
+
 // A partition of the leaves, to the front of `part`. The local lists hold the weights of nets and of vertices and the map to the next level, of each level.
 // Stays: no conversion: it runs the partition and fills a lent list.
 fn partition_of(
@@ -21,7 +24,7 @@ fn partition_of(
     draws: &mut Draws,
     part: &mut [u8],
 )
-    requires { (length network.now.weights.now ≤ 256) × (2 < length leaves.now) × (length leaves.now ≤ 128) × Named network.now.weights.now network.now.leg_counts.now network.now.legs.now leaves.now × (32768 ≤ length ws.old) × (128 ≤ length part.old) }
+    requires { (2 < length leaves.now) × (length leaves.now ≤ 128) × Named network.now.weights.now network.now.leg_counts.now network.now.legs.now leaves.now × (32768 ≤ length ws.old) × (128 ≤ length part.old) }
     ensures { (N : Net) → Names N network.now.weights.now network.now.leg_counts.now network.now.legs.now leaves.now → Partitioned N leaves.now eps draws.old part.new draws.new }
 {
     let mut net_weights = [0u8; 7168];
@@ -32,7 +35,7 @@ fn partition_of(
         nets: 0,
         vertices: 128,
     };
-    let nets = hypergraph::hypergraph_of(
+    let nets = hypergraph::hypergraph_in(
         ws,
         slots,
         network,
@@ -49,6 +52,7 @@ fn partition_of(
     bisect::bisect(ws, &mut lists, size, eps, draws, &mut part[..n]);
 }
 
+// Stays: one list is by vertex and the other a copy of leaves, each lent to another function.
 // Halves the leaves by a partition, side 0 first. Returns how many go left; none where the leaves are not halved.
 pub(crate) fn cut_leaves(
     leaves: &mut [u16],
@@ -57,7 +61,7 @@ pub(crate) fn cut_leaves(
     eps: f64,
     draws: &mut Draws,
 ) -> Option<usize>
-    requires { (length network.now.weights.now ≤ 256) × (2 < length leaves.old) × (length leaves.old ≤ 128) × Named network.now.weights.now network.now.leg_counts.now network.now.legs.now leaves.old × (32768 ≤ length ws.old) }
+    requires { (2 < length leaves.old) × (length leaves.old ≤ 128) × Named network.now.weights.now network.now.leg_counts.now network.now.legs.now leaves.old × (32768 ≤ length ws.old) }
     ensures left_in_bounds { IfSome result (λ left. (0 < left) × (left < length leaves.old)) }
     ensures cut_by { (N : Net) → Names N network.now.weights.now network.now.leg_counts.now network.now.legs.now leaves.old → CutBy N leaves.old eps draws.old leaves.new (left_of result) draws.new }
 {

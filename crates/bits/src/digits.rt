@@ -4,6 +4,7 @@ ghost use Rattle.std.specs.Iterator.{YieldsFirst, item_count};
 ghost use Rattle.bits.specs.Lowest.{places};
 
 /// The numbers `base` + i for the places i of a word's set digits, from the lowest up.
+// Stays: an iterator over digits; that others have two numbers too is chance.
 #[derive(Clone, Copy)]
 pub struct Digits {
     base: usize,
@@ -21,6 +22,7 @@ impl Digits {
     }
 
     /// The numbers `base` + i for the places i of the set digits of `x`, from the lowest up.
+    // Stays: no comparison: it makes the iterator. `base ≤ 65536` is the ghost field, asked for where the value is made.
     #[inline]
     pub fn above(base: usize, x: u64) -> Digits
         requires { base ≤ 65536 }
@@ -37,6 +39,7 @@ impl Iterator for Digits {
 
     ghost remaining = { item_count (λ s. places s.base 64 s.rest) };
 
+    // Stays: std counts zeros in `u32`, from which no `From` goes to `usize`.
     #[inline]
     #[tactic(auto, using(crate::proofs::DigitLaws::digit_steps))]
     fn next(&mut self) -> Option<usize> {

@@ -9,6 +9,7 @@ mod digits; // digits.rt: the set digits of a word, one after another
 pub use digits::Digits;
 
 /// The place of the lowest set digit.
+// Stays: std counts zeros in `u32`, from which no `From` goes to `usize`.
 pub fn low(x: u64) -> usize
     requires { 0 < x }
     ensures { (result ≡ count_trailing_zeros 64 x) × (result < 64) }
@@ -17,6 +18,7 @@ pub fn low(x: u64) -> usize
 }
 
 /// How many digits are set.
+// Stays: std counts ones in `u32`, from which no `From` goes to `usize`.
 pub fn count_ones(x: u64) -> usize
     ensures { (result ≡ ones x) × (result ≤ 64) }
 {
@@ -30,7 +32,7 @@ pub fn count_parts(rest: u64) -> u64
 {
     let mut sub = rest;
     let mut n: u64 = 0;
-    // the form that a rule names: a loop whose break has the value
+    // Stays: a walk over sub-masks, over no list: a loop whose break has the value.
     let total = loop {
         n += 1;
         if sub == 0 {
@@ -48,7 +50,7 @@ pub fn most_splits(m: usize) -> u64
     let n = m.min(12);
     let mut splits: u64 = 0;
     let mut masks: u64 = 1;
-    // a step repeated, over no list
+    // Stays: a step repeated, over no list; `fold` over the range would hand both numbers on as a pair.
     for k in 0..n {
         splits = 3 * splits + masks - 1;
         masks = 2 * masks;

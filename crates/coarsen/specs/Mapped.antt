@@ -1,7 +1,7 @@
 -- Each net's pins, mapped to coarse vertices. Assumes nothing.
-use Rattle.std.specs.Prelude.{false, ◌||◌, ◌≡◌, List, [], ◌∷◌, map, length, get_or, take}
+use Rattle.std.specs.Prelude.{false, ◌||◌, ◌≡◌, List, [], ◌∷◌, map, length, get_or}
 use Rattle.std.proofs.Math.Path.{refl}
-use Rattle.std.proofs.Common.{sym, ap, ◌∙◌, arith, zero-add, get_or-take, length-take-le}
+use Rattle.std.proofs.Common.{sym, ap, ◌∙◌, arith, zero-add}
 use Prim.Native.Nat.{ℕ, zero, suc, ◌+◌, ◌*◌, ◌≤◌, ◌<◌}
 use Rattle.std.proofs.Math.Decide.{ℕ_discrete}
 use Rattle.std.proofs.lemmas.List.{length-map}

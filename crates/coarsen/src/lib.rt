@@ -9,7 +9,11 @@ ghost use Rattle.coarsen.specs.Pairs.{Paired};
 ghost use Rattle.coarsen.specs.Joined.{weight_in, joined_of, joined_one, joined};
 ghost use Rattle.coarsen.specs.Mapped.{images, mapped_net, mapped};
 ghost use Rattle.coarsen.specs.Level.{Coarser, enough};
-ghost use Rattle.coarsen.specs.Sizes.{ByTry, Made};
+ghost use Rattle.coarsen.specs.Sizes.{HasRoom, ByTry, BySize, Made};
+
+// Stays: `limit: f64, draws: &mut Draws`: a number that stays and draws that go on; nothing else is made of the two.
+// Stays: `words: &mut [u64], layout: &Layout`: the layout stays as it is, and holds no words, since it is read while the words are written.
+// Stays: `e < 256`, `m ≤ 256`, `n ≤ 128`, `length vw.now ≤ 128`, `nets < 32768`, `s < 1048576`: bounds of numbers, so that a place fits a machine word; a type of its own would be unwrapped at each use.
 
 use draws::Draws;
 use matching::Graph;
@@ -108,6 +112,7 @@ fn map_nets(graph: &mut [u64], nets: usize, coarse: usize, m: usize, places: &[u
 
 /// How many nets and vertices a hypergraph has.
 #[derive(Clone, Copy)]
+// Stays: no twin of `Slots`: these are counts, those are places, and neither may stand for the other.
 pub struct Size {
     pub nets: usize,
     pub vertices: usize,
@@ -115,6 +120,7 @@ pub struct Size {
 
 /// The slots in lent words at which the nets and the vertices of a hypergraph begin.
 #[derive(Clone, Copy)]
+// Stays: no twin of `Size`: these are places, those are counts, and neither may stand for the other.
 pub struct Slots {
     pub nets: usize,
     pub vertices: usize,
@@ -163,8 +169,36 @@ fn is_worthwhile(n: usize, left: usize) -> bool
 }
 
 /// A coarser hypergraph, by a matching in a drawn order, in slots of its own, with `weights2` and `vw2`, and the coarse vertex of each vertex in `places`. The
-/// list `mates` is for the matching. Returns how many nets and vertices the coarser hypergraph has; none where too many vertices are left.
-// Stays: what is lent here is lent for this call alone, read or written, by callers that hold it apart; a struct of it would be made at the one call.
+/// list `mates` is for the matching. Returns how many nets and vertices the coarser hypergraph has, as an error where too many vertices are left.
+// Stays: asks no more of its callers than lists that fit.
+pub fn try_coarsen(
+    words: &mut [u64],
+    layout: &Layout,
+    limit: f64,
+    draws: &mut Draws,
+    slots: Slots,
+    weights2: &mut [u8],
+    vw2: &mut [f64],
+    places: &mut [u16],
+    mates: &mut [u16],
+) -> Result<Size, Size>
+    requires { HasRoom words.old layout.now slots weights2.old vw2.old places.old mates.old }
+    ensures { BySize (λ found m n. Made words.old layout.now.nets layout.now.net_weights.now layout.now.net_count layout.now.vertex_weights.now limit draws.old draws.new mates.new slots.nets slots.vertices words.new weights2.new vw2.new places.new found m n) result }
+{
+    let graph = Graph {
+        words,
+        layout: *layout,
+    };
+    matching::match_all(&graph, limit, draws, mates);
+    let size = level(words, layout, mates, slots, weights2, vw2, places);
+    if is_worthwhile(layout.vertex_weights.len(), size.vertices) {
+        return Ok(size);
+    }
+    Err(size)
+}
+
+/// The same, with no size where too many vertices are left.
+// Stays: asks no more of its callers than lists that fit.
 pub fn coarsen(
     words: &mut [u64],
     layout: &Layout,
@@ -179,14 +213,8 @@ pub fn coarsen(
     requires { (layout.now.nets < 32768) × (layout.now.vertices < 32768) × (0 < length layout.now.vertex_weights.now) × Meshed words.old layout.now.nets layout.now.vertices layout.now.net_count (length layout.now.vertex_weights.now) × (length mates.old ≡ length layout.now.vertex_weights.now) × Within words.old layout.now.nets layout.now.net_count (length layout.now.vertex_weights.now) × (length layout.now.vertex_weights.now ≤ length places.old) × (length layout.now.vertex_weights.now ≤ length vw2.old) × (layout.now.net_count ≤ length weights2.old) × (layout.now.nets + 256 ≤ slots.nets) × (slots.nets + 256 ≤ slots.vertices * 2) × ((slots.vertices + 128) * 4 ≤ length words.old) × (slots.nets < 32768) × (slots.vertices < 32768) }
     ensures { ByTry (λ found m n. Made words.old layout.now.nets layout.now.net_weights.now layout.now.net_count layout.now.vertex_weights.now limit draws.old draws.new mates.new slots.nets slots.vertices words.new weights2.new vw2.new places.new found m n) result }
 {
-    let graph = Graph {
-        words,
-        layout: *layout,
-    };
-    matching::match_all(&graph, limit, draws, mates);
-    let size = level(words, layout, mates, slots, weights2, vw2, places);
-    if is_worthwhile(layout.vertex_weights.len(), size.vertices) {
-        return Some(size);
-    }
-    None
+    try_coarsen(
+        words, layout, limit, draws, slots, weights2, vw2, places, mates,
+    )
+    .ok()
 }

@@ -272,6 +272,12 @@ module _ (N : Network) (flags kids ws₀ sets₀ sizes₀ works₀ steps₀ : Li
         workspace = rw (e, q);
       }
 
+  -- and one whose network is refused
+  pub network_cost : (r : Refusal) → refusal_of N ≡ Some r → TreeCost N flags kids ws₀ sets₀ sizes₀ works₀ steps₀ ws₀ sets₀ sizes₀ works₀ steps₀ (Err r)
+  network_cost r e =
+      let (is, quiet) = call_refused N flags kids (length ws₀) (length sets₀) (length sizes₀) (length works₀) (length steps₀) r e in
+      untouched_cost r is quiet
+
   -- a call that the checks of the tree and of the flags decide
   pub rest_cost : (ws sets sizes works steps : List ℕ) (r : Result Prices Refusal) → whole ≡ rest_call N flags kids → ws ≡ cleared ws₀ plain_words
       → Answered N flags kids (rest_call N flags kids) sets₀ sizes₀ works₀ steps₀ sets sizes works steps r

@@ -2,12 +2,17 @@
 // Pricing of a network's tree, as an entry that asks nothing of its caller.
 ghost use Rattle.std.specs.Prelude.{◌≡◌, ◌≤◌, length};
 ghost use Rattle.spec.specs.Network.{leaf_count};
+ghost use Rattle.spec.specs.Layout.{network_of};
+ghost use Rattle.network.specs.Checks.{Fitting};
 ghost use Rattle.network.specs.Record.{net_of};
 ghost use Rattle.network.specs.Views.{net_in};
 ghost use Rattle.pricing.specs.Lists.{IsSameLoan};
 ghost use Rattle.cost.specs.Answers.{too_few, wrong_flags, rest_call, Answered, TreeCost};
 ghost use Rattle.cost.specs.Back.{exact_of};
 ghost use Rattle.cost.specs.Checks.{LongEnough};
+
+// Stays: `n ≤ 512`: a bound of a number, so that its products fit a machine word; a type of its own would be unwrapped at each use.
+// Stays: `IsSameLoan list.old list.new`: said of what a call hands back; a type says what holds of a value, not what a call left as it was.
 
 use network::{Accepted, Network, scan};
 use pricing::list::PriceList;
@@ -58,6 +63,7 @@ pub fn wrong_flags(m: usize, flags: &[u8]) -> bool
 }
 
 // The answer where the lists are long enough. On a refusal only `ws` is written.
+// Stays: the C interface lends flags, tree, workspace, price list and listing apart, the tree as a flat list, the listing as numbers.
 fn priced_in(
     network: &Accepted,
     flags: &[u8],
@@ -80,8 +86,8 @@ fn priced_in(
 }
 
 /// Prices the tree `kids` of an accepted network with the given flags. Refusals, in this order: `ShortBuffer`, `InvalidTree`, `InvalidFlags`.
-// Stays: the cost of an accepted network's tree, no conversion.
-pub fn cost_of(
+// Stays: the C interface lends flags, tree, workspace, price list and listing apart, the tree as a flat list, the listing as numbers.
+pub fn price_accepted(
     network: &Accepted,
     flags: &[u8],
     kids: &[u16],
@@ -101,8 +107,32 @@ pub fn cost_of(
     answer
 }
 
+/// Prices the tree `kids` of a network in lists of which the first places are in use, as many as `counts` says of weights, leaves and outputs.
+/// The network's own refusals come first, then those of `price_accepted`.
+// Stays: asks no more of its callers than lists that fit.
+pub fn cost_of(
+    counts: (usize, usize, usize),
+    weights: &[u8],
+    leg_counts: &[u8],
+    legs: &[u16],
+    outputs: &[u16],
+    flags: &[u8],
+    kids: &[u16],
+    ws: &mut [u64],
+    list: &mut PriceList,
+    steps: &mut [u16],
+) -> Result<Prices, Refusal>
+    requires { Fitting counts.0 counts.1 counts.2 weights.now leg_counts.now legs.now outputs.now }
+    ensures lent { IsSameLoan list.old list.new }
+    ensures cost { TreeCost (network_of counts.0 counts.1 counts.2 weights.now leg_counts.now legs.now outputs.now) flags.now kids.now ws.old list.old.sets.now list.old.sizes.now list.old.works.now steps.old ws.new list.new.sets.now list.new.sizes.now list.new.works.now steps.new result }
+{
+    let network = Accepted::of_counts(counts, weights, leg_counts, legs, outputs)?;
+    price_accepted(&network, flags, kids, ws, list, steps)
+}
+
 /// Prices the tree `kids` of a network with the given flags: each node's set, size bits and work bits in `list`, the listing in `steps`, five
-/// numbers a step; the answer is total, widest and slice bits. The network's own refusals come first, then those of `cost_of`.
+/// numbers a step; the answer is total, widest and slice bits. The network's own refusals come first, then those of `price_accepted`.
+// Stays: the C interface lends flags, tree, workspace, price list and listing apart, the tree as a flat list, the listing as numbers.
 pub fn tree_cost(
     network: &Network,
     flags: &[u8],
@@ -115,5 +145,5 @@ pub fn tree_cost(
     ensures cost { TreeCost (net_of network.now) flags.now kids.now ws.old list.old.sets.now list.old.sizes.now list.old.works.now steps.old ws.new list.new.sets.now list.new.sizes.now list.new.works.now steps.new result }
 {
     let network = network.accepted()?;
-    cost_of(&network, flags, kids, ws, list, steps)
+    price_accepted(&network, flags, kids, ws, list, steps)
 }

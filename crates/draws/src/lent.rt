@@ -6,6 +6,7 @@ use std::marker::Model;
 
 /// Lent words that stand for a random generator, and how many draws were due so far: one more than there are words, once one was due past the end. Clauses see
 /// the words that are left, and whether a draw was due when none was.
+// Stays: a lent list of its own; that others have a list and a number too is chance.
 #[derive(Drop)]
 pub struct Draws<'a> {
     words: &'a [u64],
@@ -23,14 +24,23 @@ impl<'a> Model for Draws<'a> {
 }
 
 impl<'a> Draws<'a> {
+    /// The words from place `at` on are left, wherever that is. Above the number of words, a draw was due past the end.
+    // Stays: this makes one value of a list and a place in it; no other signature has both.
+    pub fn at(words: &'a [u64], at: usize) -> Draws<'a>
+        ensures { result ≡ words_at words.now at }
+    {
+        Draws { words, taken: at }
+    }
+
     /// All of the words are left.
     pub fn new(words: &'a [u64]) -> Draws<'a>
         ensures { result ≡ lent_words words.now }
     {
-        Draws { words, taken: 0 }
+        Draws::at(words, 0)
     }
 
     /// The next word, and 0 past the end.
+    // Stays: 0 is a draw as any other, as the definition has it; `is_exhausted` tells that one was due past the end.
     fn next(&mut self) -> u64
         ensures value { result ≡ (draw self.old).value }
         ensures words { self.new ≡ (draw self.old).words }

@@ -1,4 +1,4 @@
--- One field read into the record that is lent: what a scan says then. Assumes nothing.
+-- One field read into the lists that are lent: what a scan says then. Assumes nothing.
 use Rattle.std.specs.Prelude.{Bool, true, false, ◌||◌, cond, ◌≡◌, ℕ, ◌+◌, ◌*◌, ◌≤◌, ◌<◌, ltb, set, Option, None, Some, Result, Ok, Err, MatchResult}
 use mathlib.Core.List.{List, [], ◌∷◌, ◌++◌}
 use Rattle.std.proofs.Math.Path.{refl, ap, ap₂}
@@ -20,7 +20,7 @@ use Rattle.network.specs.declared.Network.{Network as Record}
 use Rattle.network.specs.Record.{net_of}
 use Rattle.network.specs.Layouts.{layout_leaf_count, layout_index_count, layout_more_leaves, firsts_whole}
 use Rattle.payloads.specs.Payload.{verdict, weights_refusal, leaf_refusal, outputs_refusal, tree_refusal, flags_refusal}
-use Rattle.fields.specs.Scans.{reading_of}
+use Rattle.fields.specs.Scans.{record_in, reading_of}
 use Rattle.fields.specs.declared.Scan.{Scan}
 
 -- what is kept from field to field: at most 128 leaves, of at most 32 indices each
@@ -28,9 +28,12 @@ pub record Sound (n : Record) : Type 0 where
   pub leaves : n.leaf_count ≤ 128
   pub few : (i : ℕ) → i < n.leaf_count → get_or n.leg_counts i 0 ≤ 32
 
--- a field has been read, as R says: the scan and the record afterwards, or the refusal
-abbrev pub Takes : Result Reading Refusal → Result Scan Refusal → Record → Type 0
-Takes R r n = MatchResult r (λ s. (R ≡ Ok (reading_of s n)) × Sound n) (λ k. R ≡ Err k)
+-- a field has been read, as R says: the scan and the lists afterwards, or the refusal
+abbrev pub Takes : Result Reading Refusal → Result Scan Refusal → (weights counts legs outputs : List ℕ) → Type 0
+Takes R r w c l o =
+    MatchResult r
+    (λ s. (R ≡ Ok (reading_of s (record_in s.counts w c l o))) × Sound (record_in s.counts w c l o))
+    (λ k. R ≡ Err k)
 
 -- ---- what a check's answer decides ----
 

@@ -8,6 +8,7 @@ use Rattle.fields.specs.Dues.{due_of}
 use Rattle.fields.specs.declared.contents.Asked.{Asked}
 use Rattle.fields.specs.declared.contents.Asked.TheVariants.{Plain, Flagged, Target}
 use Rattle.fields.specs.declared.contents.Contents.{Contents}
+use Rattle.fields.specs.declared.contents.Counts.{Counts}
 use Rattle.fields.specs.declared.Scan.{Scan}
 
 -- the tree's children
@@ -19,6 +20,11 @@ abbrev pub ask_of : Asked → Ask
 ask_of Plain = plain
 ask_of (Flagged l) = flagged l.now
 ask_of (Target w) = target w
+
+-- the record of counts and lists
+abbrev pub record_in : Counts → (weights counts legs outputs : List ℕ) → Record
+record_in k weights counts legs outputs =
+    record { index_count = k.index_count; leaf_count = k.leaf_count; output_count = k.output_count; weights = weights; leg_counts = counts; legs = legs; outputs = outputs }
 
 -- what a file has: its network, which a record stands for, and the rest
 abbrev pub contents_of : Contents → Record → Contents_in_file

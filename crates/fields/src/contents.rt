@@ -1,4 +1,13 @@
 // What a network file has beside its network.
+// Stays: counts of a network, one of each kind; other types of this shape hold other numbers.
+/// How many indices, leaves and outputs a network has.
+#[derive(Clone, Copy)]
+pub struct Counts {
+    pub index_count: usize,
+    pub leaf_count: usize,
+    pub output_count: usize,
+}
+
 /// What a network file asks.
 #[derive(Clone, Copy)]
 pub enum Asked<'a> {

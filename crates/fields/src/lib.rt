@@ -1,38 +1,40 @@
 #![tactic(auto)]
-// The fields of a network file, one after another, into a record that is lent.
-ghost use Rattle.std.specs.Prelude.{◌≡◌, ◌<◌, length, None};
+// The fields of a network file, one after another, into lists that are lent.
+ghost use Rattle.std.specs.Prelude.{◌≡◌, ◌<◌, ◌≤◌, List, ℕ, length, None};
 ghost use Rattle.spec.specs.File.{take_weights, take_leaf, take_outputs, take_tree, take_flags, take_target, take_field, nothing_read};
 ghost use Rattle.payloads.specs.Tags.{tag_number};
 ghost use Rattle.network.specs.Record.{net_of};
 ghost use Rattle.fields.specs.Dues.{due_of};
-ghost use Rattle.fields.specs.Scans.{tree_of, reading_of};
+ghost use Rattle.fields.specs.Scans.{tree_of, record_in, reading_of};
 ghost use Rattle.fields.specs.Steps.{Splits};
 ghost use Rattle.fields.specs.Fields.{Sound, Takes};
-ghost use Rattle.fields.specs.Whole.{Finished};
+ghost use Rattle.fields.specs.Whole.{Room, Finished, FinishedIn};
 ghost use Rattle.fields.specs.declared.contents.Asked.TheVariants.{Plain};
 
 pub mod contents; // contents.rt: what a network file has beside its network
 pub mod due; // due.rt: what may stand next
 
-pub use contents::{Asked, Contents};
+pub use contents::{Asked, Contents, Counts};
 pub use due::Due;
 use network::Network;
 use payloads::tags::Tag;
 use spec::Refusal;
 
-// What has been read so far beside the network, and what is due.
+// What has been read so far beside the lists, and what is due.
 #[derive(Clone, Copy)]
 struct Scan<'a> {
     due: Due,
+    counts: Counts,
     contents: Contents<'a>,
 }
 
 // A network without a tree, and nothing asked.
-fn bare<'a>(due: Due) -> Scan<'a>
-    ensures { result ≡ record { due = due; contents = record { tree = None; ask = Plain } } }
+fn bare<'a>(due: Due, counts: Counts) -> Scan<'a>
+    ensures { result ≡ record { due = due; counts = counts; contents = record { tree = None; ask = Plain } } }
 {
     Scan {
         due,
+        counts,
         contents: Contents {
             tree: None,
             ask: Asked::Plain,
@@ -61,7 +63,7 @@ fn split_field<'a>(due: Due, bytes: &'a [u8]) -> Result<Field<'a>, Refusal>
     if !due.allows(tag) {
         return Err(Refusal::WrongTag);
     }
-    let count = usize::from(bytes[1]) * 256 + usize::from(bytes[2]);
+    let count = usize::from(u16::from_be_bytes([bytes[1], bytes[2]]));
     let (_, body) = bytes.split_at(3);
     if body.len() < count {
         return Err(Refusal::Truncated);
@@ -70,52 +72,72 @@ fn split_field<'a>(due: Due, bytes: &'a [u8]) -> Result<Field<'a>, Refusal>
     Ok(Field { tag, payload, rest })
 }
 
-// The weights. What the record held before is no part of the network then.
-fn take_weights<'a>(payload: &[u8], network: &mut Network) -> Result<Scan<'a>, Refusal>
-    ensures { Takes (take_weights payload.now) result network.new }
+// The weights. What the lists held before is no part of the network then.
+fn take_weights<'a>(payload: &[u8], weights: &mut [u8]) -> Result<Scan<'a>, Refusal>
+    requires { 256 ≤ length weights.old }
+    ensures { (c l o : List ℕ) → Takes (take_weights payload.now) result weights.new c l o }
 {
     payloads::check_weights(payload)?;
-    cells::place(&mut network.weights, 0, payload);
-    network.index_count = payload.len();
-    network.leaf_count = 0;
-    network.output_count = 0;
-    Ok(bare(Due::Leaves))
+    cells::place(weights, 0, payload);
+    let counts = Counts {
+        index_count: payload.len(),
+        leaf_count: 0,
+        output_count: 0,
+    };
+    Ok(bare(Due::Leaves, counts))
 }
 
+// Stays: lists that fit are enough. The check has found at most 32 indices, so that a conversion's refusal could not come.
 // One leaf more.
-fn take_leaf<'a>(payload: &[u8], network: &mut Network) -> Result<Scan<'a>, Refusal>
-    requires { Sound network.old }
-    ensures { Takes (take_leaf (net_of network.old) payload.now) result network.new }
+fn take_leaf<'a>(
+    payload: &[u8],
+    counts: Counts,
+    leg_counts: &mut [u8],
+    legs: &mut [u16],
+) -> Result<Scan<'a>, Refusal>
+    requires { (128 ≤ length leg_counts.old) × (4096 ≤ length legs.old) }
+    ensures { (w o : List ℕ) → Sound (record_in counts w leg_counts.old legs.old o) → Takes (take_leaf (net_of (record_in counts w leg_counts.old legs.old o)) payload.now) result w leg_counts.new legs.new o }
 {
-    let leaf = network.leaf_count;
-    payloads::check_leaf(payload, network.index_count, leaf)?;
-    // Stays: the check above has found at most 32, so that a conversion's refusal could not come.
-    network.leg_counts[leaf] = payload.len() as u8;
-    payloads::place(&mut network.legs, leaf * Network::MAX_LEGS, payload);
-    network.leaf_count = leaf + 1;
-    network.output_count = 0;
-    Ok(bare(Due::Leaves))
+    let leaf = counts.leaf_count;
+    payloads::check_leaf(payload, counts.index_count, leaf)?;
+    leg_counts[leaf] = payload.len() as u8;
+    payloads::place(legs, leaf * Network::MAX_LEGS, payload);
+    let more = Counts {
+        index_count: counts.index_count,
+        leaf_count: leaf + 1,
+        output_count: 0,
+    };
+    Ok(bare(Due::Leaves, more))
 }
 
 // The outputs.
-fn take_outputs<'a>(payload: &[u8], network: &mut Network) -> Result<Scan<'a>, Refusal>
-    requires { Sound network.old }
-    ensures { Takes (take_outputs (net_of network.old) payload.now) result network.new }
+fn take_outputs<'a>(
+    payload: &[u8],
+    counts: Counts,
+    outputs: &mut [u16],
+) -> Result<Scan<'a>, Refusal>
+    requires { 32 ≤ length outputs.old }
+    ensures { (w c l : List ℕ) → Sound (record_in counts w c l outputs.old) → Takes (take_outputs (net_of (record_in counts w c l outputs.old)) payload.now) result w c l outputs.new }
 {
-    payloads::check_outputs(payload, network.index_count)?;
-    payloads::place(&mut network.outputs, 0, payload);
-    network.output_count = payload.len();
-    Ok(bare(Due::Tree))
+    payloads::check_outputs(payload, counts.index_count)?;
+    payloads::place(outputs, 0, payload);
+    let all = Counts {
+        index_count: counts.index_count,
+        leaf_count: counts.leaf_count,
+        output_count: payload.len(),
+    };
+    Ok(bare(Due::Tree, all))
 }
 
 // The tree.
-fn take_tree<'a>(payload: &'a [u8], network: &Network) -> Result<Scan<'a>, Refusal>
-    requires { Sound network.now }
-    ensures { Takes (take_tree (net_of network.now) payload.now) result network.now }
+fn take_tree<'a>(payload: &'a [u8], counts: Counts) -> Result<Scan<'a>, Refusal>
+    requires { counts.leaf_count ≤ 128 }
+    ensures { (w c l o : List ℕ) → Sound (record_in counts w c l o) → Takes (take_tree (net_of (record_in counts w c l o)) payload.now) result w c l o }
 {
-    payloads::check_tree(payload, network.leaf_count)?;
+    payloads::check_tree(payload, counts.leaf_count)?;
     Ok(Scan {
         due: Due::Ask,
+        counts,
         contents: Contents {
             tree: Some(payload),
             ask: Asked::Plain,
@@ -127,14 +149,14 @@ fn take_tree<'a>(payload: &'a [u8], network: &Network) -> Result<Scan<'a>, Refus
 fn take_flags<'a>(
     tree: Option<&'a [u8]>,
     payload: &'a [u8],
-    network: &Network,
+    counts: Counts,
 ) -> Result<Scan<'a>, Refusal>
-    requires { Sound network.now }
-    ensures { Takes (take_flags (net_of network.now) (tree_of tree.entry) payload.now) result network.now }
+    ensures { (w c l o : List ℕ) → Sound (record_in counts w c l o) → Takes (take_flags (net_of (record_in counts w c l o)) (tree_of tree.entry) payload.now) result w c l o }
 {
-    payloads::check_flags(payload, network.index_count)?;
+    payloads::check_flags(payload, counts.index_count)?;
     Ok(Scan {
         due: Due::End,
+        counts,
         contents: Contents {
             tree,
             ask: Asked::Flagged(payload),
@@ -146,14 +168,14 @@ fn take_flags<'a>(
 fn take_target<'a>(
     tree: Option<&'a [u8]>,
     payload: &[u8],
-    network: &Network,
+    counts: Counts,
 ) -> Result<Scan<'a>, Refusal>
-    requires { Sound network.now }
-    ensures { Takes (take_target (net_of network.now) (tree_of tree.entry) payload.now) result network.now }
+    ensures { (w c l o : List ℕ) → Sound (record_in counts w c l o) → Takes (take_target (net_of (record_in counts w c l o)) (tree_of tree.entry) payload.now) result w c l o }
 {
     match payload {
         [bits] => Ok(Scan {
             due: Due::End,
+            counts,
             contents: Contents {
                 tree,
                 ask: Asked::Target(*bits),
@@ -163,45 +185,77 @@ fn take_target<'a>(
     }
 }
 
+// Stays: lists that fit are enough; each field is read into those that it fills.
 // A field whose tag is allowed.
 fn take_field<'a>(
     scan: &Scan<'a>,
     field: &Field<'a>,
-    network: &mut Network,
+    weights: &mut [u8],
+    leg_counts: &mut [u8],
+    legs: &mut [u16],
+    outputs: &mut [u16],
 ) -> Result<Scan<'a>, Refusal>
-    requires { Sound network.old }
-    ensures { Takes (take_field (reading_of scan.now network.old) (tag_number field.now.tag) field.now.payload.now) result network.new }
+    requires room { Room weights.old leg_counts.old legs.old outputs.old }
+    requires sound { Sound (record_in scan.now.counts weights.old leg_counts.old legs.old outputs.old) }
+    ensures { Takes (take_field (reading_of scan.now (record_in scan.now.counts weights.old leg_counts.old legs.old outputs.old)) (tag_number field.now.tag) field.now.payload.now) result weights.new leg_counts.new legs.new outputs.new }
 {
     let payload = field.payload;
+    let counts = scan.counts;
     let tree = scan.contents.tree;
     match field.tag {
-        Tag::Weights => take_weights(payload, network),
-        Tag::Leaf => take_leaf(payload, network),
-        Tag::Outputs => take_outputs(payload, network),
-        Tag::Tree => take_tree(payload, network),
-        Tag::Flags => take_flags(tree, payload, network),
-        Tag::Target => take_target(tree, payload, network),
+        Tag::Weights => take_weights(payload, weights),
+        Tag::Leaf => take_leaf(payload, counts, leg_counts, legs),
+        Tag::Outputs => take_outputs(payload, counts, outputs),
+        Tag::Tree => take_tree(payload, counts),
+        Tag::Flags => take_flags(tree, payload, counts),
+        Tag::Target => take_target(tree, payload, counts),
     }
 }
 
-/// Reads a network file, field after field, until one is refused or the file ends. The record is the file's network then, whatever it held
-/// before; after a refusal it may hold anything.
-pub fn read_fields<'a>(file: &'a [u8], network: &mut Network) -> Result<Contents<'a>, Refusal>
-    ensures { Finished file.now result network.new }
+// Stays: lists that fit are enough. Where the next field begins is known from the one before only, which may be refused.
+/// Reads a network file into lists with room for any network, field after field, until one is refused or the file ends. The lists are the
+/// file's network then, as far as they are counted, whatever they held before; after a refusal they may hold anything.
+pub fn read_fields<'a>(
+    file: &'a [u8],
+    weights: &mut [u8],
+    leg_counts: &mut [u8],
+    legs: &mut [u16],
+    outputs: &mut [u16],
+) -> Result<(Counts, Contents<'a>), Refusal>
+    requires { Room weights.old leg_counts.old legs.old outputs.old }
+    ensures { FinishedIn file.now result weights.new leg_counts.new legs.new outputs.new }
 {
-    network.index_count = 0;
-    network.leaf_count = 0;
-    network.output_count = 0;
-    let mut scan = bare(Due::Weights);
+    let none = Counts {
+        index_count: 0,
+        leaf_count: 0,
+        output_count: 0,
+    };
+    let mut scan = bare(Due::Weights, none);
     let mut rest = file;
-    // Stays: where the next field begins is known from the one before only, which may be refused.
     while !rest.is_empty() {
         let field = split_field(scan.due, rest)?;
-        scan = take_field(&scan, &field, network)?;
+        scan = take_field(&scan, &field, weights, leg_counts, legs, outputs)?;
         rest = field.rest;
     }
     if !scan.due.may_end() {
         return Err(Refusal::Truncated);
     }
-    Ok(scan.contents)
+    Ok((scan.counts, scan.contents))
+}
+
+/// Reads a network file into a record, which is the file's network then, whatever it held before; after a refusal it may hold anything.
+pub fn read_network<'a>(file: &'a [u8], network: &mut Network) -> Result<Contents<'a>, Refusal>
+    ensures { Finished file.now result network.new }
+{
+    let (counts, contents) = read_fields(
+        file,
+        &mut network.weights,
+        &mut network.leg_counts,
+        &mut network.legs,
+        &mut network.outputs,
+    )?;
+    network.index_count = counts.index_count;
+    network.leaf_count = counts.leaf_count;
+    network.output_count = counts.output_count;
+    Ok(contents)
 }

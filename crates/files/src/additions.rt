@@ -6,6 +6,8 @@ use network::Network;
 use spec::Refusal;
 use std::io::{self, Read, Write};
 
+// Stays: `input: &mut R, out: &mut W`: what a run reads and what it writes; half of the functions here take one of them.
+
 // Stays: a line of the output has a number here in both cases, as the stored answers have.
 // The number of what a check or an addition answers: 0 where nothing is refused.
 fn number(answer: Result<(), Refusal>) -> u8 {
@@ -72,8 +74,9 @@ fn take_turn<R: Read, W: Write>(
     write!(out, " {}", number(answer))
 }
 
-// The turns of a case, the check, and a sum over the record.
-fn next_case<R: Read, W: Write>(input: &mut R, out: &mut W) -> io::Result<()> {
+// Stays: a case of its own form; the input says how many turns follow, and there is no list of them.
+/// One case: its turns, the check, and a sum over the record.
+pub fn next_case<R: Read, W: Write>(input: &mut R, out: &mut W) -> io::Result<()> {
     write!(out, "added")?;
     let mut network = Network::empty();
     for _ in 0..stored::next_number(input)? {
@@ -82,9 +85,4 @@ fn next_case<R: Read, W: Write>(input: &mut R, out: &mut W) -> io::Result<()> {
     let check = number(network.check());
     let sum = sums::record(0, &network);
     writeln!(out, " check {check} sum {sum}")
-}
-
-/// All cases.
-pub fn run<R: Read, W: Write>(input: &mut R, out: &mut W) -> io::Result<()> {
-    stored::each_case(input, out, next_case)
 }

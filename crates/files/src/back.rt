@@ -6,6 +6,9 @@ use network::Network;
 use spec::Refusal;
 use std::io::{self, Write};
 
+// Stays: `out: &mut W, file: &[u8]`: where a line goes, and what it is about; the file is no part of the output.
+// Stays: `network: &Network, given: Given`: what was read of one file; the writer takes both apart.
+
 // Stays: what a place must hold depends on where it lies; `all` with the same test inside is no plainer.
 // Whether the bytes from the cursor to `end` are the file's, and all others the marks of their places.
 fn holds(buffer: &[u8], cursor: usize, end: usize, file: &[u8]) -> bool {
@@ -22,6 +25,7 @@ fn holds(buffer: &[u8], cursor: usize, end: usize, file: &[u8]) -> bool {
     true
 }
 
+// Stays: a buffer that was written, the place where that began, and the file that should stand there.
 // The number of a refusal, which must leave the buffer as it is, or whether the file, and nothing else, is new in it.
 fn tell<W: Write>(
     out: &mut W,
@@ -58,16 +62,13 @@ fn asked<'a>(ask: Ask, flags: &'a [u8]) -> Asked<'a> {
     }
 }
 
+// Stays: the tree is what a file gave, as the reader left it.
 fn tree_given<'a>(tree: Option<usize>, kids: &'a [u16]) -> Option<&'a [u16]> {
-    match tree {
-        None => None,
-        Some(places) => {
-            let n = places.min(kids.len());
-            Some(&kids[..n])
-        }
-    }
+    let n = tree?.min(kids.len());
+    Some(&kids[..n])
 }
 
+// Stays: the tree is what a file gave; it is the writer that checks it.
 // Writes the network into a marked buffer, from the cursor on.
 fn attempt<W: Write>(
     out: &mut W,
@@ -83,6 +84,7 @@ fn attempt<W: Write>(
     tell(out, answer, &buffer, cursor, file)
 }
 
+// Stays: the tree is what a file gave; it is the writer that checks it.
 /// Behind the cursor the buffer has a byte less than the file, then three more.
 pub fn write<W: Write>(
     out: &mut W,

@@ -11,6 +11,11 @@ mod sums;
 use network::Network;
 use std::io::{self, Read, Write};
 
+// Stays: `input: &mut R, out: &mut W`: what a run reads and what it writes; half of the functions here take one of them.
+// Stays: `out: &mut W, file: &[u8]`: where a line goes, and what it is about; the file is no part of the output.
+// Stays: `tree: &mut [u16], flags: &mut [u8]`: lists that a case lends in different lengths, of two types; together they are no value.
+
+// Stays: the tree's list is lent as a case says, and holds marks where no tree is read.
 // Reads the file into lists that hold marks, and tells what was read and what the writer makes of it.
 fn run<W: Write>(out: &mut W, file: &[u8], tree: &mut [u16], flags: &mut [u8]) -> io::Result<()> {
     let mut network = Network::empty();
@@ -45,6 +50,7 @@ fn lend<W: Write>(
     run(out, file, &mut tree[..t], &mut flags[..f])
 }
 
+// Stays: a case of its own form; only its name is that of other programs' cases.
 fn next_case<R: Read, W: Write>(input: &mut R, out: &mut W) -> io::Result<()> {
     let places = stored::next_number(input)?;
     let length = stored::next_number(input)?;
@@ -54,15 +60,14 @@ fn next_case<R: Read, W: Write>(input: &mut R, out: &mut W) -> io::Result<()> {
     writeln!(out)
 }
 
+// Stays: what this program runs; only the name is another program's.
 // All cases.
 fn run_all<R: Read, W: Write>(input: &mut R, out: &mut W) -> io::Result<()> {
     stored::each_case(input, out, next_case)?;
-    additions::run(input, out)
+    stored::each_case(input, out, additions::next_case)
 }
 
-// An input that ends early goes on with zeros. A read or a write that fails ends the run, and is not told.
+// Stays: where a program begins. What programs share stands in `stored::run`; what is left names what this one runs.
 fn main(rt: HostRuntime) {
-    let mut input = stored::with_zeros(rt.reader());
-    let mut out = io::writer(&rt);
-    let _ = run_all(&mut input, &mut out);
+    stored::run(&rt, run_all);
 }

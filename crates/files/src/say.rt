@@ -3,6 +3,9 @@ use netfile::{Ask, Given};
 use network::Network;
 use std::io::{self, Write};
 
+// Stays: `out: &mut W, network: &Network`: where a line goes, and what it is about.
+// Stays: `network: &Network, given: Given`: what was read of one file; the reader hands out both apart.
+
 fn tree_places<W: Write>(out: &mut W, tree: Option<usize>) -> io::Result<()> {
     match tree {
         None => write!(out, " tree -"),

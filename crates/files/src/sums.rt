@@ -55,6 +55,7 @@ pub fn record(sum: u64, network: &Network) -> u64 {
     with_all(s, &network.outputs[..outputs.min(32)])
 }
 
+// Stays: the lists are summed as they were lent, whether or not one holds a tree.
 /// The sum over a record and two lists.
 pub fn of(network: &Network, tree: &[u16], flags: &[u8]) -> u64 {
     with_all(with_all(record(0, network), tree), flags)

@@ -7,6 +7,10 @@ ghost use Rattle.fm.specs.NetAgain.{NetAgain};
 ghost use Rattle.fm.specs.NetsAgain.{NetsAgain};
 ghost use Rattle.fm.specs.Neighbours.{NeighboursAgain};
 
+// Stays: `graph: &Hypergraph, entries: &mut [Entry]`, `entries: &mut [Entry], draws: &mut Draws`, `draws: &mut Draws, locked: usize`: in a struct that lends them each method would say besides that the same entries come back.
+// Stays: `locked < 32768`, `128 ≤ length pins.old`: bounds of numbers, so that a place fits a machine word and a list has room; a type of its own would be unwrapped at each use.
+// Stays: `Stamped 1073741824 (stamps_of entries.old)`: each call raises the bound, so it is no invariant of the entries.
+
 use draws::Draws;
 use partition::Hypergraph;
 use queue::Entry;

@@ -3,3 +3,4 @@ pub mod Fresh
 pub mod Until
 pub mod Makes
 pub mod Turns
+pub mod First

@@ -14,6 +14,7 @@ use Rattle.moves.specs.Kept.{Kept, Site}
 use Rattle.moves.specs.Split.{Split, sides_as}
 use Rattle.moves.specs.Sums.{gains_of, backwards}
 use Rattle.moves.specs.declared.bipartition.Bipartition.{Bipartition}
+use Rattle.fmpass.specs.declared.Work.{Work}
 use Rattle.moves.specs.declared.pass.Pass.{Pass as Counts}
 
 -- the lists
@@ -43,6 +44,16 @@ abbrev pub run : ℕ → Float → Float → ℕ → Words → Bool → Run
 run count sum best peak words over = record { count = count; sum = sum; best = best; peak = peak; words = words; over = over }
 
 -- as the code has them
+abbrev pub lists_of : Work → List Entry → Lists
+lists_of b l = lists b.words.now b.part.now b.loads.now (keys_of l) (stamps_of l) (waits_of l) b.moves.now
+
+-- the same lists are lent, whatever they hold
+abbrev pub IsSameLoan : Work → Work → Type 0
+IsSameLoan old new =
+    (new.words.ghost_name ≡ old.words.ghost_name) × (new.part.ghost_name ≡ old.part.ghost_name) × (new.loads.ghost_name ≡ old.loads.ghost_name)
+    × (new.moves.ghost_name ≡ old.moves.ghost_name)
+
+-- likewise of a partition and a pass that have two loads and 128 moves
 abbrev pub lists_in : Bipartition → List Entry → Counts → Lists
 lists_in b l p = lists b.words.now b.part.now b.loads (keys_of l) (stamps_of l) (waits_of l) p.moves
 

@@ -6,6 +6,7 @@ ghost use Rattle.frontier.specs.Costs.{cost_below};
 ghost use Rattle.frontier.specs.Opens.{more_rank, ranks, state, open_at, open_most, openings};
 
 /// A member's place, and its work bits.
+// Stays: a place and its work; that others have two numbers too is chance.
 #[derive(Clone, Copy)]
 pub struct Most {
     pub place: usize,
@@ -13,6 +14,7 @@ pub struct Most {
 }
 
 // The node `v` at `place`, if it has more work than the one so far. A leaf has none.
+// Stays: `n` is the number of the tree's leaves; both are read of the caller's, for one node.
 fn more_work(most: Option<Most>, place: usize, v: u16, n: usize, works: &[u16]) -> Option<Most>
     ensures { result ≡ more_rank n works.now most place v }
 {
@@ -144,14 +146,25 @@ impl Frontier {
     }
 }
 
-/// What opened nodes cost: 2 to the work bits of each.
-pub fn old_cost(works: &[u16], opened: &[u16]) -> u64
+/// What the first `c` opened nodes cost: 2 to the work bits of each.
+// Stays: by number, as a place past the list's end counts too: it is read as node 0.
+pub fn old_cost(works: &[u16], opened: &[u16], c: usize) -> u64
+    requires { cost_below works.now opened.now c < 9007199254740992 }
+    ensures { result ≡ cost_below works.now opened.now c }
+{
+    let mut sum: u64 = 0;
+    for i in 0..c {
+        let v = usize::from(cells::get_or(opened, i, 0));
+        let work = cells::get_or(works, v, 0);
+        sum += 1 << work;
+    }
+    sum
+}
+
+/// What all of the opened nodes cost.
+pub fn opened_cost(works: &[u16], opened: &[u16]) -> u64
     requires { cost_below works.now opened.now (length opened.now) < 9007199254740992 }
     ensures { result ≡ cost_below works.now opened.now (length opened.now) }
 {
-    let mut sum: u64 = 0;
-    for &v in opened {
-        sum += 1 << cells::get_or(works, usize::from(v), 0);
-    }
-    sum
+    old_cost(works, opened, opened.len())
 }

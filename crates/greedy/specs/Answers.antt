@@ -8,7 +8,7 @@ use borrow.Author.Tests.{lt-ltb, le-ltb}
 use Rattle.spec.specs.Memory.{cleared}
 use Rattle.spec.specs.Network.{Network, refusal_of}
 use Rattle.spec.specs.Tree.{Pair, flat_of}
-use Rattle.spec.specs.Refusal.{number_of, code_of, checked}
+use Rattle.spec.specs.Refusal.{code_of, checked}
 use Rattle.spec.specs.Calls.{Lent, lent, length_check, plain_words, tree_places, greedy_call, workspace_after, greedy_tree}
 use Rattle.spec.specs.Greedy.{greedy}
 use Rattle.walk.specs.Entry.{Untouched, by_network, past_network, past_length, network_refused, too_short, quiet_words, quiet_list, done_words, refused_words}
@@ -89,7 +89,7 @@ module _ (N : Network) (tree ws : List ℕ) where
         plan = w ∙ sym (ap (λ (x : Result (List Pair) Refusal). greedy_tree x tree) c);
         workspace = refused_words plain_words ws ws' ew call TableTooWide refl c;
       }
-  answer_run h q ws' ew y r (is_grown z a g w) =
+  answer_run h q ws' ew y r (is_grown z a g w k) =
       let c : call ≡ Ok a = greedy_runs N (length ws) (length tree) h q ∙ g in
       record {
         answer = z ∙ sym (ap done_of c);

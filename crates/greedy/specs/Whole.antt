@@ -1,5 +1,5 @@
 -- Greedy over all leaves of a network, from greedy over a list of leaves. Assumes nothing.
-use Rattle.std.specs.Prelude.{◌≡◌, refl, ℕ, ◌≤◌, Result, Err, Ok}
+use Rattle.std.specs.Prelude.{◌≡◌, refl, ℕ, ◌-◌, ◌≤◌, length, Result, Err, Ok}
 use Rattle.std.proofs.Common.{sym, ◌∙◌, ap, subst, arith}
 use mathlib.Core.List.{List, []}
 use Rattle.spec.specs.declared.Refusal.{Refusal}
@@ -9,7 +9,7 @@ use Rattle.spec.specs.Memory.{over}
 use Rattle.spec.specs.Network.{Network, leaf_count}
 use Rattle.spec.specs.Tree.{Pair, flat_of}
 use Rattle.spec.specs.Greedy.{array_of, leaves_of, greedy_from, greedy}
-use Rattle.laws.specs.ListLaws.{from_memb}
+use Rattle.laws.specs.ListLaws.{from_memb, range_length}
 use Rattle.laws.specs.GreedyForest.{leaves_single}
 use Rattle.cells.specs.Cells.{over-nil}
 use Rattle.greedynodes.specs.Networks.{AsksOf}
@@ -18,7 +18,7 @@ use Rattle.greedynodes.specs.Ends.{Planned, is_too_wide, is_planned, apart}
 -- what greedy over all leaves answers, with what then stands in the list
 pub data Grown (N : Network) (tree₀ tree : List ℕ) (r : Result (Unit {0}) Refusal) : Type 0 where
   is_left : r ≡ Err TableTooWide → greedy N ≡ Err TableTooWide → tree ≡ tree₀ → Grown N tree₀ tree r
-  is_grown : r ≡ Ok tt → (a : List Pair) → greedy N ≡ Ok a → tree ≡ over tree₀ (flat_of a) → Grown N tree₀ tree r
+  is_grown : r ≡ Ok tt → (a : List Pair) → greedy N ≡ Ok a → tree ≡ over tree₀ (flat_of a) → length a ≡ leaf_count N - 1 → Grown N tree₀ tree r
 
 module _ (N : Network) (leaves : List ℕ) (all_leaves : leaves ≡ range (leaf_count N)) where
   pub asks_all : (kids : List ℕ) → AsksOf N [] 0 leaves kids
@@ -55,4 +55,4 @@ module _ (N : Network) (leaves : List ℕ) (all_leaves : leaves ≡ range (leaf_
       where
         go : Planned N [] leaves tree₀ tree r → Grown N tree₀ tree (Ok tt)
         go (is_too_wide q g) = absurd (apart (sym z ∙ q))
-        go (is_planned top q l b g w k t) = is_grown refl b.pairs (greedy_is ∙ ap array_of g) w
+        go (is_planned top q l b g w k t) = is_grown refl b.pairs (greedy_is ∙ ap array_of g) w (omega (arith, k, ap length all_leaves, range_length 0 (leaf_count N)))

@@ -11,6 +11,7 @@ use network::{Accepted, Network};
 use spec::Refusal;
 
 /// Greedy over all leaves of a network, whose children are put to the front of `tree`, which stays as it was where a scored pair is too wide.
+// Stays: the C interface lends the tree as a flat list, and the workspace beside it.
 fn plan_all(network: &Accepted, tree: &mut [u16], words: &mut [u64]) -> Result<(), Refusal>
     requires { 1036 ≤ length words.old }
     ensures { Grown (net_in network.now) tree.old tree.new result }
@@ -23,6 +24,7 @@ fn plan_all(network: &Accepted, tree: &mut [u16], words: &mut [u64]) -> Result<(
 }
 
 /// Greedy's call on an accepted network.
+// Stays: the C interface lends the tree as a flat list, and the workspace beside it.
 fn plan_in(network: &Accepted, tree: &mut [u16], ws: &mut [u64]) -> Result<(), Refusal>
     ensures { Answers (net_in network.now) tree.old tree.new ws.old ws.new result }
 {
@@ -39,8 +41,10 @@ fn plan_in(network: &Accepted, tree: &mut [u16], ws: &mut [u64]) -> Result<(), R
     answer
 }
 
-/// The greedy plan of a network: its children, two places a node, to the front of `tree`. `ws` is the workspace, of 4,096 words, which are 0
-/// afterwards. Refused are a network that the check refuses, a list that is too short, and a scored pair that is too wide.
+/// The greedy plan of a network: its children, two places a node, to the front of `tree`. Refused are a network that the check refuses, a list that
+/// is too short, and a scored pair that is too wide. `ws` is the workspace, of 4,096 words: 0 after a plan and where a pair is too wide, and else
+/// as they were.
+// Stays: the C interface lends the tree as a flat list, and the workspace beside it.
 pub fn plan(network: &Network, tree: &mut [u16], ws: &mut [u64]) -> Result<(), Refusal>
     ensures answer { result ≡ done_of (greedy_call (net_of network.now) (length ws.old) (length tree.old)) }
     ensures plan { tree.new ≡ greedy_tree (greedy_call (net_of network.now) (length ws.old) (length tree.old)) tree.old }

@@ -1,50 +1,50 @@
 #![tactic(auto)]
 //! Greedy over a list of leaves: its tables, the sets of which are in lent words, and the children of the new nodes.
-ghost use Rattle.std.specs.Prelude.{List, ◌++◌, ◌≡◌, ◌<◌, ◌≤◌, length, OnErr};
+ghost use Rattle.std.specs.Prelude.{List, ◌++◌, ◌≡◌, ◌<◌, ◌≤◌, length, IfErr, OnErr};
 ghost use Rattle.spec.specs.Network.{Network as Net};
 ghost use Rattle.spec.specs.Tree.{Pair, flat_of};
-ghost use Rattle.greedynodes.specs.Begin.{Asks};
+ghost use Rattle.spec.specs.declared.Refusal.TheVariants.{TableTooWide};
+ghost use Rattle.slots.specs.Weigh.{Light};
+ghost use Rattle.greedynodes.specs.Begin.{Room, Asks};
 ghost use Rattle.greedynodes.specs.Ends.{Planned};
 ghost use Rattle.greedynodes.specs.Copied.{copied_to};
 
 use network::Accepted;
 use spec::Refusal;
-use tables::Row;
 use tables::scoring::Scoring;
 use tables::slotted::Tables;
+use tables::{Row, WIDTH};
 
-/// Greedy over some leaves of a network, onto an array of `count` nodes: the children of the new nodes are put into `made`. Returns the number
-/// of the tree that is built; refused where a scored pair is too wide.
-// Stays: two of the local lists are columns of the tables, of one length by their type; `made` is lent, as the array it belongs to is.
+/// Greedy over some leaves of a network whose lists are lent, onto an array of `count` nodes: the children of the new nodes are put into `made`.
+/// Returns the number of the tree that is built; refused where a scored pair is too wide.
+// Stays: asks no more of its callers than lists that fit, of which two local ones are columns of the tables; `made` is lent, as its array is.
 fn grow(
     words: &mut [u64],
-    network: &Accepted,
+    weights: &[u8],
+    n: usize,
+    counts: &[u8],
+    legs: &[u16],
+    outputs: &[u16],
     leaves: &[u16],
     made: &mut [u16],
     count: usize,
 ) -> Result<u16, Refusal>
-    requires { (1036 ≤ length words.old) × (length leaves.now ≤ 128) × (count < 8192) }
-    ensures { (N : Net) (a : List Pair) → Asks N a (length network.now.leg_counts.now) count network.now.weights.now network.now.leg_counts.now network.now.legs.now network.now.outputs.now leaves.now (flat_of a ++ made.old) → Planned N a leaves.now (flat_of a ++ made.old) (flat_of a ++ made.new) result }
+    requires room { Room n count weights.now outputs.now leaves.now words.old }
+    requires light { Light weights.now }
+    ensures planned { (N : Net) (a : List Pair) → Asks N a n count weights.now counts.now legs.now outputs.now leaves.now (flat_of a ++ made.old) → Planned N a leaves.now (flat_of a ++ made.old) (flat_of a ++ made.new) result }
+    ensures why { IfErr result (λ r. r ≡ TableTooWide) }
 {
     let many = leaves.len();
-    let n = network.leg_counts.len();
     let mut nodes = [0u16; 256];
     let mut sizes = [0u16; 256];
     nodes[..many].copy_from_slice(leaves);
-    start::put_sets(
-        words,
-        n,
-        network.leg_counts,
-        network.legs,
-        network.outputs,
-        leaves,
-    );
-    start::weigh_all(&mut sizes, words, network.weights, many);
+    start::put_sets::<WIDTH>(words, n, counts, legs, outputs, leaves);
+    start::weigh_all::<WIDTH>(&mut sizes, words, weights, many);
     let scoring = Scoring {
-        weights: network.weights,
+        weights,
         start: many,
     };
-    let mut tables = Tables {
+    let mut tables: Tables<WIDTH> = Tables {
         sets: words,
         nodes,
         sizes,
@@ -58,7 +58,7 @@ fn grow(
 
 /// Copies the first `n` numbers of a list to the places of `kids` from `at` on.
 // Stays: the numbers are copied one by one: both lists are read totally, and the place is a sum, so no slice method has this promise.
-fn copy_out(kids: &mut [u16], at: usize, list: &[u16], n: usize)
+pub fn copy_out(kids: &mut [u16], at: usize, list: &[u16], n: usize)
     requires { (at < 1048576) × (n < 1048576) }
     ensures { kids.new ≡ copied_to kids.old at list.now n }
 {
@@ -68,8 +68,37 @@ fn copy_out(kids: &mut [u16], at: usize, list: &[u16], n: usize)
     }
 }
 
-/// Greedy over some leaves of a network, onto the array of `count` nodes whose children stand at the front of `kids`: the new nodes' children
-/// are put after them. Returns the number of the tree that is built. Refused, with `kids` as it was, where a scored pair is too wide.
+/// Greedy over some leaves of a network of `n` leaves whose lists are lent, onto the array of `count` nodes whose children stand at the front of
+/// `kids`: the new nodes' children are put after them. Returns the number of the tree that is built. Refused, with `kids` as it was, where a
+/// scored pair is too wide.
+// Stays: asks no more of its callers than lists that fit.
+pub fn greedy_nodes(
+    words: &mut [u64],
+    weights: &[u8],
+    n: usize,
+    counts: &[u8],
+    legs: &[u16],
+    outputs: &[u16],
+    leaves: &[u16],
+    kids: &mut [u16],
+    count: usize,
+) -> Result<u16, Refusal>
+    requires room { Room n count weights.now outputs.now leaves.now words.old }
+    requires light { Light weights.now }
+    ensures planned { (N : Net) (a : List Pair) → Asks N a n count weights.now counts.now legs.now outputs.now leaves.now kids.old → Planned N a leaves.now kids.old kids.new result }
+    ensures untouched { OnErr result (kids.new ≡ kids.old) }
+    ensures why { IfErr result (λ r. r ≡ TableTooWide) }
+{
+    let mut made = [0u16; 256];
+    let top = grow(
+        words, weights, n, counts, legs, outputs, leaves, &mut made, count,
+    )?;
+    copy_out(kids, count * 2, &made, leaves.len().saturating_sub(1) * 2);
+    Ok(top)
+}
+
+/// The same over an accepted network's lists.
+// Stays: `count` is how many nodes the array has so far, and `kids` is longer.
 pub fn plan_leaves(
     words: &mut [u64],
     network: &Accepted,
@@ -80,9 +109,17 @@ pub fn plan_leaves(
     requires { (1036 ≤ length words.old) × (length leaves.now ≤ 128) × (count < 8192) }
     ensures planned { (N : Net) (a : List Pair) → Asks N a (length network.now.leg_counts.now) count network.now.weights.now network.now.leg_counts.now network.now.legs.now network.now.outputs.now leaves.now kids.old → Planned N a leaves.now kids.old kids.new result }
     ensures untouched { OnErr result (kids.new ≡ kids.old) }
+    ensures why { IfErr result (λ r. r ≡ TableTooWide) }
 {
-    let mut made = [0u16; 256];
-    let top = grow(words, network, leaves, &mut made, count)?;
-    copy_out(kids, count * 2, &made, leaves.len().saturating_sub(1) * 2);
-    Ok(top)
+    greedy_nodes(
+        words,
+        network.weights,
+        network.leg_counts.len(),
+        network.leg_counts,
+        network.legs,
+        network.outputs,
+        leaves,
+        kids,
+        count,
+    )
 }

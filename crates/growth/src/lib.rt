@@ -8,11 +8,18 @@ ghost use Rattle.matching.specs.Graphs.{graph_of};
 ghost use Rattle.growth.specs.Grown.{growth_of, grown_from, part_grown};
 ghost use Rattle.growth.specs.Links.{strong_in, offered_in, strongest_in, linked_pin, linked_pins, linked_net, linked_nets};
 
+// Stays: `goal: f64, draws: &mut Draws`, `goal ≡ half (graph_of graph.now)`: a number that stays and draws that go on; the caller sums the half once, for many growths.
+// Stays: `draws: &mut Draws, part: &mut [u8]`: draws that go on and a list to be filled; nothing else is made of the two.
+// Stays: `nets: usize, weights: &[u8]`: two of the fields of a hypergraph, which need not be there whole.
+// Stays: `nets < 65536`, `e < 65536`, `128 ≤ length pins.old`: bounds of numbers, so that a place fits a machine word and a list has room; a type of its own would be unwrapped at each use.
+// Stays: `length links.old ≡ length graph.now.layout.vertex_weights.now`: the list is made for one growth, and lent with the graph from there on.
+
 use draws::Draws;
 use matching::Graph;
 
 /// The strongest connection so far, and its vertex, if one was found.
 #[derive(Clone, Copy)]
+// Stays: no twin of a growth: what is compared here is a connection, and no weight.
 pub struct Candidate {
     pub link: f64,
     pub vertex: Option<usize>,
@@ -74,28 +81,37 @@ fn link_pins(links: &mut [f64], pins: &[u16], w: u8)
     }
 }
 
-// Net `e`. The list is for its pins.
-fn link_net(graph: &Graph, pins: &mut [u16], links: &mut [f64], e: usize)
-    requires { (e < 65536) × (128 ≤ length pins.old) }
-    ensures { links.new ≡ linked_net graph.now.words.now graph.now.layout.nets graph.now.layout.net_weights.now e links.old }
+// Net `e`, whose pins stand in slot `nets` + e. The list is for its pins.
+fn link_net(
+    words: &[u64],
+    nets: usize,
+    weights: &[u8],
+    pins: &mut [u16],
+    links: &mut [f64],
+    e: usize,
+)
+    requires { (nets < 65536) × (e < 65536) × (128 ≤ length pins.old) }
+    ensures { links.new ≡ linked_net words.now nets weights.now e links.old }
 {
-    let len = slots::members(graph.words, 2, graph.layout.nets + e, pins, 0);
-    let w = cells::get_or(graph.layout.net_weights, e, 0);
+    let len = slots::members(words, 2, nets + e, pins, 0);
+    let w = cells::get_or(weights, e, 0);
     link_pins(links, &pins[..len], w);
 }
 
-/// The nets of a list: the vertices on them are connected more strongly.
-pub fn link_nets(graph: &Graph, links: &mut [f64], list: &[u16])
-    ensures { links.new ≡ linked_nets graph.now.words.now graph.now.layout.nets graph.now.layout.net_weights.now list.now links.old }
+/// The nets of a list: the vertices on them are connected more strongly. Each net stands in slot `nets` + e of `words`, its weight in `weights`.
+pub fn link_nets(words: &[u64], nets: usize, weights: &[u8], links: &mut [f64], list: &[u16])
+    requires { nets < 65536 }
+    ensures { links.new ≡ linked_nets words.now nets weights.now list.now links.old }
 {
     let mut pins = [0u16; 128];
     for &e in list {
-        link_net(graph, &mut pins, links, usize::from(e));
+        link_net(words, nets, weights, &mut pins, links, usize::from(e));
     }
 }
 
 /// A growth: the weight of side 1, and the next vertex to come to it, if there is one.
 #[derive(Clone, Copy)]
+// Stays: no twin of a candidate: the weight of a side, and no connection.
 pub struct Growth {
     pub weight: f64,
     pub next: Option<usize>,
@@ -123,7 +139,8 @@ fn grow(
     }
     let mut list = [0u16; 256];
     let len = slots::members(graph.words, 4, graph.layout.vertices + v, &mut list, 0);
-    link_nets(graph, links, &list[..len]);
+    let (nets, weights) = (graph.layout.nets, graph.layout.net_weights);
+    link_nets(graph.words, nets, weights, links, &list[..len]);
     let best = strongest(part, links, draws);
     Growth {
         weight,

@@ -1,13 +1,13 @@
 -- What bisection of a network in memory promises: the number, the tree, the workspace, the answer. Assumes nothing.
-use Rattle.std.specs.Prelude.{◌≡◌, Bool, cond, ℕ, ◌≤◌, ◌<◌, ltb, length, set, Option, None, Some, Result, Err, Ok, unwrap_or}
+use Rattle.std.specs.Prelude.{◌≡◌, Bool, cond, ℕ, ◌≤◌, ◌<◌, ltb, length, set, Some, Result, Err, Ok, unwrap_or}
 use Rattle.std.proofs.Math.Path.{refl, sym, ap}
-use Rattle.std.proofs.Common.{◌∙◌, arith, lt-ltb, le-ltb}
+use Rattle.std.proofs.Common.{◌∙◌, lt-ltb, le-ltb}
 use Rattle.std.proofs.Math.Bool.{true, false}
 use mathlib.Core.List.{List, [], ◌∷◌, ◌++◌}
 use Rattle.spec.specs.declared.Refusal.{Refusal}
 use Rattle.spec.specs.declared.Refusal.TheVariants.{TooLarge, ShortBuffer}
 use Rattle.spec.specs.Memory.{cleared, over}
-use Rattle.spec.specs.Refusal.{number_of, code_of, Check, decide, checked}
+use Rattle.spec.specs.Refusal.{number_of, code_of, Check, checked}
 use Rattle.spec.specs.FileClaims.{refusal_in}
 use Rattle.spec.specs.Network.{Network, leaf_count, network_checks, refusal_of}
 use Rattle.spec.specs.Tree.{valid}
@@ -17,7 +17,8 @@ use Rattle.spec.specs.Calls.{lent, length_check, tree_places, touches, bisection
 use Rattle.spec.specs.Host.{memory_bisection_call, taken_after}
 use Rattle.laws.specs.Results.{checked_done}
 use Rattle.laws.specs.BisectionLaws.{bisection_valid}
-use Rattle.memory.specs.Call.{checked-append, decide_twice, untouched}
+use Rattle.memory.specs.Call.{own_refused, no_room, own_is_call}
+use Rattle.host.specs.Made.{made_refused, made_done}
 use Rattle.bisection.specs.Answers.{taken_of}
 
 -- every list follows the call c, and an answered tree is valid
@@ -40,16 +41,6 @@ unfolding over
 one_over [] a = refl
 one_over (x ∷ []) a = refl
 one_over (x ∷ y ∷ l) a = refl
-
--- ---- what bisection's answer comes from ----
-
-of_refused : (x : Result spec.Bisected Refusal) {k : Refusal} → Err k ≡ taken_of x → x ≡ Err k
-of_refused (Err r) {k} e = let w : k ≡ r = cc in ap Err (sym w)
-of_refused (Ok b) {k} e = absurd (let w : ◌≡◌ {A = ℕ} 0 1 = cc in omega arith)
-
-of_done : (x : Result spec.Bisected Refusal) {k : ℕ} → Ok k ≡ taken_of x → (b : spec.Bisected) × (x ≡ Ok b) × (k ≡ b.taken)
-of_done (Err r) {k} e = absurd (let w : ◌≡◌ {A = ℕ} 0 1 = cc in omega arith)
-of_done (Ok b) {k} e = let w : k ≡ b.taken = cc in (b, refl, w)
 
 -- ---- the call ----
 
@@ -91,43 +82,25 @@ module _ (N : Network) (i cutoff : ℕ) (draws tree₀ ws₀ answer₀ : List �
       large b e = rw e
 
   module _ (few : i ≤ 1000) where
-    in_parts : own ≡ decide (refusal_of N) (checked short bisecting)
+    own_checks : own ≡ checked (network_checks false N ++ short) bisecting
     unfolding memory_bisection_call
-    in_parts =
-        ap (λ (b : Bool). checked (network_checks b N ++ short) bisecting) (le-ltb 1000 i few) ∙ checked-append (network_checks false N) short bisecting
-
-    as_refused : (x : Refusal) → refusal_of N ≡ Some x → own ≡ Err x
-    as_refused x e = in_parts ∙ ap (λ (o : Option Refusal). decide o (checked short bisecting)) e
-
-    as_short : refusal_of N ≡ None → length answer₀ < 1 → own ≡ Err ShortBuffer
-    as_short e h = in_parts ∙ ap (λ (o : Option Refusal). decide o (checked short bisecting)) e ∙ rw (lt-ltb (length answer₀) 1 h)
+    own_checks = ap (λ (b : Bool). checked (network_checks b N ++ short) bisecting) (le-ltb 1000 i few)
 
     -- with room for the answer the call is bisection's
     as_bisecting : 1 ≤ length answer₀ → own ≡ bisecting
     unfolding bisection_call
     as_bisecting h =
         let rest : List Check = length_check (lent (length ws₀) bisection_words ∷ lent (length tree₀) (tree_places N) ∷ []) ∷ [] in
-        let split : bisecting ≡ decide (refusal_of N) (checked rest (bisection N i cutoff draws)) =
-        ap (λ (b : Bool). checked (network_checks b N ++ rest) (bisection N i cutoff draws)) (le-ltb 1000 i few)
-        ∙ checked-append (network_checks false N) rest (bisection N i cutoff draws) in
-        in_parts
-        ∙ ap (decide (refusal_of N)) (rw (le-ltb (length answer₀) 1 h))
-        ∙ ap (decide (refusal_of N)) split
-        ∙ decide_twice (refusal_of N) (checked rest (bisection N i cutoff draws))
-        ∙ sym split
+        own_is_call N (length answer₀) 1 own bisecting own_checks rest (bisection N i cutoff draws)
+        (ap (λ (b : Bool). checked (network_checks b N ++ rest) (bisection N i cutoff draws)) (le-ltb 1000 i few)) h
 
     -- a count above its limit
     pub large_network : refusal_of N ≡ Some TooLarge → MemoryBisects N i cutoff draws tree₀ ws₀ answer₀ tree₀ ws₀ answer₀ 3
-    large_network e = stays TooLarge (as_refused TooLarge e) refl refl
-
-    short_cases : (o : Option Refusal) {r : Refusal} → refusal_of N ≡ o → length answer₀ < 1 → r ≡ unwrap_or o ShortBuffer
-        → MemoryBisects N i cutoff draws tree₀ ws₀ answer₀ tree₀ ws₀ answer₀ (number_of r)
-    short_cases None e h q = stays ShortBuffer (as_short e h) refl (ap number_of q)
-    short_cases (Some x) e h q = stays x (as_refused x e) (untouched N x e) (ap number_of q)
+    large_network e = stays TooLarge (own_refused N (length answer₀) 1 own bisecting own_checks TooLarge e) refl refl
 
     pub short_answer : {M : Network} {r : Refusal} → M ≡ N → length answer₀ < 1 → r ≡ unwrap_or (refusal_of M) ShortBuffer
         → MemoryBisects N i cutoff draws tree₀ ws₀ answer₀ tree₀ ws₀ answer₀ (number_of r)
-    short_answer m h q = short_cases (refusal_of N) refl h (q ∙ ap (λ (L : Network). unwrap_or (refusal_of L) ShortBuffer) m)
+    short_answer {r = r} m h q = let (e, t) = no_room N (length answer₀) 1 own bisecting own_checks m h q in stays r e t refl
 
     -- the lists follow bisection's call on a network that is this one
     module _ (h : 1 ≤ length answer₀) {M : Network} (m : M ≡ N) {tree ws : List ℕ} {x : Result ℕ Refusal}
@@ -151,12 +124,12 @@ module _ (N : Network) (i cutoff : ℕ) (draws tree₀ ws₀ answer₀ : List �
 
         pub bisect_refused : {r : Refusal} → x ≡ Err r → MemoryBisects N i cutoff draws tree₀ ws₀ answer₀ tree ws answer₀ (number_of r)
         bisect_refused e =
-            let z = of_refused own (sym e ∙ a ∙ ap taken_of same) in
+            let z = made_refused taken_of (λ b. b.taken) (λ r. refl) (λ b. refl) own (sym e ∙ a ∙ ap taken_of same) in
             follows (sym (ap (λ (c : Result spec.Bisected Refusal). code_of (refusal_in c)) z)) (sym (ap (λ (c : Result spec.Bisected Refusal). taken_after c answer₀) z))
 
         pub bisect_done : {answer : List ℕ} {taken : ℕ} → x ≡ Ok taken → answer ≡ set answer₀ 0 taken
             → MemoryBisects N i cutoff draws tree₀ ws₀ answer₀ tree ws answer 0
         bisect_done {answer} {taken} e b =
-            let (y, z, q) = of_done own (sym e ∙ a ∙ ap taken_of same) in
+            let (y, z, q) = made_done taken_of (λ b. b.taken) (λ r. refl) (λ b. refl) own (sym e ∙ a ∙ ap taken_of same) in
             follows (sym (ap (λ (c : Result spec.Bisected Refusal). code_of (refusal_in c)) z))
             (b ∙ one_over answer₀ taken ∙ ap (λ (k : ℕ). over answer₀ (k ∷ [])) q ∙ sym (ap (λ (c : Result spec.Bisected Refusal). taken_after c answer₀) z))

@@ -1,13 +1,13 @@
 -- What improvement on a network in memory promises: the number, the tree, the workspace, the answer. Assumes nothing.
 use Rattle.std.specs.Prelude.{◌≡◌, Bool, cond, ℕ, ◌≤◌, ◌<◌, ltb, length, Option, None, Some, Result, Err, Ok, unwrap_or}
 use Rattle.std.proofs.Math.Path.{refl, sym, ap}
-use Rattle.std.proofs.Common.{◌∙◌, subst, arith, lt-ltb, le-ltb}
+use Rattle.std.proofs.Common.{◌∙◌, subst, lt-ltb, le-ltb}
 use Rattle.std.proofs.Math.Bool.{true, false}
 use mathlib.Core.List.{List, [], ◌∷◌, ◌++◌}
 use Rattle.spec.specs.declared.Refusal.{Refusal}
 use Rattle.spec.specs.declared.Refusal.TheVariants.{TooLarge, ShortBuffer}
 use Rattle.spec.specs.Memory.{cleared, over}
-use Rattle.spec.specs.Refusal.{number_of, code_of, Check, decide, checked}
+use Rattle.spec.specs.Refusal.{number_of, code_of, Check, checked}
 use Rattle.spec.specs.FileClaims.{refusal_in}
 use Rattle.spec.specs.Network.{Network, network_checks, refusal_of}
 use Rattle.spec.specs.Tree.{pairs_of}
@@ -15,7 +15,8 @@ use Rattle.spec.specs.Improve as spec
 use Rattle.spec.specs.Improve.{improve}
 use Rattle.spec.specs.Calls.{lent, length_check, tree_check, flags_check, beyond_check, dangling_check, flag_at, touches, improve_words, improve_call, workspace_after, improved_tree}
 use Rattle.spec.specs.Host.{limit_number, memory_improve_call, improve_after}
-use Rattle.memory.specs.Call.{checked-append, decide_twice, untouched}
+use Rattle.memory.specs.Call.{own_refused, no_room, own_is_call}
+use Rattle.host.specs.Made.{made_refused, made_done}
 use Rattle.reconf.specs.declared.Visited.{Visited}
 use Rattle.reconfigure.specs.Answers.{given, counts_of, Improving}
 
@@ -38,16 +39,6 @@ limit_bits x y h e = ap Some e ∙ sym (ap (λ (b : Bool). cond b (Some x) None)
 
 pub limit_none : (x : ℕ) → 65536 ≤ x → None ≡ limit_number x
 limit_none x h = sym (ap (λ (b : Bool). cond b (Some x) None) (le-ltb x 65536 h))
-
--- ---- what improvement's answer comes from ----
-
-of_refused : (x : Result spec.Improved Refusal) {k : Refusal} → Err k ≡ given x → x ≡ Err k
-of_refused (Err r) {k} e = let w : k ≡ r = cc in ap Err (sym w)
-of_refused (Ok d) {k} e = absurd (let w : ◌≡◌ {A = ℕ} 0 1 = cc in omega arith)
-
-of_done : (x : Result spec.Improved Refusal) {h : Visited} → Ok h ≡ given x → (d : spec.Improved) × (x ≡ Ok d) × (h ≡ counts_of d)
-of_done (Err r) {h} e = absurd (let w : ◌≡◌ {A = ℕ} 0 1 = cc in omega arith)
-of_done (Ok d) {h} e = let w : h ≡ counts_of d = cc in (d, refl, w)
 
 -- ---- the call ----
 
@@ -82,16 +73,9 @@ module _ (N : Network) (k passes : ℕ) (limit : Option ℕ) (flags kids₀ ws�
       large b e = rw e
 
   module _ (few : passes ≤ 255) where
-    in_parts : own ≡ decide (refusal_of N) (checked short improving)
+    own_checks : own ≡ checked (network_checks false N ++ short) improving
     unfolding memory_improve_call
-    in_parts =
-        ap (λ (b : Bool). checked (network_checks b N ++ short) improving) (le-ltb 255 passes few) ∙ checked-append (network_checks false N) short improving
-
-    as_refused : (x : Refusal) → refusal_of N ≡ Some x → own ≡ Err x
-    as_refused x e = in_parts ∙ ap (λ (o : Option Refusal). decide o (checked short improving)) e
-
-    as_short : refusal_of N ≡ None → length answer₀ < 2 → own ≡ Err ShortBuffer
-    as_short e h = in_parts ∙ ap (λ (o : Option Refusal). decide o (checked short improving)) e ∙ rw (lt-ltb (length answer₀) 2 h)
+    own_checks = ap (λ (b : Bool). checked (network_checks b N ++ short) improving) (le-ltb 255 passes few)
 
     -- with room for the answer the call is improvement's
     as_improving : 2 ≤ length answer₀ → own ≡ improving
@@ -105,26 +89,15 @@ module _ (N : Network) (k passes : ℕ) (limit : Option ℕ) (flags kids₀ ws�
         ∷ dangling_check N
         ∷ [] in
         let p : Result spec.Improved Refusal = Ok (improve N k passes limit (flag_at flags) (pairs_of kids₀)) in
-        let split : improving ≡ decide (refusal_of N) (checked rest p) =
-        ap (λ (b : Bool). checked (network_checks b N ++ rest) p) (le-ltb 255 passes few) ∙ checked-append (network_checks false N) rest p in
-        in_parts
-        ∙ ap (decide (refusal_of N)) (rw (le-ltb (length answer₀) 2 h))
-        ∙ ap (decide (refusal_of N)) split
-        ∙ decide_twice (refusal_of N) (checked rest p)
-        ∙ sym split
+        own_is_call N (length answer₀) 2 own improving own_checks rest p (ap (λ (b : Bool). checked (network_checks b N ++ rest) p) (le-ltb 255 passes few)) h
 
     -- a count above its limit
     pub large_network : refusal_of N ≡ Some TooLarge → MemoryReconfigures N k passes limit flags kids₀ ws₀ answer₀ kids₀ ws₀ answer₀ 3
-    large_network e = stays TooLarge (as_refused TooLarge e) refl refl
-
-    short_cases : (o : Option Refusal) {r : Refusal} → refusal_of N ≡ o → length answer₀ < 2 → r ≡ unwrap_or o ShortBuffer
-        → MemoryReconfigures N k passes limit flags kids₀ ws₀ answer₀ kids₀ ws₀ answer₀ (number_of r)
-    short_cases None e h q = stays ShortBuffer (as_short e h) refl (ap number_of q)
-    short_cases (Some x) e h q = stays x (as_refused x e) (untouched N x e) (ap number_of q)
+    large_network e = stays TooLarge (own_refused N (length answer₀) 2 own improving own_checks TooLarge e) refl refl
 
     pub short_answer : {M : Network} {r : Refusal} → M ≡ N → length answer₀ < 2 → r ≡ unwrap_or (refusal_of M) ShortBuffer
         → MemoryReconfigures N k passes limit flags kids₀ ws₀ answer₀ kids₀ ws₀ answer₀ (number_of r)
-    short_answer m h q = short_cases (refusal_of N) refl h (q ∙ ap (λ (L : Network). unwrap_or (refusal_of L) ShortBuffer) m)
+    short_answer {r = r} m h q = let (e, t) = no_room N (length answer₀) 2 own improving own_checks m h q in stays r e t refl
 
     module _ (h : 2 ≤ length answer₀) where
       follows : {kids ws answer : List ℕ} {x : Result Visited Refusal} {r : ℕ} → Improving N k passes limit flags kids₀ ws₀ kids ws x
@@ -148,7 +121,7 @@ module _ (N : Network) (k passes : ℕ) (limit : Option ℕ) (flags kids₀ ws�
           → MemoryReconfigures N k passes limit flags kids₀ ws₀ answer₀ kids ws answer₀ (number_of r)
       improve_refused m e t =
           let u = same m t in
-          let z = of_refused improving (sym e ∙ u.follows.answer) in
+          let z = made_refused given counts_of (λ r. refl) (λ d. refl) improving (sym e ∙ u.follows.answer) in
           follows u (sym (ap (λ (c : Result spec.Improved Refusal). code_of (refusal_in c)) z)) (sym (ap (λ (c : Result spec.Improved Refusal). improve_after c answer₀) z))
 
       pub improve_done : {M : Network} {kids ws answer : List ℕ} {x : Result Visited Refusal} {v : Visited} → M ≡ N → x ≡ Ok v
@@ -156,6 +129,6 @@ module _ (N : Network) (k passes : ℕ) (limit : Option ℕ) (flags kids₀ ws�
           → MemoryReconfigures N k passes limit flags kids₀ ws₀ answer₀ kids ws answer 0
       improve_done m e t a =
           let u = same m t in
-          let (d, z, q) = of_done improving (sym e ∙ u.follows.answer) in
+          let (d, z, q) = made_done given counts_of (λ r. refl) (λ d. refl) improving (sym e ∙ u.follows.answer) in
           follows u (sym (ap (λ (c : Result spec.Improved Refusal). code_of (refusal_in c)) z))
           (a ∙ ap (λ (v : Visited). over answer₀ (v.rebuilt ∷ v.tried ∷ [])) q ∙ sym (ap (λ (c : Result spec.Improved Refusal). improve_after c answer₀) z))

@@ -1,20 +1,21 @@
 -- What slicing of a network in memory promises: the number, the tree, the flags, the workspace, the answer. Assumes nothing.
-use Rattle.std.specs.Prelude.{◌≡◌, refl, Bool, cond, ℕ, ◌≤◌, ◌<◌, length, Option, None, Some, Result, Err, Ok, unwrap_or}
+use Rattle.std.specs.Prelude.{◌≡◌, refl, Bool, cond, ℕ, ◌≤◌, ◌<◌, length, Some, Result, Err, Ok, unwrap_or}
 use Rattle.std.proofs.Math.Path.{sym, ap}
-use Rattle.std.proofs.Common.{◌∙◌, arith, lt-ltb, le-ltb}
+use Rattle.std.proofs.Common.{◌∙◌}
 use Rattle.std.proofs.Math.Bool.{false}
-use mathlib.Core.List.{List, [], ◌∷◌}
+use mathlib.Core.List.{List, [], ◌∷◌, ◌++◌}
 use Rattle.spec.specs.declared.Refusal.{Refusal}
 use Rattle.spec.specs.declared.Refusal.TheVariants.{TooLarge, ShortBuffer}
 use Rattle.spec.specs.Memory.{cleared, over}
-use Rattle.spec.specs.Refusal.{number_of, code_of, Check, decide, checked}
+use Rattle.spec.specs.Refusal.{number_of, code_of, Check, checked}
 use Rattle.spec.specs.FileClaims.{refusal_in}
 use Rattle.spec.specs.Network.{Network, index_count, network_checks, refusal_of}
 use Rattle.spec.specs.Tree.{pairs_of}
 use Rattle.spec.specs.Slicing.{Plan, slice}
 use Rattle.spec.specs.Calls.{lent, length_check, tree_check, beyond_check, dangling_if, follow_up, touches, slice_words, slice_call, workspace_after, sliced_tree, sliced_flags}
 use Rattle.spec.specs.Host.{memory_slice_call, slice_after}
-use Rattle.memory.specs.Call.{checked-append, decide_twice, untouched}
+use Rattle.memory.specs.Call.{own_refused, no_room, own_is_call}
+use Rattle.host.specs.Made.{made_refused, made_done}
 use Rattle.reconf.specs.declared.Visited.{Visited}
 use Rattle.slicetree.specs.Answers.{counts}
 
@@ -31,16 +32,6 @@ abbrev pub MemorySlices : (N : Network) (improving : Bool) (target : ℕ) (kids�
 MemorySlices N improving target kids₀ flags₀ ws₀ answer₀ kids flags ws answer r =
     Follows N (memory_slice_call (length answer₀) N improving target (length ws₀) (length flags₀) kids₀) (slice_words improving)
     kids₀ flags₀ ws₀ answer₀ kids flags ws answer r
-
--- ---- what slicing's answer comes from ----
-
-of_refused : (x : Result Plan Refusal) {k : Refusal} → Err k ≡ counts x → x ≡ Err k
-of_refused (Err r) {k} e = let w : k ≡ r = cc in ap Err (sym w)
-of_refused (Ok p) {k} e = absurd (let w : ◌≡◌ {A = ℕ} 0 1 = cc in omega arith)
-
-of_done : (x : Result Plan Refusal) {d : Visited} → Ok d ≡ counts x → (p : Plan) × (x ≡ Ok p) × (d ≡ record { rebuilt = p.rebuilt; tried = p.tried })
-of_done (Err r) {d} e = absurd (let w : ◌≡◌ {A = ℕ} 0 1 = cc in omega arith)
-of_done (Ok p) {d} e = let w : d ≡ record { rebuilt = p.rebuilt; tried = p.tried } = cc in (p, refl, w)
 
 -- ---- the call ----
 
@@ -67,15 +58,9 @@ module _ (N : Network) (improving : Bool) (target : ℕ) (kids₀ flags₀ ws₀
         answer_is = sym (ap (λ (c : Result Plan Refusal). slice_after c answer₀) e);
       }
 
-  in_parts : own ≡ decide (refusal_of N) (checked short slicing)
+  own_checks : own ≡ checked (network_checks false N ++ short) slicing
   unfolding memory_slice_call
-  in_parts = checked-append (network_checks false N) short slicing
-
-  as_refused : (x : Refusal) → refusal_of N ≡ Some x → own ≡ Err x
-  as_refused x e = in_parts ∙ ap (λ (o : Option Refusal). decide o (checked short slicing)) e
-
-  as_short : refusal_of N ≡ None → length answer₀ < 2 → own ≡ Err ShortBuffer
-  as_short e h = in_parts ∙ ap (λ (o : Option Refusal). decide o (checked short slicing)) e ∙ rw (lt-ltb (length answer₀) 2 h)
+  own_checks = refl
 
   -- with room for the answer the call is slicing's
   as_slicing : 2 ≤ length answer₀ → own ≡ slicing
@@ -86,26 +71,15 @@ module _ (N : Network) (improving : Bool) (target : ℕ) (kids₀ flags₀ ws₀
       ∷ tree_check N kids₀
       ∷ beyond_check N (λ j. false) (pairs_of kids₀)
       ∷ dangling_if N improving in
-      let p : Result Plan Refusal = Ok (slice N target (follow_up N improving) (pairs_of kids₀)) in
-      let split : slicing ≡ decide (refusal_of N) (checked rest p) = checked-append (network_checks false N) rest p in
-      in_parts
-      ∙ ap (decide (refusal_of N)) (rw (le-ltb (length answer₀) 2 h))
-      ∙ ap (decide (refusal_of N)) split
-      ∙ decide_twice (refusal_of N) (checked rest p)
-      ∙ sym split
+      own_is_call N (length answer₀) 2 own slicing own_checks rest (Ok (slice N target (follow_up N improving) (pairs_of kids₀))) refl h
 
   -- a count above its limit
   pub large_network : refusal_of N ≡ Some TooLarge → MemorySlices N improving target kids₀ flags₀ ws₀ answer₀ kids₀ flags₀ ws₀ answer₀ 3
-  large_network e = stays TooLarge (as_refused TooLarge e) refl refl
-
-  short_cases : (o : Option Refusal) {r : Refusal} → refusal_of N ≡ o → length answer₀ < 2 → r ≡ unwrap_or o ShortBuffer
-      → MemorySlices N improving target kids₀ flags₀ ws₀ answer₀ kids₀ flags₀ ws₀ answer₀ (number_of r)
-  short_cases None e h q = stays ShortBuffer (as_short e h) refl (ap number_of q)
-  short_cases (Some x) e h q = stays x (as_refused x e) (untouched N x e) (ap number_of q)
+  large_network e = stays TooLarge (own_refused N (length answer₀) 2 own slicing own_checks TooLarge e) refl refl
 
   pub short_answer : {M : Network} {r : Refusal} → M ≡ N → length answer₀ < 2 → r ≡ unwrap_or (refusal_of M) ShortBuffer
       → MemorySlices N improving target kids₀ flags₀ ws₀ answer₀ kids₀ flags₀ ws₀ answer₀ (number_of r)
-  short_answer m h q = short_cases (refusal_of N) refl h (q ∙ ap (λ (L : Network). unwrap_or (refusal_of L) ShortBuffer) m)
+  short_answer {r = r} m h q = let (e, t) = no_room N (length answer₀) 2 own slicing own_checks m h q in stays r e t refl
 
   -- the lists follow slicing's call on a network that is this one
   module _ (h : 2 ≤ length answer₀) {M : Network} (m : M ≡ N) {kids flags ws : List ℕ} {x : Result Visited Refusal}
@@ -130,12 +104,12 @@ module _ (N : Network) (improving : Bool) (target : ℕ) (kids₀ flags₀ ws₀
 
     pub slice_refused : {r : Refusal} → x ≡ Err r → MemorySlices N improving target kids₀ flags₀ ws₀ answer₀ kids flags ws answer₀ (number_of r)
     slice_refused e =
-        let z = of_refused own (sym e ∙ a ∙ ap counts same) in
+        let z = made_refused counts (λ p. record { rebuilt = p.rebuilt; tried = p.tried }) (λ r. refl) (λ p. refl) own (sym e ∙ a ∙ ap counts same) in
         follows (sym (ap (λ (c : Result Plan Refusal). code_of (refusal_in c)) z)) (sym (ap (λ (c : Result Plan Refusal). slice_after c answer₀) z))
 
     pub slice_done : {answer : List ℕ} {d : Visited} → x ≡ Ok d → answer ≡ over answer₀ (d.rebuilt ∷ d.tried ∷ [])
         → MemorySlices N improving target kids₀ flags₀ ws₀ answer₀ kids flags ws answer 0
     slice_done {answer} {d} e b =
-        let (p, z, u) = of_done own (sym e ∙ a ∙ ap counts same) in
+        let (p, z, u) = made_done counts (λ p. record { rebuilt = p.rebuilt; tried = p.tried }) (λ r. refl) (λ p. refl) own (sym e ∙ a ∙ ap counts same) in
         follows (sym (ap (λ (c : Result Plan Refusal). code_of (refusal_in c)) z))
         (b ∙ ap (λ (v : Visited). over answer₀ (v.rebuilt ∷ v.tried ∷ [])) u ∙ sym (ap (λ (c : Result Plan Refusal). slice_after c answer₀) z))

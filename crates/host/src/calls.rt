@@ -3,39 +3,21 @@ ghost use Rattle.std.specs.Prelude.{◌≡◌, ◌∷◌, [], ◌<◌, ◌≤◌
 ghost use Rattle.spec.specs.Memory.{over};
 ghost use Rattle.spec.specs.Refusal.{code_of};
 ghost use Rattle.spec.specs.FileClaims.{refusal_in};
-ghost use Rattle.spec.specs.declared.Refusal.TheVariants.{TooLarge, ShortBuffer};
+ghost use Rattle.spec.specs.declared.Refusal.TheVariants.{ShortBuffer};
 ghost use Rattle.spec.specs.Network.{refusal_of};
-ghost use Rattle.spec.specs.Host.{lent_network, limit_number};
+ghost use Rattle.spec.specs.Host.{limit_number};
 ghost use Rattle.network.specs.Record.{net_of};
+ghost use Rattle.memory.specs.Lists.{net_lent};
 ghost use Rattle.host.specs.Greedy.{MemoryGreedy};
 ghost use Rattle.host.specs.Bisection.{MemoryBisects};
 ghost use Rattle.host.specs.Reconfigure.{MemoryReconfigures};
 ghost use Rattle.host.specs.Slice.{MemorySlices};
 
+use memory::Lists;
 use network::Network;
 use reconf::Visited;
 use reconfigure::Ask;
 use spec::Refusal;
-
-// A network's lists, as the host lends them.
-#[derive(Clone, Copy)]
-pub struct Lists<'a> {
-    pub weights: &'a [u8],
-    pub leg_counts: &'a [u8],
-    pub legs: &'a [u16],
-    pub outputs: &'a [u16],
-}
-
-// The record of the lists, unless a count is above its limit.
-fn record_of(lists: &Lists) -> Result<Network, Refusal>
-    ensures ok { IfOk result (λ n. net_of n ≡ lent_network lists.now.weights.now lists.now.leg_counts.now lists.now.legs.now lists.now.outputs.now) }
-    ensures err { IfErr result (λ r. (r ≡ TooLarge) × (refusal_of (lent_network lists.now.weights.now lists.now.leg_counts.now lists.now.legs.now lists.now.outputs.now) ≡ Some TooLarge)) }
-{
-    if memory::too_large(lists.weights.len(), lists.outputs.len(), lists.leg_counts) {
-        return Err(Refusal::TooLarge);
-    }
-    Ok(memory::record_of(lists.weights, lists.leg_counts, lists.legs, lists.outputs))
-}
 
 // Refuses an answer of fewer places than it takes; the network's own refusals come first.
 fn check_room(network: &Network, places: usize, takes: usize) -> Result<(), Refusal>
@@ -50,11 +32,13 @@ fn check_room(network: &Network, places: usize, takes: usize) -> Result<(), Refu
 }
 
 // The greedy plan.
+// Stays: the C interface lends tree and workspace apart, the tree as a flat list.
 pub fn plan(lists: &Lists, tree: &mut [u16], ws: &mut [u64]) -> Result<(), Refusal>
-    ensures { MemoryGreedy (lent_network lists.now.weights.now lists.now.leg_counts.now lists.now.legs.now lists.now.outputs.now)
+    ensures { MemoryGreedy (net_lent lists.now)
         tree.old ws.old tree.new ws.new (code_of (refusal_in result)) }
 {
-    let network = record_of(lists)?;
+    lists.check_limits()?;
+    let network = memory::record_of(lists);
     greedy::plan(&network, tree, ws)
 }
 
@@ -69,13 +53,14 @@ pub fn bisect(
     ws: &mut [u64],
     answer: &mut [u64],
 ) -> Result<(), Refusal>
-    ensures { MemoryBisects (lent_network lists.now.weights.now lists.now.leg_counts.now lists.now.legs.now lists.now.outputs.now) imbalance cutoff
+    ensures { MemoryBisects (net_lent lists.now) imbalance cutoff
         draws.now tree.old ws.old answer.old tree.new ws.new answer.new (code_of (refusal_in result)) }
 {
     if imbalance > 1000 {
         return Err(Refusal::TooLarge);
     }
-    let network = record_of(lists)?;
+    lists.check_limits()?;
+    let network = memory::record_of(lists);
     check_room(&network, answer.len(), 1)?;
     let taken = bisection::plan(&network, imbalance, cutoff, draws, tree, ws)?;
     // Stays: u64 has no From<usize>, and TryFrom would add an error that cannot come
@@ -84,6 +69,7 @@ pub fn bisect(
 }
 
 // The limit that a number stands for: none from 65,536 on.
+// Stays: the C interface has a limit in 32 bits; the one of `planneruns` is a stored number, with 65,535 for none.
 pub fn limit_of(x: u32) -> Option<u16>
     ensures { result ≡ limit_number x }
 {
@@ -99,6 +85,7 @@ fn put_counts(answer: &mut [u64], counts: Visited)
 }
 
 // Improves a tree where it stands; the two counts, to the front of `answer`.
+// Stays: the C interface lends tree, workspace and answer apart, the tree as a flat list.
 pub fn improve(
     lists: &Lists,
     ask: &Ask,
@@ -106,13 +93,14 @@ pub fn improve(
     ws: &mut [u64],
     answer: &mut [u64],
 ) -> Result<(), Refusal>
-    ensures { MemoryReconfigures (lent_network lists.now.weights.now lists.now.leg_counts.now lists.now.legs.now lists.now.outputs.now)
+    ensures { MemoryReconfigures (net_lent lists.now)
         ask.now.k ask.now.passes ask.now.limit ask.now.flags.now tree.old ws.old answer.old tree.new ws.new answer.new (code_of (refusal_in result)) }
 {
     if ask.passes > 255 {
         return Err(Refusal::TooLarge);
     }
-    let network = record_of(lists)?;
+    lists.check_limits()?;
+    let network = memory::record_of(lists);
     check_room(&network, answer.len(), 2)?;
     let counts = reconfigure::improve(&network, ask, tree, ws)?;
     put_counts(answer, counts);
@@ -130,10 +118,11 @@ pub fn slice(
     ws: &mut [u64],
     answer: &mut [u64],
 ) -> Result<(), Refusal>
-    ensures { MemorySlices (lent_network lists.now.weights.now lists.now.leg_counts.now lists.now.legs.now lists.now.outputs.now) improving target
+    ensures { MemorySlices (net_lent lists.now) improving target
         tree.old flags.old ws.old answer.old tree.new flags.new ws.new answer.new (code_of (refusal_in result)) }
 {
-    let network = record_of(lists)?;
+    lists.check_limits()?;
+    let network = memory::record_of(lists);
     check_room(&network, answer.len(), 2)?;
     let made = slicetree::slice(&network, improving, tree, target, flags, ws)?;
     put_counts(answer, made);

@@ -17,7 +17,7 @@ ghost use Rattle.planning.specs.Output.{Prints};
 
 mod calls; // calls.rt: the calls on a network whose lists are lent
 
-use calls::Lists;
+use memory::Lists;
 use pricing::list::PriceList;
 use reconfigure::Ask;
 use spec::Refusal;
@@ -33,6 +33,7 @@ fn status(answer: Result<(), Refusal>) -> u32
 }
 
 /// Reads the file, and lists its network with its own tree and flags.
+// Stays: the C interface: a host calls it with these parameters.
 #[unsafe(no_mangle)]
 pub extern "C" fn loqshyber_price(file: &[u8], out: &mut [u8]) -> u32
     ensures { Answered (host_call (length out.old) file.now) result out.old out.new
@@ -63,9 +64,13 @@ pub extern "C" fn loqshyber_tree_cost(
         ws.new sets.new sizes.new works.new steps.new answer.new result }
 {
     let mut list = PriceList { sets, sizes, works };
-    status(memory::price(
-        weights, leg_counts, legs, outputs, flags, tree, ws, &mut list, steps, answer,
-    ))
+    let lists = Lists {
+        weights,
+        leg_counts,
+        legs,
+        outputs,
+    };
+    status(memory::price(&lists, flags, tree, ws, &mut list, steps, answer))
 }
 
 /// The greedy plan of the network, to the front of `tree`.
@@ -181,6 +186,7 @@ pub extern "C" fn loqshyber_slice_tree(
 }
 
 /// The program `plan`: the text for a file's bytes to the front of `out`, and its length. A buffer that is shorter gets the text's front.
+// Stays: the C interface: a host calls it with these parameters, and makes a buffer of the length that is stated.
 #[unsafe(no_mangle)]
 pub extern "C" fn loqshyber_plan(file: &[u8], out: &mut [u8]) -> usize
     ensures bytes { out.new ≡ over out.old (plan_bytes file.now) }

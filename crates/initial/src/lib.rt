@@ -11,6 +11,10 @@ use draws::Draws;
 use matching::Graph;
 use partition::Layout;
 
+// Stays: `words: &mut [u64], layout: &Layout`: the one is written and the other read; a struct of both would be taken apart at each call below.
+// Stays: `goal: f64, draws: &mut Draws`: a number that stays and draws that go on; nothing else is made of the two.
+// Stays: `0 < length layout.now.vertex_weights.now`, `Site words.old (place_of layout.now)`: facts of a layout and of the words lent beside it; `Layout` holds no words, and one of no vertices is taken elsewhere.
+
 // One try, in the list `trial`: a growth, refined in at most eight passes. Returns the weight of its cut nets.
 fn try_once(
     words: &mut [u64],

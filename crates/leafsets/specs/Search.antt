@@ -1,5 +1,8 @@
 -- Slots that hold the same words, and the search for one. Assumes nothing.
-use Rattle.std.specs.Prelude.{◌≡◌, Bool, true, false, ◌||◌, cond, List, ◌∷◌, ℕ, zero, suc, ◌+◌, ◌-◌, ◌*◌, ◌≤◌, ◌<◌, eqb, ltb, get_or}
+use Rattle.std.specs.Prelude.{◌≡◌, Bool, true, false, ◌||◌, cond, List, ◌∷◌, ℕ, zero, suc, ◌+◌, ◌-◌, ◌*◌, ◌≤◌, ◌<◌, eqb, ltb, get_or, refl, Option, Some, None, IfSome}
+use Rattle.std.specs.Option.{is_some}
+use Rattle.std.proofs.Math.Decide.{dec_le}
+use Rattle.std.proofs.lemmas.Option.{none-some}
 use Rattle.std.proofs.Common.{sym, ◌∙◌, ap, ap₂, add-one, lt-ltb, le-ltb}
 use Rattle.std.proofs.Math.Bool.{or_assoc}
 use native.Mathlib.Omega.{arith}
@@ -14,6 +17,34 @@ same_words w ws s u = allb (λ k. eqb (get_or ws (s * w + k) 0) (get_or ws (u * 
 abbrev pub first_from : (ℕ → Bool) → ℕ → ℕ → ℕ
 first_from p k zero = k
 first_from p k (suc m) = let rest = first_from p (suc k) m in cond (p k) k rest
+
+-- a number, if it is below the end
+abbrev pub if_below : ℕ → ℕ → Option ℕ
+if_below n k = cond (ltb k n) (Some k) None
+
+below_end : (n k : ℕ) → k < n → if_below n k ≡ Some k
+below_end n k h = ap (λ (b : Bool). cond b (Some k) None) (lt-ltb k n h)
+
+not_below : (n k : ℕ) → n ≤ k → if_below n k ≡ None
+not_below n k h = ap (λ (b : Bool). cond b (Some k) None) (le-ltb k n h)
+
+abbrev value : Option ℕ → ℕ
+value None = 0
+value (Some k) = k
+
+below_some : (n k u : ℕ) → Some u ≡ if_below n k → (u ≡ k) × (k < n)
+below_some n k u e =
+    elim (dec_le n k) [
+      | yes h ↦ absurd (none-some u (sym (e ∙ not_below n k h)))
+      | no h ↦ (let h : k < n = omega arith in (ap value (e ∙ below_end n k h), h))
+    ]
+
+below_none : (n k : ℕ) → None ≡ if_below n k → n ≤ k
+below_none n k e =
+    elim (dec_le n k) [
+      | yes h ↦ h
+      | no h ↦ absurd (none-some k (e ∙ below_end n k (omega arith)))
+    ]
 
 -- each of the slots from s on is like one of those from t on, of `count` each
 unfoldable pub all_found : ℕ → List ℕ → ℕ → ℕ → ℕ → Bool
@@ -116,6 +147,26 @@ module _ (p : ℕ → Bool) where
           ∙ sym (le-ltb hi hi (omega arith))),
     )
 
+    abbrev any : Bool
+    any = anyb p (from lo (hi - lo))
+
+    pub some_after : (u : ℕ) → Some u ≡ if_below hi (first_from p hint (hi - hint)) → (true ≡ any) × (lo ≤ u) × (u < hi)
+    some_after u q =
+        let (e, h) = below_some hi _ u q in
+        let (top, low, same) = after_hint u e (omega arith) in
+        (sym (lt-ltb u hi (omega arith)) ∙ same, low, omega arith)
+
+    -- what is found before the hint, where none is after it
+    pub some_before : (r : Option ℕ) → None ≡ if_below hi (first_from p hint (hi - hint)) → r ≡ if_below hint (first_from p lo (hint - lo))
+        → (is_some r ≡ any) × IfSome r (λ u. (lo ≤ u) × (u < hi))
+    some_before (Some v) g q =
+        let (e, h) = below_some hint _ v q in
+        let (top, low, same) = before_hint _ v refl (below_none hi _ g) e (omega arith) in
+        (sym (lt-ltb v hi (omega arith)) ∙ same, (low, omega arith))
+    some_before None g q =
+        let (top, low, same) = nowhere _ _ refl (below_none hi _ g) refl (below_none hint _ q) in
+        (sym (le-ltb hi hi (omega arith)) ∙ same, tt)
+
 -- before the first word
 pub same_start : (w : ℕ) (ws : List ℕ) (s u : ℕ)
     → same_words w ws s u ≡ allb (λ k. eqb (get_or ws (s * w + k) 0) (get_or ws (u * w + k) 0)) (from 0 (w - 0))
@@ -140,17 +191,17 @@ module _ (w : ℕ) (ws : List ℕ) (s t count : ℕ) where
       let f : s + count - s ≡ count = omega arith in
       rw (e, f)
 
-  module _ (k u : ℕ) (h : k < count) (e : ltb u (t + count) ≡ anyb (same_words w ws (s + k)) (from t (t + count - t))) where
-    found : ltb u (t + count) ≡ one (s + k)
+  module _ (k : ℕ) (b : Bool) (h : k < count) (e : b ≡ anyb (same_words w ws (s + k)) (from t (t + count - t))) where
+    found : b ≡ one (s + k)
     found = e ∙ ap (λ (m : ℕ). anyb (same_words w ws (s + k)) (from t m)) (let f : t + count - t ≡ count = omega arith in f)
 
-    pub found_next : u < t + count → rest_found k ≡ rest_found (k + 1)
+    pub found_next : b ≡ true → rest_found k ≡ rest_found (k + 1)
     found_next q =
-        all_next one (s + k) (s + count) (omega arith) (sym found ∙ lt-ltb u (t + count) q)
+        all_next one (s + k) (s + count) (omega arith) (sym found ∙ q)
         ∙ ap (λ (i : ℕ). allb one (from i (s + count - i))) (let f : s + k + 1 ≡ s + (k + 1) = omega arith in f)
 
-    pub found_fails : t + count ≤ u → rest_found k ≡ false
-    found_fails q = all_fails one (s + k) (s + count) (omega arith) (sym found ∙ le-ltb u (t + count) q)
+    pub found_fails : b ≡ false → rest_found k ≡ false
+    found_fails q = all_fails one (s + k) (s + count) (omega arith) (sym found ∙ q)
 
   pub found_ends : (k : ℕ) → count ≤ k → rest_found k ≡ true
   found_ends k h = all_ends one (s + k) (s + count) (omega arith)

@@ -1,13 +1,17 @@
 #![tactic(auto)]
 // The leaves below each node of a tree, as sets in slots of lent words, and whether two trees have the same sets.
-ghost use Rattle.std.specs.Prelude.{false, ◌≡◌, ◌-◌, ◌<◌, ◌≤◌, ltb, length};
+ghost use Rattle.std.specs.Prelude.{false, ◌≡◌, ◌-◌, ◌<◌, ◌≤◌, length, IfSome};
+ghost use Rattle.std.specs.Option.{is_some};
 ghost use Rattle.spec.specs.Lists.{anyb, from};
 ghost use Rattle.spec.specs.Tree.{pairs_of, step_order, same_plan};
 ghost use Rattle.spec.specs.Calls.{wrong_tree};
 ghost use Rattle.leafsets.specs.Passes.{singles, ups};
-ghost use Rattle.leafsets.specs.Search.{same_words, first_from, all_found};
+ghost use Rattle.leafsets.specs.Search.{same_words, first_from, if_below, all_found};
+// Stays: `w: usize, s: usize`, `w ≤ 16`, `s < 1048576`, `base ≤ 65536`: a slot is named by its list, width and number, with bounds so that a place fits a machine word, as in `slots`.
+// Stays: `kids: &[u16], order: &[u16]`, `n: usize, kids: &[u16]`, `n: usize, ws: &mut [u64]`, `wrong_tree n kids.now ≡ false`, `n ≤ 128`, `2048 ≤ length ws.old`: two trees of one number of leaves, walked once each; a `Tree` of each would have the number twice, and a clause that both are one.
 
 // Makes slot `base` + i the set of i alone, for the leaves i below `n`.
+// Stays: by number: a leaf's number is its slot's, and the one member of its set.
 fn leaf_sets(ws: &mut [u64], w: usize, base: usize, n: usize)
     requires { (w ≤ 16) × (base ≤ 65536) × (n ≤ 65536) }
     ensures { ws.new ≡ singles w base ws.old n }
@@ -19,6 +23,7 @@ fn leaf_sets(ws: &mut [u64], w: usize, base: usize, n: usize)
 }
 
 // In the order given, makes slot `base` + v the union of those of v's children.
+// Stays: each turn writes the same lent words, and a node has two places of the list.
 fn join_up(ws: &mut [u64], w: usize, base: usize, n: usize, kids: &[u16], order: &[u16])
     requires { (w ≤ 16) × (base ≤ 65536) }
     ensures { ws.new ≡ ups w base kids.now n ws.old order.now }
@@ -33,6 +38,7 @@ fn join_up(ws: &mut [u64], w: usize, base: usize, n: usize, kids: &[u16], order:
 }
 
 // Do slots `s` and `u` hold the same words.
+// Stays: by word of two slots of one list, read as 0 past its end; tried as `all` over two ranges, the proof did not close.
 fn same_set(ws: &[u64], w: usize, s: usize, u: usize) -> bool
     requires { (w ≤ 16) × (s < 1048576) × (u < 1048576) }
     ensures { result ≡ same_words w ws.now s u }
@@ -47,36 +53,35 @@ fn same_set(ws: &[u64], w: usize, s: usize, u: usize) -> bool
     true
 }
 
-// The first slot from `lo` on, below `hi`, that holds the words of slot `s`; `hi` if there is none.
-fn find(ws: &[u64], w: usize, s: usize, lo: usize, hi: usize) -> usize
+// The first slot from `lo` on, below `hi`, that holds the words of slot `s`.
+// Stays: by number of a slot; tried as `find` over the range, the proof did not close.
+fn find(ws: &[u64], w: usize, s: usize, lo: usize, hi: usize) -> Option<usize>
     requires { (w ≤ 16) × (s < 1048576) × (lo ≤ hi) × (hi < 1048576) }
-    ensures { result ≡ first_from (same_words w ws.now s) lo (hi - lo) }
+    ensures { result ≡ if_below hi (first_from (same_words w ws.now s) lo (hi - lo)) }
 {
     for u in lo..hi {
         if same_set(ws, w, s, u) {
-            return u;
+            return Some(u);
         }
     }
-    hi
+    None
 }
 
-// The same among all slots from `lo` on below `hi`, those from `hint` on first.
-fn find_near(ws: &[u64], w: usize, s: usize, lo: usize, hi: usize, hint: usize) -> usize
+// One among all slots from `lo` on below `hi`, those from `hint` on first.
+// Stays: a search from a hint on, then before it; each part is one range of slots.
+fn find_near(ws: &[u64], w: usize, s: usize, lo: usize, hi: usize, hint: usize) -> Option<usize>
     requires { (w ≤ 16) × (s < 1048576) × (lo ≤ hint) × (hint ≤ hi) × (hi < 1048576) }
-    ensures { (result ≤ hi) × (lo ≤ result) × (ltb result hi ≡ anyb (same_words w ws.now s) (from lo (hi - lo))) }
+    ensures any { is_some result ≡ anyb (same_words w ws.now s) (from lo (hi - lo)) }
+    ensures within { IfSome result (λ u. (lo ≤ u) × (u < hi)) }
 {
-    let u = find(ws, w, s, hint, hi);
-    if u < hi {
-        return u;
+    if let Some(u) = find(ws, w, s, hint, hi) {
+        return Some(u);
     }
-    let v = find(ws, w, s, lo, hint);
-    if v < hint {
-        return v;
-    }
-    hi
+    find(ws, w, s, lo, hint)
 }
 
 // Is each of the `count` slots from `s` on like one of the `count` slots from `t` on.
+// Stays: each turn begins its search where the last one ended, so no closure tests a slot by itself.
 fn all_found(ws: &[u64], w: usize, s: usize, t: usize, count: usize) -> bool
     requires { (w ≤ 16) × (s ≤ 65536) × (t ≤ 65536) × (count ≤ 65536) }
     ensures { result ≡ all_found w ws.now s t count }
@@ -84,16 +89,16 @@ fn all_found(ws: &[u64], w: usize, s: usize, t: usize, count: usize) -> bool
     let end = t + count;
     let mut hint = t;
     for k in 0..count {
-        let u = find_near(ws, w, s + k, t, end, hint);
-        if u >= end {
+        let Some(u) = find_near(ws, w, s + k, t, end, hint) else {
             return false;
-        }
+        };
         hint = u + 1;
     }
     true
 }
 
 // Are two trees of `n` leaves the same plan: `order` and `sequence` are their step orders. The sets take two words each.
+// Stays: two trees with their step orders, used once; `n` is the number of leaves of both.
 fn same_trees(
     kids: &[u16],
     order: &[u16],
@@ -118,6 +123,7 @@ fn same_trees(
 }
 
 /// Are two valid trees of `n` leaves the same plan. The first 2,048 words of `ws` are used, whatever they hold.
+// Stays: asks no more of its callers than two lists that are trees of `n` leaves; each gets a local array for its order.
 pub fn same_valid(kids: &[u16], others: &[u16], n: usize, ws: &mut [u64]) -> bool
     requires { (n ≤ 128) × (2048 ≤ length ws.old) × (wrong_tree n kids.now ≡ false) × (wrong_tree n others.now ≡ false) }
     ensures { result ≡ same_plan n (pairs_of kids.now) (pairs_of others.now) }

@@ -5,16 +5,21 @@ ghost use Rattle.spec.specs.Floats.{zero_float, greater, lesser};
 ghost use Rattle.spec.specs.Hypergraph.{fold_over, side_of};
 ghost use Rattle.spec.specs.Bisection.{side_limit, initial};
 ghost use Rattle.spec.specs.Fm.{fm};
-ghost use Rattle.coarsen.specs.Sizes.{ByTry};
+ghost use Rattle.coarsen.specs.Sizes.{BySize};
 ghost use Rattle.moves.specs.Laying.{Bits};
 ghost use Rattle.levels.specs.Spans.{summed, span};
 ghost use Rattle.levels.specs.Stage.{Stage, graph_at, Gives};
+ghost use Rattle.levels.specs.Layouts.{IsLevel};
 ghost use Rattle.levels.specs.Deeper.{Tried};
 ghost use Rattle.levels.specs.Lists.{IsSameLoan};
 
 use coarsen::{Size, Slots};
 use draws::Draws;
 use partition::Layout;
+
+// Stays: `draws: &mut Draws, part: &mut [u8]`: draws that go on and a list to be filled; the one is passed on where the other is not.
+// Stays: `limit: f64, draws: &mut Draws`: a number that stays and draws that go on; nothing else is made of the two.
+// Stays: `level.size.vertices ≤ length part.old`, `n ≤ 128`: bounds of numbers, so that a list has room; a type of its own would be unwrapped at each use.
 
 /// Lists that hold what all levels weigh, and how they hang together: the weights of level l's nets stand from place 256 l on, those of its vertices and the map to
 /// the next level from place 128 l on. The slots of level l stand in words beside them: its nets from slot 512 l on, its vertices from slot 256 l + 128 on.
@@ -24,6 +29,65 @@ pub struct Levels<'a> {
     pub net_weights: &'a mut [u8],
     pub vertex_weights: &'a mut [f64],
     pub places: &'a mut [u16],
+}
+
+/// What the nets and the vertices of all levels weigh, where they are only read.
+#[derive(Clone, Copy)]
+// Stays: one list is by net and the other by vertex, so the two are no rows.
+pub struct Weights<'a> {
+    pub nets: &'a [u8],
+    pub vertices: &'a [f64],
+}
+
+/// A level: its number, and how many nets and vertices its hypergraph has.
+#[derive(Clone, Copy)]
+// Stays: no twin: a level's number and its size.
+pub struct Level {
+    pub number: usize,
+    pub size: Size,
+}
+
+impl<'a> Levels<'a> {
+    /// What the nets and the vertices weigh, to be read.
+    pub fn weights(&self) -> Weights<'_>
+        ensures { (result.nets.now ≡ self.now.net_weights.now) × (result.vertices.now ≡ self.now.vertex_weights.now) }
+    {
+        Weights {
+            nets: self.net_weights,
+            vertices: self.vertex_weights,
+        }
+    }
+
+    /// The vertex of the next level that each vertex is part of, to be read.
+    // Stays: no conversion: it lends one of the lists.
+    pub fn to_next(&self) -> &[u16]
+        ensures { result.now ≡ self.now.places.now }
+    {
+        self.places
+    }
+}
+
+impl<'a> Weights<'a> {
+    /// The hypergraph of a level; the slots of the sides stand behind those of all levels.
+    fn layout(&self, level: &Level) -> Layout<'a>
+        requires { (level.now.number ≤ 27) × (level.now.size.vertices ≤ 128) × (7168 ≤ length self.now.nets.now) × (3584 ≤ length self.now.vertices.now) }
+        ensures { IsLevel self.now.nets.now self.now.vertices.now level.now.number level.now.size.nets level.now.size.vertices result }
+    {
+        // Stays: the lists hold all levels, 256 nets and 128 vertices for each, as the lent words do; no list of lists without a heap.
+        let net = level.number * 256;
+        let nets = net + 256;
+        // Stays: 128 places for each level, as above.
+        let first = level.number * 128;
+        let end = first + level.size.vertices;
+        Layout {
+            nets: level.number * 512,
+            vertices: level.number * 256 + 128,
+            sides: 14336,
+            net_count: level.size.nets,
+            net_weights: &self.nets[net..nets],
+            vertex_weights: &self.vertices[first..end],
+        }
+    }
 }
 
 /// The sum of the vertices' weights.
@@ -90,96 +154,59 @@ fn project(part: &mut [u8], coarse: &[u8], places: &[u16])
 }
 
 /// The same at one level: the partition of `coarse` vertices at the front of the list becomes one of `n`.
-pub fn project_at(part: &mut [u8], levels: &Levels, level: usize, n: usize, coarse: usize)
-    requires { (level ≤ 27) × (n ≤ 128) × (n ≤ length part.old) × (coarse ≤ n) × (3584 ≤ length levels.now.places.now) }
-    ensures { take n part.new ≡ map (side_of (take coarse part.old)) (span (level * 128) (level * 128 + n) levels.now.places.now) }
+pub fn project_at(part: &mut [u8], places: &[u16], level: usize, n: usize, coarse: usize)
+    requires { (level ≤ 27) × (n ≤ 128) × (n ≤ length part.old) × (coarse ≤ n) × (3584 ≤ length places.now) }
+    ensures { take n part.new ≡ map (side_of (take coarse part.old)) (span (level * 128) (level * 128 + n) places.now) }
 {
     let mut former = [0u8; 128];
     // Stays: the list holds all levels, 128 vertices for each; no list of lists without a heap.
     let first = level * 128;
     let end = first + n;
     cells::copy(&mut former, part, coarse);
-    project(
-        &mut part[..n],
-        &former[..coarse],
-        &levels.places[first..end],
-    );
+    project(&mut part[..n], &former[..coarse], &places[first..end]);
 }
 
 /// Refines the partition of a level at the front of the list, in at most four passes.
 pub fn refine_at(
     words: &mut [u64],
-    levels: &Levels,
-    level: usize,
-    size: Size,
+    weights: &Weights,
+    level: Level,
     most_weight: f64,
     draws: &mut Draws,
     part: &mut [u8],
 )
-    requires { Stage words.old (length levels.now.net_weights.now) (length levels.now.vertex_weights.now) (length levels.now.places.now) level size.nets size.vertices × (size.vertices ≤ length part.old) × Bits (take size.vertices part.old) }
-    ensures { Gives size.vertices (fm (graph_at words.old levels.now.net_weights.now levels.now.vertex_weights.now level size.nets size.vertices) most_weight 4 (take size.vertices part.old) draws.old) words.old words.new part.new draws.new }
+    requires { Stage words.old (length weights.now.nets.now) (length weights.now.vertices.now) 3584 level.number level.size.nets level.size.vertices × (level.size.vertices ≤ length part.old) × Bits (take level.size.vertices part.old) }
+    ensures { Gives level.size.vertices (fm (graph_at words.old weights.now.nets.now weights.now.vertices.now level.number level.size.nets level.size.vertices) most_weight 4 (take level.size.vertices part.old) draws.old) words.old words.new part.new draws.new }
 {
-    // Stays: the lists hold all levels, 256 nets and 128 vertices for each, as the lent words do; no list of lists without a heap.
-    let net = level * 256;
-    let nets = net + 256;
-    // Stays: 128 places for each level, as above.
-    let first = level * 128;
-    let end = first + size.vertices;
-    let layout = Layout {
-        nets: level * 512,
-        vertices: level * 256 + 128,
-        sides: 14336,
-        net_count: size.nets,
-        net_weights: &levels.net_weights[net..nets],
-        vertex_weights: &levels.vertex_weights[first..end],
-    };
-    refine::fm(
-        &layout,
-        words,
-        &mut part[..size.vertices],
-        most_weight,
-        4,
-        draws,
-    );
+    let n = level.size.vertices;
+    let layout = weights.layout(&level);
+    refine::fm(&layout, words, &mut part[..n], most_weight, 4, draws);
 }
 
 /// A first partition of a level, at the front of the list.
 pub fn initial_at(
     words: &mut [u64],
-    levels: &Levels,
-    level: usize,
-    size: Size,
+    weights: &Weights,
+    level: Level,
     most_weight: f64,
     draws: &mut Draws,
     part: &mut [u8],
 )
-    requires { Stage words.old (length levels.now.net_weights.now) (length levels.now.vertex_weights.now) (length levels.now.places.now) level size.nets size.vertices × (size.vertices ≤ length part.old) }
-    ensures { Gives size.vertices (initial (graph_at words.old levels.now.net_weights.now levels.now.vertex_weights.now level size.nets size.vertices) most_weight draws.old) words.old words.new part.new draws.new }
+    requires { Stage words.old (length weights.now.nets.now) (length weights.now.vertices.now) 3584 level.number level.size.nets level.size.vertices × (level.size.vertices ≤ length part.old) }
+    ensures { Gives level.size.vertices (initial (graph_at words.old weights.now.nets.now weights.now.vertices.now level.number level.size.nets level.size.vertices) most_weight draws.old) words.old words.new part.new draws.new }
 {
     let mut trial = [0u8; 128];
-    // Stays: the lists hold all levels, 256 nets and 128 vertices for each, as the lent words do; no list of lists without a heap.
-    let net = level * 256;
-    let nets = net + 256;
-    // Stays: 128 places for each level, as above.
-    let first = level * 128;
-    let end = first + size.vertices;
-    let layout = Layout {
-        nets: level * 512,
-        vertices: level * 256 + 128,
-        sides: 14336,
-        net_count: size.nets,
-        net_weights: &levels.net_weights[net..nets],
-        vertex_weights: &levels.vertex_weights[first..end],
-    };
-    let total = total_weight(layout.vertex_weights);
+    let n = level.size.vertices;
+    let layout = weights.layout(&level);
+    let goal = total_weight(layout.vertex_weights) / 2.0;
     initial::initial(
         words,
         &layout,
         most_weight,
-        total / 2.0,
+        goal,
         draws,
-        &mut part[..size.vertices],
-        &mut trial[..size.vertices],
+        &mut part[..n],
+        &mut trial[..n],
     );
 }
 
@@ -190,40 +217,36 @@ fn coarsen_lists(
     net_weights: &mut [u8],
     vertex_weights: &mut [f64],
     places: &mut [u16],
-    level: usize,
-    size: Size,
+    level: Level,
     limit: f64,
     draws: &mut Draws,
-) -> Option<Size>
-    requires { Stage words.old (length net_weights.old) (length vertex_weights.old) (length places.old) level size.nets size.vertices }
-    ensures { ByTry (λ found m n. Tried level size.nets size.vertices limit draws.old draws.new words.old net_weights.old vertex_weights.old places.old words.new net_weights.new vertex_weights.new places.new found m n) result }
+) -> Result<Size, Size>
+    requires { Stage words.old (length net_weights.old) (length vertex_weights.old) (length places.old) level.number level.size.nets level.size.vertices }
+    ensures { BySize (λ found m n. Tried level.number level.size.nets level.size.vertices limit draws.old draws.new words.old net_weights.old vertex_weights.old places.old words.new net_weights.new vertex_weights.new places.new found m n) result }
 {
-    if size.vertices <= 48 {
-        return None;
+    let n = level.size.vertices;
+    if n <= 48 {
+        return Err(Size {
+            nets: 0,
+            vertices: 0,
+        });
     }
     let mut weights2 = [0u8; 256];
     let mut vw2 = [0.0f64; 128];
     let mut mates = [0u16; 128];
-    // Stays: the lists hold all levels, 256 nets and 128 vertices for each, as the lent words do; no list of lists without a heap.
-    let net = level * 256;
-    let nets = net + 256;
-    // Stays: 128 places for each level, as above.
-    let first = level * 128;
-    let end = first + size.vertices;
-    let next = level + 1;
-    let layout = Layout {
-        nets: level * 512,
-        vertices: level * 256 + 128,
-        sides: 14336,
-        net_count: size.nets,
-        net_weights: &net_weights[net..nets],
-        vertex_weights: &vertex_weights[first..end],
+    // Stays: 128 places for each level; no list of lists without a heap.
+    let first = level.number * 128;
+    let next = level.number + 1;
+    let weights = Weights {
+        nets: net_weights,
+        vertices: vertex_weights,
     };
+    let layout = weights.layout(&level);
     let slots = Slots {
         nets: next * 512,
         vertices: next * 256 + 128,
     };
-    let coarse = coarsen::coarsen(
+    let coarse = coarsen::try_coarsen(
         words,
         &layout,
         limit,
@@ -231,27 +254,26 @@ fn coarsen_lists(
         slots,
         &mut weights2,
         &mut vw2,
-        &mut places[first..end],
-        &mut mates[..size.vertices],
+        &mut places[first..first + n],
+        &mut mates[..n],
     );
     cells::place(net_weights, next * 256, &weights2);
     cells::place(vertex_weights, next * 128, &vw2);
     coarse
 }
 
-/// The coarser hypergraph of a level, at the next level, with its weights and the map to it. Returns its size; none where the level is left as it is: one of at
-/// most 48 vertices, or one that loses too few of them.
+/// The coarser hypergraph of a level, at the next level, with its weights and the map to it. Returns its size, as an error where the level is left as it is: one
+/// of at most 48 vertices, or one that loses too few of them.
 pub fn coarsen_at(
     words: &mut [u64],
     levels: &mut Levels,
-    level: usize,
-    size: Size,
+    level: Level,
     limit: f64,
     draws: &mut Draws,
-) -> Option<Size>
-    requires { Stage words.old (length levels.old.net_weights.now) (length levels.old.vertex_weights.now) (length levels.old.places.now) level size.nets size.vertices }
+) -> Result<Size, Size>
+    requires { Stage words.old (length levels.old.net_weights.now) (length levels.old.vertex_weights.now) (length levels.old.places.now) level.number level.size.nets level.size.vertices }
     ensures lent { IsSameLoan levels.old levels.new }
-    ensures tried { ByTry (λ found m n. Tried level size.nets size.vertices limit draws.old draws.new words.old levels.old.net_weights.now levels.old.vertex_weights.now levels.old.places.now words.new levels.new.net_weights.now levels.new.vertex_weights.now levels.new.places.now found m n) result }
+    ensures tried { BySize (λ found m n. Tried level.number level.size.nets level.size.vertices limit draws.old draws.new words.old levels.old.net_weights.now levels.old.vertex_weights.now levels.old.places.now words.new levels.new.net_weights.now levels.new.vertex_weights.now levels.new.places.now found m n) result }
 {
     coarsen_lists(
         words,
@@ -259,7 +281,6 @@ pub fn coarsen_at(
         levels.vertex_weights,
         levels.places,
         level,
-        size,
         limit,
         draws,
     )

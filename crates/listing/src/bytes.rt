@@ -3,6 +3,8 @@ ghost use Rattle.std.specs.Prelude.{◌≡◌, ◌∷◌, ◌≤◌, length};
 ghost use Rattle.spec.specs.Memory.{placed};
 ghost use Rattle.spec.specs.Host.{bytes_of, two_each};
 
+// Stays: `at ≤ 65536`: a bound of a place, so that the next one fits a machine word; a type of its own would be unwrapped at each use.
+
 /// Writes x in two bytes at `at`, as far as `out` goes.
 // Stays: `to_be_bytes` is a method of each integer type, and of no trait of std; the two differ in the number of bytes.
 #[tactic(auto, using(crate::specs::Bytes::two_be))]
@@ -22,6 +24,7 @@ pub fn put_eight(out: &mut [u8], at: usize, x: u64)
 }
 
 /// Writes a byte, and x in two bytes after it.
+// Stays: the buffer that a host lends may end before the place, and then nothing is written; a slice from there on would have to exist.
 pub fn put_marked_two(out: &mut [u8], at: usize, mark: u8, x: u16)
     requires { at ≤ 65536 }
     ensures { out.new ≡ placed out.old at (mark ∷ bytes_of 2 x) }
@@ -31,6 +34,7 @@ pub fn put_marked_two(out: &mut [u8], at: usize, mark: u8, x: u16)
 }
 
 /// Writes a byte, and x in eight bytes after it.
+// Stays: the buffer that a host lends may end before the place, and then nothing is written; a slice from there on would have to exist.
 pub fn put_marked_eight(out: &mut [u8], at: usize, mark: u8, x: u64)
     requires { at ≤ 65536 }
     ensures { out.new ≡ placed out.old at (mark ∷ bytes_of 8 x) }
@@ -40,6 +44,7 @@ pub fn put_marked_eight(out: &mut [u8], at: usize, mark: u8, x: u64)
 }
 
 /// Writes each number of a list in two bytes, from `at` on.
+// Stays: the buffer that a host lends may end before the place, and then nothing is written; a slice from there on would have to exist.
 pub fn put_each(out: &mut [u8], at: usize, list: &[u16])
     requires { (at ≤ 65536) × (length list.now ≤ 65536) }
     ensures { out.new ≡ placed out.old at (two_each list.now) }

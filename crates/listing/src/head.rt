@@ -3,6 +3,8 @@ ghost use Rattle.std.specs.Prelude.{◌≡◌, ◌≤◌};
 ghost use Rattle.spec.specs.Memory.{placed};
 ghost use Rattle.spec.specs.Host.{total_bytes, widest_bytes, head_bytes};
 
+// Stays: `at ≤ 65536`: a bound of a place, so that the next one fits a machine word; a type of its own would be unwrapped at each use.
+
 use crate::bytes;
 use spec::{Prices, Total};
 
@@ -17,6 +19,7 @@ fn put_total(out: &mut [u8], at: usize, total: Total)
     }
 }
 
+// Stays: the buffer that a host lends may end before the place, and then nothing is written; a slice from there on would have to exist.
 fn put_widest(out: &mut [u8], at: usize, widest: Option<u16>)
     requires { at ≤ 65536 }
     ensures { out.new ≡ placed out.old at (widest_bytes widest) }

@@ -73,6 +73,7 @@ pub fn list(network: &Network, flags: &[u8], kids: &[u16], out: &mut [u8]) -> Re
 }
 
 // Lists a network with the tree and the flags that its file has.
+// Stays: the reader has put both into arrays of its caller, the tree as a flat list; a record that was read has few leaves.
 fn price_given(
     network: &Network,
     given: &Given,
@@ -89,6 +90,7 @@ fn price_given(
 }
 
 /// Reads the file, and lists its network with its own tree and flags. The reader's refusals come first, then those of `list`.
+// Stays: what is read and what is written, lent by a host for this one call.
 pub fn price_file(file: &[u8], out: &mut [u8]) -> Result<(), Refusal>
     ensures { Tells (host_call (length out.old) file.now) result out.old out.new }
 {

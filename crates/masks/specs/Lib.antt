@@ -5,3 +5,4 @@ pub mod Tables
 pub mod Singles
 pub mod Unions
 pub mod Keeps
+pub mod Planes

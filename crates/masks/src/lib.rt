@@ -6,8 +6,10 @@ ghost use Rattle.masks.specs.Rows.{row_has, in_either};
 ghost use Rattle.masks.specs.Tables.{United, KeptBelow};
 ghost use Rattle.masks.specs.Weights.{weight_below};
 
+mod planes; // planes.rt: the weights' binary digits as words, by which rows are weighed
 mod tables; // tables.rt: the tables of the masks, once they are weighed
 
+pub use planes::Planes;
 pub use tables::Tables;
 
 /// What a search over members knows of each mask of them: a place a mask in each list.
@@ -55,8 +57,8 @@ fn weigh_word(x: u64, base: usize, weights: &[u8]) -> usize
     sum
 }
 
-/// The summed weights of the indices of either row.
-// Stays: a row is two words, written out; std has no `From` of a `usize` for a `u64`.
+/// The summed weights of the indices of either row, where their digits are not at hand.
+// Stays: a row is two words, written out; std has no `From` of a `usize` for a `u64`. To make `Planes` for one row takes longer than this walk over its places.
 pub fn weigh(a: [u64; 2], b: [u64; 2], weights: &[u8]) -> u64
     requires { (128 ≤ length weights.now) × Light weights.now }
     ensures { (result ≡ weighed weights.now [] (in_either a b) 128) × (result ≤ 1024) }
@@ -81,17 +83,26 @@ pub fn unions(united: &mut [[u64; 2]])
 }
 
 /// What each mask keeps, and its bits: of its members' indices those that the region's root or a member outside lists.
-// Stays: s is a mask, and rows on both sides of it are read, so that its number is needed beside its rows.
+// Stays: the weights are lent as a list; `keep_sets_by` takes `Planes`, which hold what is asked of them.
 pub fn keep_sets(united: &[[u64; 2]], weights: &[u8], kept: &mut [[u64; 2]], bits: &mut [u64])
     requires room { (length united.now ≤ 4096) × (length kept.old ≡ length united.now) × (length bits.old ≡ length united.now) }
     requires weights { (128 ≤ length weights.now) × Light weights.now }
     ensures { KeptBelow united.now weights.now kept.new bits.new (length united.now) (length united.now) }
+{
+    keep_sets_by(united, &Planes::of(weights), kept, bits);
+}
+
+/// The same, where the digits of the weights are at hand.
+// Stays: s is a mask, and rows on both sides of it are read, so that its number is needed beside its rows.
+pub fn keep_sets_by(united: &[[u64; 2]], planes: &Planes, kept: &mut [[u64; 2]], bits: &mut [u64])
+    requires { (length united.now ≤ 4096) × (length kept.old ≡ length united.now) × (length bits.old ≡ length united.now) }
+    ensures { KeptBelow united.now planes.now.weights.now kept.new bits.new (length united.now) (length united.now) }
 {
     let n = united.len();
     for s in 1..n {
         let outside = unite(united[0], united[n - 1 - s]);
         let row = meet(united[s], outside);
         kept[s] = row;
-        bits[s] = weigh(row, row, weights);
+        bits[s] = planes.weigh(row, row);
     }
 }

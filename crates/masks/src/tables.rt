@@ -1,6 +1,11 @@
 // The tables of the masks: their indices, weighed.
 ghost use Rattle.std.specs.Prelude.{◌≡◌, ◌<◌, ◌≤◌, length, get_or};
 ghost use Rattle.masks.specs.Tables.{work_at, Sized};
+// Stays: `l: usize, r: usize`: two masks that are joined, each a place by itself; no list goes with them.
+// Stays: `1 ≤ s`: the mask of no members has no table; a type of its own for masks would be unwrapped at each list.
+// Stays: `result ≤ 1024`: what a weighing promises, so that its callers' sums and shifts fit; no type of a word says it.
+
+use super::Planes;
 
 /// The masks' tables, and the bits of each.
 // Stays: parts of one piece of lent words, as in `Masks`; of these a search only reads.
@@ -8,8 +13,8 @@ ghost use Rattle.masks.specs.Tables.{work_at, Sized};
 pub struct Tables<'a> {
     kept: &'a [[u64; 2]],
     bits: &'a [u64],
-    weights: &'a [u8],
-    ghost sized: { Sized kept.now bits.now weights.now },
+    planes: Planes<'a>,
+    ghost sized: { Sized kept.now bits.now planes.weights.now },
 }
 
 impl<'a> Tables<'a> {
@@ -18,13 +23,19 @@ impl<'a> Tables<'a> {
         requires { Sized kept.now bits.now weights.now }
         ensures kept { result.kept.now ≡ kept.now }
         ensures bits { result.bits.now ≡ bits.now }
-        ensures weights { result.weights.now ≡ weights.now }
+        ensures weights { result.planes.weights.now ≡ weights.now }
     {
-        Tables {
-            kept,
-            bits,
-            weights,
-        }
+        Tables::of_planes(kept, bits, Planes::of(weights))
+    }
+
+    /// The same, where the digits of the weights are at hand.
+    pub fn of_planes(kept: &'a [[u64; 2]], bits: &'a [u64], planes: Planes<'a>) -> Tables<'a>
+        requires { Sized kept.now bits.now planes.weights.now }
+        ensures kept { result.kept.now ≡ kept.now }
+        ensures bits { result.bits.now ≡ bits.now }
+        ensures weights { result.planes.weights.now ≡ planes.entry.weights.now }
+    {
+        Tables { kept, bits, planes }
     }
 
     /// How many masks there are.
@@ -40,16 +51,16 @@ impl<'a> Tables<'a> {
     #[inline]
     pub fn bits(&self, s: usize) -> u64
         requires { (1 ≤ s) × (s < length self.now.bits.now) }
-        ensures { result ≡ work_at self.now.kept.now self.now.weights.now s s }
+        ensures { result ≡ work_at self.now.kept.now self.now.planes.weights.now s s }
     {
         self.bits[s]
     }
 
-    /// The work bits of the step that joins the tables of the masks `l` and `r`.
+    /// The work bits of the step that joins the tables of the masks `l` and `r`. `weigh` says the same of any two rows.
     pub fn work(&self, l: usize, r: usize) -> u64
         requires { (l < length self.now.bits.now) × (r < length self.now.bits.now) }
-        ensures { (result ≡ work_at self.now.kept.now self.now.weights.now l r) × (result ≤ 1024) }
+        ensures { (result ≡ work_at self.now.kept.now self.now.planes.weights.now l r) × (result ≤ 1024) }
     {
-        super::weigh(self.kept[l], self.kept[r], self.weights)
+        self.planes.weigh(self.kept[l], self.kept[r])
     }
 }

@@ -14,8 +14,9 @@ use Rattle.spec.specs.Coarsen.{Ratings, Choice, rated_by, ratings, looked_at, ma
 use Rattle.laws.specs.ListLaws.{keep_ext_from, keep_none_from, range_length, keep-map}
 use Rattle.slots.specs.Slots.{held}
 use Rattle.slots.specs.Rising.{rising_of, memb_rising, keep-add}
-use Rattle.partition.specs.Layout.{net_in, graph_in}
+use Rattle.partition.specs.Layout.{net_in, graph_in, Crossed}
 use Rattle.partition.specs.Folds.{fold_map}
+use Rattle.partition.specs.Gains.{fold_cong, nets_crossed}
 use Rattle.ratings.specs.Rated.{ratings_in, rated_net, rated_nets, rated_net_lem}
 use Rattle.matching.specs.Order.{Below, below_shuffled, below_range}
 use Rattle.matching.specs.Choices.{choice_of, looked, mated_in}
@@ -23,13 +24,9 @@ use Rattle.matching.specs.Choices.{choice_of, looked, mated_in}
 -- Slots nets on hold the pins of m nets; slots vertices on, the nets of n vertices.
 pub record Meshed (ws : List ℕ) (nets vertices m n : ℕ) : Type 0 where
   pub few : (m ≤ 256) × (n ≤ 128)
-  pub crossed : (v e : ℕ) → v < n → e < 256 → held ws 4 (vertices + v) e ≡ (ltb e m && held ws 2 (nets + e) v)
+  pub crossed : Crossed ws nets vertices m n
 
 -- ---- lists ----
-
-fold_ext : {A S : Type 0} (f g : A → S → S) (l : List A) (s : S) → ((x : A) (t : S) → f x t ≡ g x t) → fold_over f l s ≡ fold_over g l s
-fold_ext f g [] s h = refl
-fold_ext f g (x ∷ l) s h = ap (fold_over f l) (h x s) ∙ fold_ext f g l (g x s) h
 
 -- how long the front of an array of 128 places is
 pub front_long : (n : ℕ) → n ≤ 128 → length {A = ℕ} (take n (replicate 128 0)) ≡ n
@@ -40,19 +37,7 @@ module _ (ws : List ℕ) (nets vertices m n : ℕ) (weights : List ℕ) (vw : Li
   G = graph_in ws nets weights m vw
 
   pub nets_at_lem : (v : ℕ) → v < n → nets_at G v ≡ map (net_in ws nets weights) (rising_of ws 4 (vertices + v))
-  unfolding graph_in rising_of
-  nets_at_lem v b =
-      let split : 256 ≡ m + (256 - m) = omega (arith, h.few.0) in
-      keep-map (λ (x : Net). memb v x.pins) (net_in ws nets weights) (range m)
-      ∙ ap (map (net_in ws nets weights))
-      (keep_ext_from (λ e. memb v (rising_of ws 2 (nets + e))) (held ws 4 (vertices + v)) 0 m
-      (λ e lo hi. memb_rising ws 2 (nets + e) v (omega (arith, h.few.1)) ∙ sym (h.crossed v e b (omega (arith, h.few.0)) ∙ rw (lt-ltb e m (omega arith))))
-      ∙ sym (ap (λ (k : ℕ). keep (held ws 4 (vertices + v)) (range k)) split
-      ∙ keep-add (held ws 4 (vertices + v)) 0 m (256 - m)
-      ∙ ap (λ l. keep (held ws 4 (vertices + v)) (range m) ++ l)
-      (keep_none_from (held ws 4 (vertices + v)) (0 + m) (256 - m)
-      (λ e lo hi. h.crossed v e b (omega (arith, h.few.0)) ∙ rw (le-ltb e m (omega arith))))
-      ∙ append-nil (keep (held ws 4 (vertices + v)) (range m))))
+  nets_at_lem = nets_crossed ws nets vertices m n weights vw h.few h.crossed
 
   -- the ratings that a vertex's neighbours get
   abbrev start : ℕ → Ratings
@@ -64,8 +49,8 @@ module _ (ws : List ℕ) (nets vertices m n : ℕ) (weights : List ℕ) (vw : Li
   ratings_laid mates v b e =
       ap (λ (k : List Net). fold_over (rated_by G maxw mates v) k (start (length vw))) (nets_at_lem v b)
       ∙ fold_map (rated_by G maxw mates v) (net_in ws nets weights) (rising_of ws 4 (vertices + v)) (start (length vw))
-      ∙ fold_ext (λ x. rated_by G maxw mates v (net_in ws nets weights x)) (λ x. rated_net mates (length vw) v (get_or weights x 0) (rising_of ws 2 (nets + x))) (rising_of ws 4 (vertices + v)) (start (length vw))
-      (λ x t. rated_net_lem G maxw mates v (get_or weights x 0) (rising_of ws 2 (nets + x)) t)
+      ∙ fold_cong (λ x. rated_by G maxw mates v (net_in ws nets weights x)) (λ x. rated_net mates (length vw) v (get_or weights x 0) (rising_of ws 2 (nets + x))) (rising_of ws 4 (vertices + v)) (start (length vw))
+      (λ x i t. rated_net_lem G maxw mates v (get_or weights x 0) (rising_of ws 2 (nets + x)) t)
       ∙ ap (λ (k : ℕ). rated_nets ws nets weights mates k v (rising_of ws 4 (vertices + v)) (start k)) e
 
   -- MATCHED BY THE SLOTS

@@ -10,6 +10,9 @@ ghost use Rattle.matching.specs.Order.{drawn_swap, Below};
 ghost use Rattle.matching.specs.Graphs.{graph_of};
 ghost use Rattle.matching.specs.Choices.{choice_of, looked, mated_in};
 
+// Stays: `limit: f64, draws: &mut Draws`: a number that stays and draws that go on; nothing else is made of the two.
+// Stays: `v < 65536`: a bound of a number, so that it fits a place of the list; a type of its own would be unwrapped at each use.
+
 mod graph;
 
 use draws::Draws;
@@ -51,6 +54,7 @@ fn shuffle(order: &mut [u16], draws: &mut Draws)
 
 /// The best mate so far, if one was found, with its rating.
 #[derive(Clone, Copy)]
+// Stays: no twin of a growth's candidate: the mate is a number as the lists hold it, and the names say what is compared.
 pub struct Best {
     pub rating: f64,
     pub mate: Option<u16>,

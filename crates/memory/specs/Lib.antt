@@ -3,3 +3,4 @@ pub mod Copies
 pub mod Call
 pub mod Numbers
 pub mod Promise
+pub mod Lists

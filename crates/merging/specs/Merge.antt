@@ -35,10 +35,10 @@ pub second_lt : (n₀ x y b : ℕ) → x < b → y < b → second_of n₀ x y < 
 second_lt n₀ x y b p q = by_cases (ltb y n₀) (λ e. rw e q) (λ e. rw e p)
 
 -- the lists after a scan
-abbrev pub scanned_in : List ℕ → ℕ → Lists → Lists
-scanned_in weights n₀ M =
-    lists_of (with_holders M.words 4 M.live (length M.live)) M.nodes M.sizes M.live
-    (renewed_all (with_holders M.words 4 M.live (length M.live)) 4 weights M.sizes n₀ M.live M.rows (length M.live))
+abbrev pub scanned_in : ℕ → List ℕ → ℕ → Lists → Lists
+scanned_in W weights n₀ M =
+    lists_of (with_holders M.words W M.live (length M.live)) M.nodes M.sizes M.live
+    (renewed_all (with_holders M.words W M.live (length M.live)) W weights M.sizes n₀ M.live M.rows (length M.live))
 
 -- the tables of a choice: the one that goes first, and the one that goes second
 abbrev pub first_chosen : ℕ → Choice → ℕ
@@ -48,10 +48,10 @@ abbrev pub second_chosen : ℕ → Choice → ℕ
 second_chosen n₀ b = second_of n₀ b.pair.other b.table
 
 -- the tables of a choice are merged into slot z, whose number is v
-abbrev pub merged_in : ℕ → Choice → ℕ → ℕ → Lists → Lists
-merged_in n₀ b z v M =
+abbrev pub merged_in : ℕ → ℕ → Choice → ℕ → ℕ → Lists → Lists
+merged_in W n₀ b z v M =
     lists_of
-    (with_set M.words 4 z (merged_set M.words 4 (first_chosen n₀ b) (second_chosen n₀ b)))
+    (with_set M.words W z (merged_set M.words W (first_chosen n₀ b) (second_chosen n₀ b)))
     (set M.nodes z v)
     (set M.sizes z b.pair.bits)
     (remaining (first_chosen n₀ b) (second_chosen n₀ b) M.live ++ (z ∷ []))
@@ -65,9 +65,9 @@ marked_coded rows i j k x y z ei ej ek =
     ∙ (λ t. set (set (set (coded rows) (ei t) 259) (ej t) 259) (ek t) 258)
 
 -- the lists that it leaves
-pub lists_merged : (n₀ : ℕ) (b : Choice) (z v : ℕ) (M : Lists) (words nodes sizes live rows : List ℕ)
-    → words ≡ with_set M.words 4 z (merged_set M.words 4 (first_chosen n₀ b) (second_chosen n₀ b)) → nodes ≡ set M.nodes z v → sizes ≡ set M.sizes z b.pair.bits
+pub lists_merged : (W n₀ : ℕ) (b : Choice) (z v : ℕ) (M : Lists) (words nodes sizes live rows : List ℕ)
+    → words ≡ with_set M.words W z (merged_set M.words W (first_chosen n₀ b) (second_chosen n₀ b)) → nodes ≡ set M.nodes z v → sizes ≡ set M.sizes z b.pair.bits
     → live ≡ remaining (first_chosen n₀ b) (second_chosen n₀ b) M.live ++ (z ∷ []) → rows ≡ marked M.rows (first_chosen n₀ b) (second_chosen n₀ b) z
-    → lists_of words nodes sizes live rows ≡ merged_in n₀ b z v M
-lists_merged n₀ b z v M words nodes sizes live rows p q r s t =
+    → lists_of words nodes sizes live rows ≡ merged_in W n₀ b z v M
+lists_merged W n₀ b z v M words nodes sizes live rows p q r s t =
     λ i. record { words = p i; nodes = q i; sizes = r i; live = s i; rows = t i }

@@ -9,12 +9,12 @@ use Rattle.tables.specs.Lists.{Lists, pair_slot, pair_size}
 use Rattle.slots.specs.Slots.{with_set}
 use Rattle.live.specs.Merged.{merged_set}
 use Rattle.scores.specs.Scores.{first_of, second_of}
-use Rattle.rows.specs.Rows.{least_of}
+use Rattle.rows.specs.Rows.{least_of, least_found}
 use Rattle.rows.specs.Within.{chosen_code, Named}
 use Rattle.merging.specs.Listed.{remaining}
 use Rattle.merging.specs.Merge.{first_at, second_at, marked, with_node, scanned_in, first_chosen, second_chosen, merged_in}
 use Rattle.merging.specs.Holds.{Given, Ghost}
-use Rattle.merging.specs.Connect.{Start, Reached, Connected, turn_ends, turn_refused, turn_merges}
+use Rattle.merging.specs.Connect.{Start, Reached, Connected, least_known, turn_ends, turn_refused, turn_merges}
 
 -- ---- the children of the array so far, and behind them those of the new nodes ----
 
@@ -34,29 +34,31 @@ node_behind pre l c t u v e =
 
 -- ---- a turn ----
 
-module _ (G : Given) (S : Ghost) (n n0 count : ℕ) (weights kids₀ : List ℕ) (M₀ : Lists) (start : Start G S M₀ 4 n n0 count weights kids₀)
+module _ (G : Given) (S : Ghost) (W n n0 count : ℕ) (weights kids₀ : List ℕ) (M₀ : Lists) (start : Start G S M₀ W n n0 count weights kids₀)
     (t : ℕ) (M : Lists) (kids : List ℕ) (R : Reached G S kids₀ t M kids) (less : t < n0)
-    (K : Lists) (r : Result (Option Choice) Refusal) (ek : K ≡ scanned_in weights n0 M) (er : chosen_code r ≡ least_of K.sizes n0 K.rows K.live (length K.live))
+    (K : Lists) (r : Result (Option Choice) Refusal) (ek : K ≡ scanned_in W weights n0 M) (er : chosen_code r ≡ least_found K.sizes n0 K.rows K.live (length K.live))
   where
     abbrev L : Lists
-    L = scanned_in weights n0 M
+    L = scanned_in W weights n0 M
 
     least_is : chosen_code r ≡ least_of M.sizes n0 L.rows M.live (length M.live)
-    least_is = er ∙ ap (λ (l : Lists). least_of l.sizes n0 l.rows l.live (length l.live)) ek
+    least_is =
+        er ∙ ap (λ (l : Lists). least_found l.sizes n0 l.rows l.live (length l.live)) ek
+        ∙ least_known G S W n n0 count weights kids₀ M₀ start t M kids R L.words L.rows refl refl
 
     -- a pair is too wide
     pub scan_refused : (nodes sizes live kids' : List ℕ) (e : Refusal) → r ≡ Err e → Connected G S kids₀ nodes sizes live kids' (Err TableTooWide)
     scan_refused nodes sizes live kids' e z =
-        turn_refused G S 4 n n0 count weights kids₀ M₀ start t M kids R less (chosen_code r) L.words L.rows refl refl least_is nodes sizes live kids' (ap chosen_code z)
+        turn_refused G S W n n0 count weights kids₀ M₀ start t M kids R less (chosen_code r) L.words L.rows refl refl least_is nodes sizes live kids' (ap chosen_code z)
 
     -- no pair is left
     pub scan_ends : r ≡ Ok None → Connected G S kids₀ K.nodes K.sizes K.live kids (Ok t)
     scan_ends z =
         subst (λ (l : Lists). Connected G S kids₀ l.nodes l.sizes l.live kids (Ok t)) (sym ek)
-        (turn_ends G S 4 n n0 count weights kids₀ M₀ start t M kids R less (chosen_code r) L.words L.rows refl refl least_is (ap chosen_code z))
+        (turn_ends G S W n n0 count weights kids₀ M₀ start t M kids R less (chosen_code r) L.words L.rows refl refl least_is (ap chosen_code z))
 
     -- the least pair is merged
-    pub scan_merges : (b : Choice) → r ≡ Ok (Some b) → Named K.rows (Some b) → (K' : Lists) (kids' : List ℕ) → K' ≡ merged_in n0 b (n0 + t) (n + (count + t)) K
+    pub scan_merges : (b : Choice) → r ≡ Ok (Some b) → Named K.rows (Some b) → (K' : Lists) (kids' : List ℕ) → K' ≡ merged_in W n0 b (n0 + t) (n + (count + t)) K
         → kids' ≡ with_node kids (count + t) (get_or K.nodes (first_chosen n0 b) 0) (get_or K.nodes (second_chosen n0 b) 0)
         → Reached G S kids₀ (t + 1) K' kids'
     scan_merges b z named K' kids' e e₆ =
@@ -67,10 +69,10 @@ module _ (G : Given) (S : Ghost) (n n0 count : ℕ) (weights kids₀ : List ℕ)
         let fs : first_chosen n0 b ≡ first_at n0 L.rows y = ap (λ (x : ℕ). first_of n0 x y) slot in
         let gs : second_chosen n0 b ≡ second_at n0 L.rows y = ap (λ (x : ℕ). second_of n0 x y) slot in
         let ss : b.pair.bits ≡ get_or L.rows y 0 / 512 = sym (ap (λ (c : ℕ). c / 512) h ∙ pair_size b.pair) in
-        subst (λ (l : Lists). Reached G S kids₀ (t + 1) l kids') (sym (e ∙ ap (merged_in n0 b (n0 + t) (n + (count + t))) ek))
-        (turn_merges G S 4 n n0 count weights kids₀ M₀ start t M kids R less y L.words L.rows refl refl (sym ey ∙ least_is)
+        subst (λ (l : Lists). Reached G S kids₀ (t + 1) l kids') (sym (e ∙ ap (merged_in W n0 b (n0 + t) (n + (count + t))) ek))
+        (turn_merges G S W n n0 count weights kids₀ M₀ start t M kids R less y L.words L.rows refl refl (sym ey ∙ least_is)
         (n0 + t) refl _ _ _ _ _ kids'
-        (ap₂ (λ (a c : ℕ). with_set L.words 4 (n0 + t) (merged_set L.words 4 a c)) fs gs)
+        (ap₂ (λ (a c : ℕ). with_set L.words W (n0 + t) (merged_set L.words W a c)) fs gs)
         refl
         (ap (set L.sizes (n0 + t)) ss)
         (ap₂ (λ (a c : ℕ). remaining a c L.live ++ ((n0 + t) ∷ [])) fs gs)

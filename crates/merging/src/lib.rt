@@ -4,7 +4,7 @@
 ghost use Rattle.std.specs.Prelude.{[], ◌∷◌, ◌++◌, ◌≡◌, ◌+◌, ◌<◌, ◌≤◌, length, get_or, IfOk, IfErr};
 ghost use Rattle.spec.specs.declared.Refusal.TheVariants.{TableTooWide};
 ghost use Rattle.tables.specs.Lists.{coded, lists_in, IsSameLoan};
-ghost use Rattle.rows.specs.Rows.{least_of};
+ghost use Rattle.rows.specs.Rows.{least_found};
 ghost use Rattle.rows.specs.Within.{chosen_code, NamedIn};
 ghost use Rattle.merging.specs.Listed.{remaining};
 ghost use Rattle.merging.specs.Holds.{Given, Ghost};
@@ -12,6 +12,9 @@ ghost use Rattle.merging.specs.Connect.{Start, Connected};
 ghost use Rattle.merging.specs.Scans.{kids_behind};
 ghost use Rattle.merging.specs.Merge.{first_chosen, second_chosen, with_node, scanned_in, merged_in};
 
+// Stays: `IfErr result (λ r. r ≡ TableTooWide)`: which refusal it is; an error type of its own would be made a `Refusal` by each caller.
+// Stays: `IsSameLoan tables.old tables.new`: the words are lent in the tables, and only a clause can say that the same come back.
+// Stays: `x: usize, y: usize`: two slots that are taken out of one list.
 use arrayvec::ArrayVec;
 use spec::Refusal;
 use tables::Row;
@@ -23,11 +26,11 @@ use tables::slotted::Tables;
 const MAX_TABLES: usize = 128;
 
 /// Takes the slots `x` and `y` out of a list.
-pub fn remove(live: &mut ArrayVec<u8, 256>, x: u8, y: u8)
+pub fn remove(live: &mut ArrayVec<u8, 256>, x: usize, y: usize)
     ensures items { live.new.items ≡ remaining x y live.old.items }
     ensures few { length live.new.items ≤ length live.old.items }
 {
-    live.retain(|slot| *slot != x && *slot != y);
+    live.retain(|slot| usize::from(*slot) != x && usize::from(*slot) != y);
 }
 
 /// Puts the numbers of two tables down as the children of the node at place `count`.
@@ -50,39 +53,47 @@ struct Children {
 }
 
 /// Merges the tables of a choice into slot `z`, whose number is `node`.
-fn merge(tables: &mut Tables, start: usize, choice: Choice, z: u8, node: u16) -> Children
+// Stays: the tables' lists go by slot, and each is lent by itself elsewhere.
+fn merge<const W: usize>(
+    tables: &mut Tables<W>,
+    start: usize,
+    choice: Choice,
+    z: u8,
+    node: u16,
+) -> Children
     requires { length tables.old.live.items < 256 }
     ensures same { IsSameLoan tables.old tables.new }
-    ensures lists { lists_in tables.new ≡ merged_in start choice z node (lists_in tables.old) }
+    ensures lists { lists_in tables.new ≡ merged_in W start choice z node (lists_in tables.old) }
     ensures few { length tables.new.live.items ≤ length tables.old.live.items + 1 }
     ensures left { result.left ≡ get_or tables.old.nodes (first_chosen start choice) 0 }
     ensures right { result.right ≡ get_or tables.old.nodes (second_chosen start choice) 0 }
 {
-    let first = scores::first(start, choice.pair.other, choice.table);
-    let second = scores::second(start, choice.pair.other, choice.table);
-    let left = tables.nodes[usize::from(first)];
-    let right = tables.nodes[usize::from(second)];
-    live::put_merged(
-        &mut *tables.sets,
-        usize::from(first),
-        usize::from(second),
-        usize::from(z),
-    );
-    tables.nodes[usize::from(z)] = node;
-    tables.sizes[usize::from(z)] = u16::from(choice.pair.bits);
-    tables.rows[usize::from(first)] = Row::Gone;
-    tables.rows[usize::from(second)] = Row::Gone;
-    tables.rows[usize::from(z)] = Row::Stale;
+    let other = usize::from(choice.pair.other);
+    let table = usize::from(choice.table);
+    let first = scores::first(start, other, table);
+    let second = scores::second(start, other, table);
+    let left = tables.nodes[first];
+    let right = tables.nodes[second];
+    let slot = usize::from(z);
+    live::put_merged::<W>(&mut *tables.sets, first, second, slot);
+    tables.nodes[slot] = node;
+    tables.sizes[slot] = u16::from(choice.pair.bits);
+    tables.rows[first] = Row::Gone;
+    tables.rows[second] = Row::Gone;
+    tables.rows[slot] = Row::Stale;
     remove(&mut tables.live, first, second);
     tables.live.push(z);
     Children { left, right }
 }
 
 /// Scans the live tables for the least pair of all, none where no two share an index; refused where a pair is too wide.
-fn scan(tables: &mut Tables, scoring: &Scoring) -> Result<Option<Choice>, Refusal>
+fn scan<const W: usize>(
+    tables: &mut Tables<W>,
+    scoring: &Scoring,
+) -> Result<Option<Choice>, Refusal>
     ensures same { IsSameLoan tables.old tables.new }
-    ensures lists { lists_in tables.new ≡ scanned_in scoring.now.weights.now scoring.now.start (lists_in tables.old) }
-    ensures least { chosen_code result ≡ least_of tables.new.sizes scoring.now.start (coded tables.new.rows) tables.new.live.items (length tables.new.live.items) }
+    ensures lists { lists_in tables.new ≡ scanned_in W scoring.now.weights.now scoring.now.start (lists_in tables.old) }
+    ensures least { chosen_code result ≡ least_found tables.new.sizes scoring.now.start (coded tables.new.rows) tables.new.live.items (length tables.new.live.items) }
     ensures named { NamedIn (coded tables.new.rows) result }
     ensures why { IfErr result (λ r. r ≡ TableTooWide) }
 {
@@ -94,8 +105,8 @@ fn scan(tables: &mut Tables, scoring: &Scoring) -> Result<Option<Choice>, Refusa
 /// Merges the least pair of the live tables and its like until none share an index, and returns how many merges there were; refused where a
 /// pair is too wide. The array so far has `count` nodes over `n` leaves. Each merge makes one more, whose children are put into `kids`.
 // Stays: the turns write the tables and may be refused, which a closure of `position` would hold and hide.
-pub fn connect(
-    tables: &mut Tables,
+pub fn connect<const W: usize>(
+    tables: &mut Tables<W>,
     scoring: &Scoring,
     n: usize,
     count: usize,
@@ -104,7 +115,8 @@ pub fn connect(
     requires { (n < 16384) × (count < 16384) × (scoring.now.start ≤ 256) }
     ensures same { IsSameLoan tables.old tables.new }
     ensures bound { IfOk result (λ t. t ≤ scoring.now.start) }
-    ensures connected { (G : Given) (S : Ghost) → Start G S (lists_in tables.old) 4 n scoring.now.start count scoring.now.weights.now (kids_behind S kids.old) → Connected G S (kids_behind S kids.old) tables.new.nodes tables.new.sizes tables.new.live.items (kids_behind S kids.new) result }
+    ensures why { IfErr result (λ r. r ≡ TableTooWide) }
+    ensures connected { (G : Given) (S : Ghost) → Start G S (lists_in tables.old) W n scoring.now.start count scoring.now.weights.now (kids_behind S kids.old) → Connected G S (kids_behind S kids.old) tables.new.nodes tables.new.sizes tables.new.live.items (kids_behind S kids.new) result }
 {
     // More tables than greedy ever starts with: their nodes have no slots, and nothing is merged.
     if MAX_TABLES < scoring.start {

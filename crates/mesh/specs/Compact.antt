@@ -20,6 +20,7 @@ use Rattle.network.specs.Layouts.{map-range_ext}
 use Rattle.slots.specs.Slots.{held, with_set, with_set_length, held_with, held_with_other}
 use Rattle.slots.specs.Rising.{rising_of}
 use Rattle.partition.specs.Layout.{net_in}
+pub use Rattle.partition.specs.Layout.{Within}
 use Rattle.mesh.specs.Stays.{Stays, stays_none, stays_then, stays_with}
 
 -- words, weights of nets, and how many nets are kept
@@ -76,10 +77,6 @@ module _ (nets : ℕ) (weights : List ℕ) where
     pub kept_none : n < 2 → kept_of ws kept k ≡ net_kept nets weights e (kept_of ws kept k)
     kept_none h =
         sym (ap (λ b. cond b (kept_of (moved ws nets e k) (set kept k (get_or weights e 0)) (k + 1)) (kept_of ws kept k)) (sym (ap (leb 2) q) ∙ lt-leb 2 n h))
-
--- the pins of m nets are vertices below n
-abbrev pub Within : List ℕ → ℕ → ℕ → ℕ → Type 0
-Within ws nets m n = (e v : ℕ) → e < m → v < 128 → held ws 2 (nets + e) v ≡ true → v < n
 
 module _ (ws : List ℕ) (nets : ℕ) (weights start : List ℕ) (m : ℕ) where
   -- after e of the m nets

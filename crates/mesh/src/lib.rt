@@ -1,10 +1,14 @@
 #![tactic(auto)]
 // Hypergraphs in slots of lent words, put together: raw nets are compacted to those of two pins or more, and the nets of each vertex are made from them.
-ghost use Rattle.std.specs.Prelude.{◌≡◌, ◌+◌, ◌*◌, ◌<◌, ◌≤◌, length};
+ghost use Rattle.std.specs.Prelude.{◌≡◌, ◌+◌, ◌*◌, ◌^◌, ◌<◌, ◌≤◌, length};
 ghost use Rattle.mesh.specs.Entries.{emptied, entered};
 ghost use Rattle.mesh.specs.Crossed.{crossed_net, crossed};
 ghost use Rattle.mesh.specs.Compact.{kept_of, net_kept, compacted};
 ghost use Rattle.mesh.specs.Mesh.{Built};
+
+// Stays: `words: &mut [u64], w: usize`, `w: usize, base: usize`: where slots lie in lent words; a struct of the three would be made at each call.
+// Stays: `nets: usize, weights: &[u8]`: raw nets and what they weigh; there is no hypergraph yet.
+// Stays: `w ≤ 16`, `base < 32768`, `nets < 32768`, `e < 256`, `m ≤ 256`, `n ≤ 256`, `place.now.nets < 32768`, `place.now.vertices < 32768`: bounds of numbers, so that a place fits a machine word; a type of its own would be unwrapped at each use.
 
 use partition::Place;
 
@@ -20,36 +24,54 @@ pub fn empty_all(words: &mut [u64], w: usize, base: usize, n: usize)
     }
 }
 
-/// Puts index `x` into slot `base` + v for each number v of a list.
-// Stays: the loop lends the same words to each turn; `for_each` with a closure over them is no plainer.
-pub fn put_into(words: &mut [u64], w: usize, base: usize, list: &[u16], x: usize)
-    requires { (w ≤ 16) × (base < 32768) }
-    ensures { words.new ≡ entered w base list.now 0 x words.old (length list.now) }
+/// Puts index `x` into slot `base` + v for each number v at place `at` of a list and the places after it, `n` in all; past the list's end stand numbers 0.
+// Stays: asks no more of its callers than lists that fit.
+pub fn put_into(
+    words: &mut [u64],
+    w: usize,
+    base: usize,
+    list: &[u16],
+    at: usize,
+    n: usize,
+    x: usize,
+)
+    requires { (w ≤ 16) × (base < 32768) × (at + n < 2 ^ 64) }
+    ensures { words.new ≡ entered w base list.now at x words.old n }
 {
-    for &v in list {
-        slots::insert(words, w, base + usize::from(v), x);
+    for k in 0..n {
+        let v = usize::from(cells::get_or(list, at + k, 0));
+        slots::insert(words, w, base + v, x);
     }
 }
 
-// Enters net `e` at each of its pins.
-fn cross_net(graph: &mut [u64], nets: usize, vertices: usize, e: usize)
-    requires { (nets < 32768) × (vertices < 32768) × (e < 256) }
-    ensures { graph.new ≡ crossed_net nets vertices e graph.old }
+/// Puts index `x` into slot `base` + v for each number v of a list.
+// Stays: words and their width say where slots lie; a struct of the two would be made at each call.
+pub fn put_each(words: &mut [u64], w: usize, base: usize, list: &[u16], x: usize)
+    requires { (w ≤ 16) × (base < 32768) }
+    ensures { words.new ≡ entered w base list.now 0 x words.old (length list.now) }
 {
-    let mut pins = [0u16; 128];
-    let len = slots::members(graph, 2, nets + e, &mut pins, 0);
-    put_into(graph, 4, vertices, &pins[..len], e);
+    put_into(words, w, base, list, 0, list.len(), x);
 }
 
-// The nets of each of `n` vertices, from the pins of `m` nets.
-fn cross(graph: &mut [u64], nets: usize, vertices: usize, m: usize, n: usize)
-    requires { (nets < 32768) × (vertices < 32768) × (m ≤ 256) × (n ≤ 128) }
-    ensures { graph.new ≡ crossed nets vertices n graph.old m }
+// Enters net `e` at each of its pins.
+fn cross_net(words: &mut [u64], place: &Place, e: usize)
+    requires { (place.now.nets < 32768) × (place.now.vertices < 32768) × (e < 256) }
+    ensures { words.new ≡ crossed_net place.now.nets place.now.vertices e words.old }
 {
-    empty_all(graph, 4, vertices, n);
+    let mut pins = [0u16; 128];
+    let len = slots::members(words, 2, place.nets + e, &mut pins, 0);
+    put_each(words, 4, place.vertices, &pins[..len], e);
+}
+
+// The nets of each vertex, from the pins of the nets.
+fn cross(words: &mut [u64], place: &Place)
+    requires { (place.now.nets < 32768) × (place.now.vertices < 32768) × (place.now.net_count ≤ 256) × (place.now.vertex_count ≤ 128) }
+    ensures { words.new ≡ crossed place.now.nets place.now.vertices place.now.vertex_count words.old place.now.net_count }
+{
+    empty_all(words, 4, place.vertices, place.vertex_count);
     // Stays: the nets are slots of lent words, and no list.
-    for e in 0..m {
-        cross_net(graph, nets, vertices, e);
+    for e in 0..place.net_count {
+        cross_net(words, place, e);
     }
 }
 
@@ -93,6 +115,10 @@ pub fn mesh(words: &mut [u64], place: &Place, weights: &[u8], kept: &mut [u8]) -
     ensures { Built words.old place.now.nets place.now.vertices weights.now place.now.net_count place.now.vertex_count words.new kept.new result }
 {
     let count = compact(words, place.nets, place.net_count, weights, kept);
-    cross(words, place.nets, place.vertices, count, place.vertex_count);
+    let made = Place {
+        net_count: count,
+        ..*place
+    };
+    cross(words, &made);
     count
 }

@@ -1,6 +1,6 @@
 -- A hypergraph in slots, with three slots of two words behind it: the two sides of a partition, and the vertices that have moved. What is
 -- written there leaves the hypergraph as it was. Assumes nothing.
-use Rattle.std.specs.Prelude.{Bool, true, ◌&&◌, ◌≡◌, refl, ℕ, zero, suc, ◌+◌, ◌*◌, ◌≤◌, ◌<◌, ltb, Float, length, get_or}
+use Rattle.std.specs.Prelude.{Bool, ◌&&◌, ◌≡◌, refl, ℕ, zero, suc, ◌+◌, ◌*◌, ◌≤◌, ◌<◌, ltb, Float, length, get_or}
 use Rattle.std.proofs.Common.{sym, ◌∙◌, arith, ltb-true}
 use Rattle.std.proofs.Math.Path.{ap}
 use mathlib.Core.List.{List, ◌∷◌, map}
@@ -9,7 +9,7 @@ use Rattle.spec.specs.Hypergraph.{Net}
 use Rattle.laws.specs.Booleans.{by_cases}
 use Rattle.slots.specs.Slots.{held, with_set, with_set_length, with_set_outside}
 use Rattle.slots.specs.Rising.{rising_of, held_same, rising_same}
-use Rattle.partition.specs.Layout.{net_in, graph_in}
+use Rattle.partition.specs.Layout.{net_in, graph_in, Within}
 use Rattle.partition.specs.declared.place.Place.{Place}
 use Rattle.matching.specs.Meshed.{Meshed}
 
@@ -43,7 +43,7 @@ module _ (k : ℕ) (ws ws' : List ℕ) (h : Kept k ws ws') where
 pub record Site (ws : List ℕ) (o : Place) : Type 0 where
   pub low : (o.nets < 32768) × (o.vertices < 32768) × (o.sides < 32766)
   pub mesh : Meshed ws o.nets o.vertices o.net_count o.vertex_count
-  pub within : (e v : ℕ) → e < o.net_count → v < 128 → held ws 2 (o.nets + e) v ≡ true → v < o.vertex_count
+  pub within : Within ws o.nets o.net_count o.vertex_count
   pub behind : (o.nets + o.net_count ≤ o.sides) × ((o.vertices + o.vertex_count) * 2 ≤ o.sides) × (o.sides * 2 + 6 ≤ length ws)
 
 pub site_kept : (ws ws' : List ℕ) (o : Place) → Site ws o → Kept (o.sides * 2) ws ws' → Site ws' o

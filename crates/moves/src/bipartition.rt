@@ -5,6 +5,10 @@ ghost use Rattle.moves.specs.Sums.{Fits};
 ghost use Rattle.moves.specs.Rolled.{Rolled};
 ghost use Rattle.moves.specs.Loans.{IsSameLoan, sides_at};
 
+// Stays: `IsSameLoan self.old self.new`: that the lists that come back are those that were lent is a fact of a call; no invariant of the struct can say it.
+// Stays: `layout.now.sides < 32766`, `length layout.now.vertex_weights.now ≤ 128`, `v < length layout.now.vertex_weights.now`: bounds of numbers, so that a place fits a machine word; a
+// layout is also made where there is no partition yet, so they are none of its own.
+
 use crate::pass::Pass;
 use partition::Layout;
 
@@ -24,29 +28,27 @@ impl<'a> Bipartition<'a> {
         ensures lent { IsSameLoan self.old self.new }
         ensures moved { Moved self.old.words.now self.new.words.now layout.now.sides layout.now.vertex_weights.now v (sides_at self.old) (sides_at self.new) }
     {
-        let sides = layout.sides;
-        let part = &mut *self.part;
-        let s = usize::from(cells::get_or(part, v, 0));
-        let t = 1usize.saturating_sub(s);
-        let x = cells::get_or(layout.vertex_weights, v, 0.0);
-        let a = cells::get_or(&self.loads, s, 0.0);
-        let b = cells::get_or(&self.loads, t, 0.0);
-        cells::put(&mut self.loads, s, a - x);
-        cells::put(&mut self.loads, t, b + x);
-        // Stays: the number fits by what is known here; `try_from` would add a failure that never comes.
-        cells::put(part, v, t as u8);
-        let words = &mut *self.words;
-        slots::insert(words, 2, sides + t, v);
-        slots::subtract(words, 2, sides + s, sides + t, sides + s);
+        crate::move_vertex(
+            self.words,
+            layout.sides,
+            layout.vertex_weights,
+            self.part,
+            &mut self.loads,
+            v,
+        );
     }
 
     /// Can the other side take vertex `v`, if no side may weigh more than `most_weight`.
     pub fn fits(&self, layout: &Layout, most_weight: f64, v: usize) -> bool
         ensures { Fits layout.now.vertex_weights.now most_weight v (sides_at self.now) result }
     {
-        let s = usize::from(cells::get_or(self.part, v, 0));
-        let w = cells::get_or(&self.loads, 1usize.saturating_sub(s), 0.0);
-        !(most_weight < w + cells::get_or(layout.vertex_weights, v, 0.0))
+        crate::fits(
+            self.part,
+            &self.loads,
+            layout.vertex_weights,
+            most_weight,
+            v,
+        )
     }
 
     /// Takes back the moves after the largest sum, the last one first.
@@ -55,11 +57,15 @@ impl<'a> Bipartition<'a> {
         ensures lent { IsSameLoan self.old self.new }
         ensures rolled { Rolled self.old.words.now self.new.words.now layout.now.sides layout.now.vertex_weights.now pass.now.moves pass.now.count (pass.now.count - pass.now.peak) (sides_at self.old) (sides_at self.new) }
     {
-        let last = pass.count.saturating_sub(pass.peak);
-        // Stays: how many moves are taken back is not known to be at most the length of the list, so they are no slice.
-        for i in 0..last {
-            let v = usize::from(cells::get_or(&pass.moves, pass.count - 1 - i, 0));
-            self.move_vertex(layout, v);
-        }
+        crate::roll_back(
+            self.words,
+            layout.sides,
+            layout.vertex_weights,
+            self.part,
+            &mut self.loads,
+            &pass.moves,
+            pass.count,
+            pass.peak,
+        );
     }
 }

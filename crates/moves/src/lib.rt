@@ -1,10 +1,14 @@
 #![tactic(auto)]
 // Moves of single vertices: the sides of a partition and their weights, the sums of a pass.
-ghost use Rattle.std.specs.Prelude.{◌≡◌, ◌+◌, ◌*◌, ◌<◌, ◌≤◌, length};
+ghost use Rattle.std.specs.Prelude.{◌≡◌, ◌+◌, ◌-◌, ◌*◌, ◌<◌, ◌≤◌, length};
+ghost use Rattle.fm.specs.Again.{Under};
 ghost use Rattle.moves.specs.Kept.{Kept};
-ghost use Rattle.moves.specs.Split.{Split};
+ghost use Rattle.moves.specs.Split.{Split, Moved, sides_as};
 ghost use Rattle.moves.specs.Laying.{Bits};
-ghost use Rattle.moves.specs.Sums.{weight_in};
+ghost use Rattle.moves.specs.Sums.{weight_in, Fits};
+ghost use Rattle.moves.specs.Rolled.{Rolled};
+
+// Stays: `sides < 32766`, `length vw.now ≤ 128`: bounds of numbers, so that a place fits a machine word; a type of its own would be unwrapped at each use.
 
 mod bipartition;
 mod pass;
@@ -35,4 +39,63 @@ pub fn weight_on(part: &[u8], vw: &[f64], s: usize) -> f64
         }
     }
     sum
+}
+
+/// Vertex `v` goes to the other side: in the list `part`, in the slots `sides` and `sides + 1`, and in the weights of the sides, `loads`.
+// Stays: asks no more of its callers than lists that fit; one index names a vertex in the partition and in the weights.
+pub fn move_vertex(
+    words: &mut [u64],
+    sides: usize,
+    vw: &[f64],
+    part: &mut [u8],
+    loads: &mut [f64],
+    v: usize,
+)
+    requires { (sides < 32766) × (v < length vw.now) × (length vw.now ≤ 128) × (sides * 2 + 6 ≤ length words.old) × Split words.old sides (length vw.now) part.old }
+    ensures { Moved words.old words.new sides vw.now v (sides_as part.old loads.old) (sides_as part.new loads.new) }
+{
+    let s = usize::from(cells::get_or(part, v, 0));
+    let t = 1usize.saturating_sub(s);
+    let x = cells::get_or(vw, v, 0.0);
+    let a = cells::get_or(loads, s, 0.0);
+    let b = cells::get_or(loads, t, 0.0);
+    cells::put(loads, s, a - x);
+    cells::put(loads, t, b + x);
+    // Stays: the number fits by what is known here; `try_from` would add a failure that never comes.
+    cells::put(part, v, t as u8);
+    slots::insert(words, 2, sides + t, v);
+    slots::subtract(words, 2, sides + s, sides + t, sides + s);
+}
+
+/// Can the other side take vertex `v`, if no side may weigh more than `most_weight`; `loads` has what each side weighs.
+// Stays: asks no more of its callers than lists that fit; one index names a vertex in the partition and in the weights.
+pub fn fits(part: &[u8], loads: &[f64], vw: &[f64], most_weight: f64, v: usize) -> bool
+    ensures { Fits vw.now most_weight v (sides_as part.now loads.now) result }
+{
+    let s = usize::from(cells::get_or(part, v, 0));
+    let w = cells::get_or(loads, 1usize.saturating_sub(s), 0.0);
+    !(most_weight < w + cells::get_or(vw, v, 0.0))
+}
+
+/// Takes back the moves after the first `peak` of `count`, the last one first; `moves` lists their vertices.
+// Stays: asks no more of its callers than lists that fit.
+pub fn roll_back(
+    words: &mut [u64],
+    sides: usize,
+    vw: &[f64],
+    part: &mut [u8],
+    loads: &mut [f64],
+    moves: &[u16],
+    count: usize,
+    peak: usize,
+)
+    requires { (sides < 32766) × (length vw.now ≤ 128) × (sides * 2 + 6 ≤ length words.old) × Split words.old sides (length vw.now) part.old × Under (length vw.now) count moves.now }
+    ensures { Rolled words.old words.new sides vw.now moves.now count (count - peak) (sides_as part.old loads.old) (sides_as part.new loads.new) }
+{
+    let last = count.saturating_sub(peak);
+    // Stays: how many moves are taken back is not known to be at most the length of the list, so they are no slice.
+    for i in 0..last {
+        let v = usize::from(cells::get_or(moves, count - 1 - i, 0));
+        move_vertex(words, sides, vw, part, loads, v);
+    }
 }

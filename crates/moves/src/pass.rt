@@ -1,9 +1,11 @@
-ghost use Rattle.std.specs.Prelude.{◌≡◌, ◌+◌, ◌-◌, ◌/◌, ◌<◌, ◌≤◌, false, ltb, set};
+ghost use Rattle.std.specs.Prelude.{◌≡◌, ◌+◌, ◌-◌, ◌/◌, ◌<◌, ◌≤◌, ltb, set};
 ghost use Rattle.moves.specs.Sums.{Counted};
+
+// Stays: `n ≤ 128`, `v < 65536`: bounds of numbers, so that they fit their places; a type of its own would be unwrapped at each use.
 
 /// A pass: the vertices that were moved and how many they are, the sum of their gains, the largest sum, after how many moves it was reached, and whether the pass is
 /// over.
-#[derive(Drop)]
+#[derive(Clone, Copy)]
 // Stays: the sums are read after the pass is over too, so they are no `Option` in the place of the flag.
 pub struct Pass {
     pub moves: [u16; 128],
@@ -24,6 +26,16 @@ impl Pass {
     {
         // Stays: the number fits by what is known here; `try_from` would add a failure that never comes.
         cells::put(&mut self.moves, self.count, v as u16);
+        self.counted(key);
+    }
+
+    /// Counts a move of whichever vertex, which was taken with this key.
+    pub fn counted(&mut self, key: f64)
+        requires { self.old.count < 65536 }
+        ensures moves { self.new.moves ≡ self.old.moves }
+        ensures count { self.new.count ≡ self.old.count + 1 }
+        ensures sums { Counted self.old.count self.old.sum self.old.best self.old.peak key self.new.sum self.new.best self.new.peak }
+    {
         self.count += 1;
         self.sum += draws::round_to(key, 1e-6);
         if self.best + 1e-9 < self.sum {

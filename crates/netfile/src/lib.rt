@@ -1,11 +1,11 @@
 #![tactic(auto)]
 // The network file: its reader and its writer.
-ghost use Rattle.std.specs.Prelude.{◌≡◌, length, OnOk};
+ghost use Rattle.std.specs.Prelude.{◌≡◌, length, OnOk, OnErr};
 ghost use Rattle.spec.specs.File.{read_of, write_of, buffer_after};
 ghost use Rattle.network.specs.Record.{net_of};
 ghost use Rattle.fields.specs.Scans.{ask_of};
 ghost use Rattle.netwrite.specs.Contents.{kids_of};
-ghost use Rattle.netfile.specs.Answers.{flag_count, given_of, network_in, tree_after, flags_after};
+ghost use Rattle.netfile.specs.Answers.{flag_count, given_of, empty_network, network_in, tree_after, flags_after};
 
 mod reader; // reader.rt: the reader's inner functions
 
@@ -29,8 +29,9 @@ pub struct Given {
     pub ask: Ask,
 }
 
+// Stays: the tree's list is written here, and checked where it is used.
 /// Reads a network file into a record, whatever it held. A tree's children go to the front of `tree`, flags to the front of `flags`; after a
-/// refusal both stay as they are, and the record may hold anything.
+/// refusal both stay as they are, and the network is the empty one.
 pub fn read_network(
     file: &[u8],
     network: &mut Network,
@@ -39,16 +40,18 @@ pub fn read_network(
 ) -> Result<Given, Refusal>
     ensures answer { result ≡ given_of (read_of (length tree.old) (length flags.old) file.now) }
     ensures network { OnOk result (net_of network.new ≡ network_in (read_of (length tree.old) (length flags.old) file.now)) }
+    ensures empty { OnErr result (net_of network.new ≡ empty_network) }
     ensures tree { tree.new ≡ tree_after (read_of (length tree.old) (length flags.old) file.now) tree.old }
     ensures flags { flags.new ≡ flags_after (read_of (length tree.old) (length flags.old) file.now) flags.old }
 {
-    let contents = fields::read_fields(file, network)?;
-    reader::check_room(&contents, network, tree.len(), flags.len())?;
-    reader::put_tree(contents.tree, tree);
-    reader::put_flags(contents.ask, network.index_count, flags);
-    Ok(reader::given(&contents))
+    let answer = reader::read(file, network, tree, flags);
+    if answer.is_err() {
+        *network = Network::empty();
+    }
+    answer
 }
 
+// Stays: the tree comes from outside, and is checked here; buffer and cursor are handed on as they come.
 /// Writes the file of a network, of a tree, if there is one, and of what is asked, from the cursor on, and answers the cursor past it; or
 /// refuses, in this order, the network by its check, a buffer that is too short, a tree that is not the network's, wrong flags. After a refusal
 /// the buffer stays as it is.
@@ -64,7 +67,7 @@ pub fn write_network(
 {
     let network = network.accepted()?;
     let parts = Parts { network, tree, ask };
-    netwrite::write(&parts, out, cursor)
+    netwrite::write_accepted(&parts, out, cursor)
 }
 
 /// How many flags there are.

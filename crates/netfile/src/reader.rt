@@ -1,12 +1,12 @@
 // The reader's inner functions: what the lists need, and what they are filled with.
-ghost use Rattle.std.specs.Prelude.{◌≡◌, ℕ, ◌≤◌, ltb, length, [], ◌∷◌};
+ghost use Rattle.std.specs.Prelude.{◌≡◌, ℕ, ◌≤◌, ltb, length, [], ◌∷◌, OnOk};
 ghost use Rattle.spec.specs.Refusal.{first};
 ghost use Rattle.spec.specs.Calls.{length_check};
-ghost use Rattle.spec.specs.File.{tree_lent, flags_lent};
+ghost use Rattle.spec.specs.File.{tree_lent, flags_lent, read_of};
 ghost use Rattle.network.specs.Record.{net_of};
 ghost use Rattle.payloads.specs.Payload.{verdict};
 ghost use Rattle.fields.specs.Scans.{tree_of, ask_of, contents_of};
-ghost use Rattle.netfile.specs.Answers.{given_in};
+ghost use Rattle.netfile.specs.Answers.{given_in, given_of, network_in, tree_after, flags_after};
 ghost use Rattle.netfile.specs.Writes.{lacking, kids_over, flags_over, FlagsFit};
 ghost use Rattle.netfile.specs.Results.{room_for};
 
@@ -14,6 +14,8 @@ use crate::{Ask, Given};
 use fields::{Asked, Contents};
 use network::Network;
 use spec::Refusal;
+
+// Stays: `network.now.leaf_count ≤ 128`: a record between reading and its check; what was read of a file is kept in no type of its own.
 
 // How many places the tree's list has to have: two for each node, if the file has a tree.
 fn tree_needs(tree: Option<&[u8]>, network: &Network) -> usize
@@ -58,6 +60,7 @@ pub fn check_room(
     Ok(())
 }
 
+// Stays: the children are written here, and checked where they are used.
 // Writes the children to the front of the tree's list, if the file has a tree.
 pub fn put_tree(kids: Option<&[u8]>, tree: &mut [u16])
     ensures { tree.new ≡ kids_over (tree_of kids.entry) tree.old }
@@ -93,4 +96,24 @@ pub fn given(contents: &Contents) -> Given
             Asked::Target(bits) => Ask::Target(bits),
         },
     }
+}
+
+// Stays: the tree's list is written here, and checked where it is used.
+// Reads a network file. After a refusal both lists stay as they are, and the record may hold anything.
+pub fn read(
+    file: &[u8],
+    network: &mut Network,
+    tree: &mut [u16],
+    flags: &mut [u8],
+) -> Result<Given, Refusal>
+    ensures answer { result ≡ given_of (read_of (length tree.old) (length flags.old) file.now) }
+    ensures network { OnOk result (net_of network.new ≡ network_in (read_of (length tree.old) (length flags.old) file.now)) }
+    ensures tree { tree.new ≡ tree_after (read_of (length tree.old) (length flags.old) file.now) tree.old }
+    ensures flags { flags.new ≡ flags_after (read_of (length tree.old) (length flags.old) file.now) flags.old }
+{
+    let contents = fields::read_network(file, network)?;
+    check_room(&contents, network, tree.len(), flags.len())?;
+    put_tree(contents.tree, tree);
+    put_flags(contents.ask, network.index_count, flags);
+    Ok(given(&contents))
 }

@@ -4,11 +4,13 @@ ghost use Rattle.spec.specs.Network.{max_leaves, accepting};
 ghost use Rattle.network.specs.Checks.{Rows};
 ghost use Rattle.network.specs.Codes.{large_of, out_of_range_of, repeat_of};
 ghost use Rattle.network.specs.Lists.{HasRows, lists_net};
+// Stays: `counts: &[u8], legs: &[u16]`, `leg_counts: &[u8], legs: &[u16]`, `legs: &[u16], outputs: &[u16]`, `weights: &[u8], leg_counts: &[u8]`, `HasRows leg_counts.now legs.now`: these lists are being checked here; `Accepted` holds them once they pass.
 
 use crate::{Network, scan};
 use spec::Refusal;
 
 // Is a count above its limit. No list is read past its limit.
+// Stays: three counts that no list need have yet; the limit fits a `u8`, as is proved.
 pub(crate) fn is_too_large(m: usize, n: usize, o: usize, counts: &[u8]) -> bool
     requires { n ≤ max_leaves → n ≤ length counts.now }
     ensures { result ≡ large_of m n o counts.now }
@@ -26,6 +28,7 @@ pub(crate) fn is_too_large(m: usize, n: usize, o: usize, counts: &[u8]) -> bool
 }
 
 // Does a leaf, or do the outputs, name an index that is not below m.
+// Stays: the lists are being checked here, and are no `Accepted` before.
 fn is_out_of_range(m: usize, counts: &[u8], legs: &[u16], outputs: &[u16]) -> bool
     requires { Rows (length counts.now) counts.now legs.now }
     ensures { result ≡ out_of_range_of m (length counts.now) (length outputs.now) counts.now legs.now outputs.now }
@@ -37,6 +40,7 @@ fn is_out_of_range(m: usize, counts: &[u8], legs: &[u16], outputs: &[u16]) -> bo
 }
 
 // Does a leaf, or do the outputs, name an index twice.
+// Stays: the lists are being checked here, and are no `Accepted` before.
 fn is_repeated(counts: &[u8], legs: &[u16], outputs: &[u16]) -> bool
     requires { Rows (length counts.now) counts.now legs.now }
     ensures { result ≡ repeat_of (length counts.now) (length outputs.now) counts.now legs.now outputs.now }
@@ -48,6 +52,7 @@ fn is_repeated(counts: &[u8], legs: &[u16], outputs: &[u16]) -> bool
 }
 
 /// The check of lists that are as long as their counts. Each leaf has a row of 32 places in `legs`.
+// Stays: the lists are being checked here, and are no `Accepted` before.
 pub fn check_lists(
     weights: &[u8],
     leg_counts: &[u8],

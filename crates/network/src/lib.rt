@@ -17,6 +17,7 @@ mod lists; // lists.rt: how an accepted network is made and read
 pub use accepted::Accepted;
 
 /// A record. The places of its arrays past the counts are no part of the network.
+// Stays: a record of fixed memory: four arrays of four lengths.
 #[derive(Clone, Copy)]
 pub struct Network {
     pub index_count: usize,
@@ -107,6 +108,7 @@ impl Network {
             return Err(Refusal::TooLarge);
         }
         let mut next = *self;
+        // Stays: the length fits, as is tested above, so `try_from` would have a refusal that never comes.
         next.leg_counts[n] = leaf.len() as u8;
         cells::place(&mut next.legs, n * Self::MAX_LEGS, leaf);
         next.leaf_count = n + 1;

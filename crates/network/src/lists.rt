@@ -11,6 +11,7 @@ use spec::Refusal;
 
 impl<'a> Accepted<'a> {
     /// The network of lists, unless it is refused. Each leaf has a row of 32 places in `legs`.
+    // Stays: makes an `Accepted` of lists that come apart from outside.
     pub fn of_lists(
         weights: &'a [u8],
         leg_counts: &'a [u8],
@@ -31,6 +32,7 @@ impl<'a> Accepted<'a> {
     }
 
     /// The network of lists of which the first places are in use, as many as `counts` says of weights, leaves and outputs, unless it is refused.
+    // Stays: makes an `Accepted` of lists that come apart from outside, with their counts.
     pub fn of_counts(
         counts: (usize, usize, usize),
         weights: &'a [u8],

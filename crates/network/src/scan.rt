@@ -4,10 +4,12 @@ ghost use Rattle.spec.specs.Lists.{anyb};
 ghost use Rattle.spec.specs.Network.{repeats, any_out_of_range};
 ghost use Rattle.spec.specs.Layout.{row_at};
 ghost use Rattle.network.specs.Checks.{Row, Rows, leaves_of};
+// Stays: `counts: &[u8], legs: &[u16]`, `Rows n counts.now legs.now`: these lists are being checked here; `Accepted` holds them once they pass.
 
 use crate::Network;
 
 /// Is a byte above the limit.
+// Stays: no order of two values: a search for a byte.
 pub fn above(bytes: &[u8], limit: u8) -> bool
     ensures { result ≡ anyb (λ k. ltb limit k) bytes.now }
 {
@@ -15,6 +17,7 @@ pub fn above(bytes: &[u8], limit: u8) -> bool
 }
 
 // Is an index not below the index count m.
+// Stays: `m` is the network's number of indices, no length of the row.
 pub(crate) fn out_of_range(row: &[u16], m: usize) -> bool
     ensures { result ≡ any_out_of_range m row.now }
 {
@@ -22,6 +25,7 @@ pub(crate) fn out_of_range(row: &[u16], m: usize) -> bool
 }
 
 // Does an index stand at two places. Both loops are left at the first repeat.
+// Stays: each pair of places once, and both loops left at the first repeat by a label; no search of the library goes over pairs.
 pub(crate) fn repeated(row: &[u16]) -> bool
     ensures { result ≡ repeats row.now }
 {
@@ -43,6 +47,7 @@ pub(crate) fn repeated(row: &[u16]) -> bool
 }
 
 /// The indices of leaf `i`.
+// Stays: a leaf's row begins at 32 times its number; `Accepted` is not made before the rows are read.
 #[inline]
 pub fn leaf<'a>(counts: &[u8], legs: &'a [u16], i: usize) -> &'a [u16]
     requires { Row counts.now legs.now i }
@@ -54,11 +59,11 @@ pub fn leaf<'a>(counts: &[u8], legs: &'a [u16], i: usize) -> &'a [u16]
 }
 
 // Does one of n leaves name an index that is not below m.
+// Stays: by number, of which a row's place is made; tried as `any` over the range, the proof did not close.
 pub(crate) fn leaves_out_of_range(n: usize, counts: &[u8], legs: &[u16], m: usize) -> bool
     requires { Rows n counts.now legs.now }
     ensures { result ≡ anyb (any_out_of_range m) (leaves_of n counts.now legs.now) }
 {
-    // by number: a leaf's number is what its row's place is made of
     for i in 0..n {
         if out_of_range(leaf(counts, legs, i), m) {
             return true;
@@ -68,11 +73,11 @@ pub(crate) fn leaves_out_of_range(n: usize, counts: &[u8], legs: &[u16], m: usiz
 }
 
 // Does one of n leaves name an index twice.
+// Stays: by number, as `leaves_out_of_range` is, and for the same reason.
 pub(crate) fn leaves_repeated(n: usize, counts: &[u8], legs: &[u16]) -> bool
     requires { Rows n counts.now legs.now }
     ensures { result ≡ anyb repeats (leaves_of n counts.now legs.now) }
 {
-    // by number: a leaf's number is what its row's place is made of
     for i in 0..n {
         if repeated(leaf(counts, legs, i)) {
             return true;

@@ -6,7 +6,7 @@ use Rattle.std.proofs.lemmas.Bool.{eqb-false}
 use borrow.Author.Tests.{ltb-false}
 use Rattle.spec.specs.declared.Refusal.{Refusal}
 use Rattle.spec.specs.declared.Refusal.TheVariants.{ShortBuffer, InvalidTree}
-use Rattle.spec.specs.Refusal.{Check, first}
+use Rattle.spec.specs.Refusal.{Check, first, decide}
 use Rattle.spec.specs.Lists.{anyb}
 use Rattle.spec.specs.Network.{Network, leaf_count, index_count, network_checks, refusal_of}
 use Rattle.spec.specs.Tree.{valid, pairs_of}
@@ -16,7 +16,7 @@ use Rattle.laws.specs.Booleans.{or_none}
 use Rattle.laws.specs.FileLists.{valid_length}
 use Rattle.laws.specs.FileBytes.{tree_bytes}
 use Rattle.walk.specs.Wrong.{not_wrong}
-use Rattle.walk.specs.Entry.{first_none}
+use Rattle.walk.specs.Entry.{first_none, first_some}
 use Rattle.payloads.specs.Payload.{verdict}
 use Rattle.fields.specs.Fields.{passed, decided, refused}
 use Rattle.putfields.specs.Put.{Put, put_both, put_length}
@@ -58,6 +58,17 @@ module _ (c : Contents) (accepted : refusal_of c.network ≡ None) (size cursor 
     pub checks_flags : {r : Result (Unit {0}) Refusal} → Ok tt ≡ verdict (first (tree_checks c.network c.tree)) → r ≡ verdict (first (flags_checks c.network c.ask))
         → r ≡ verdict (first (write_checks c size cursor))
     checks_flags e f = f ∙ ap verdict (sym (checks_later ∙ first_none (tree_checks c.network c.tree) (flags_checks c.network c.ask) (passed _ e)))
+
+-- the network is refused: nothing is written
+module _ (c : Contents) (cursor : ℕ) (d : List ℕ) (k : Refusal) (e : refusal_of c.network ≡ Some k) where
+  pub network_refused : write_of c (length d) cursor ≡ Err k
+  unfolding write_of
+  network_refused =
+      ap (λ o. decide o (Ok (cursor + length (file_of c))))
+      (first_some (network_checks false c.network) (length_check (lent (length d) (cursor + length (file_of c)) ∷ []) ∷ (tree_checks c.network c.tree ++ flags_checks c.network c.ask)) k e)
+
+  pub buffer_kept : d ≡ buffer_after c cursor (write_of c (length d) cursor) d
+  buffer_kept = rw network_refused refl
 
 -- ---- nothing is refused ----
 

@@ -3,14 +3,16 @@
 ghost use Rattle.std.specs.Prelude.{◌≡◌, ◌+◌, ◌<◌, ◌≤◌, length, MatchOption};
 ghost use Rattle.spec.specs.Refusal.{first};
 ghost use Rattle.spec.specs.File.{write_checks, write_of, buffer_after, tree_checks, flags_checks, tree_field, ask_field, file_of};
+ghost use Rattle.spec.specs.Layout.{network_of};
 ghost use Rattle.spec.specs.Network.{leaf_count, index_count};
 ghost use Rattle.spec.specs.FileClaims.{Bytes};
+ghost use Rattle.network.specs.Checks.{Fitting};
 ghost use Rattle.network.specs.Views.{net_in};
 ghost use Rattle.payloads.specs.Payload.{verdict};
 ghost use Rattle.fields.specs.Scans.{ask_of};
 ghost use Rattle.putfields.specs.Put.{Put};
 ghost use Rattle.putfields.specs.Leaves.{leaf_bytes};
-ghost use Rattle.netwrite.specs.Contents.{kids_of, parts_of, network_fields};
+ghost use Rattle.netwrite.specs.Contents.{kids_of, parts_of, contents_of, network_fields};
 ghost use Rattle.netwrite.specs.Sizes.{Few};
 ghost use Rattle.netwrite.specs.Writes.{AskFits, KidsFit};
 
@@ -21,6 +23,8 @@ use network::Accepted;
 pub use parts::Parts;
 use payloads::tags::Tag;
 use spec::Refusal;
+
+// Stays: `out: &mut [u8], at: usize`: with buffer and cursor in one value each contract says that it still lends the same buffer; a list's does not.
 
 // How many bytes the fields of the leaves take.
 fn leaf_bytes(counts: &[u8]) -> usize
@@ -48,6 +52,7 @@ fn after_field(left: usize, payload: usize) -> Option<usize>
     left.checked_sub(3)?.checked_sub(payload)
 }
 
+// Stays: the children were not checked yet, and only their number matters here.
 // How many are left behind the tree's field, if there is a tree.
 fn after_tree(left: usize, tree: Option<&[u16]>) -> Option<usize>
     ensures { MatchOption result (left < length (tree_field (kids_of tree.entry))) (λ r. r + length (tree_field (kids_of tree.entry)) ≡ left) }
@@ -78,7 +83,8 @@ fn room_left(parts: &Parts, size: usize, cursor: usize) -> Option<usize>
     after_ask(after_tree(behind, parts.tree)?, parts.ask)
 }
 
-// The tree of a network of n leaves, if there is one.
+// Stays: the children come from outside; whether they are a tree is what is asked.
+// The tree of a network, if there is one.
 fn check_tree(network: &Accepted, tree: Option<&[u16]>) -> Result<(), Refusal>
     ensures { result ≡ verdict (first (tree_checks (net_in network.now) (kids_of tree.entry))) }
 {
@@ -116,16 +122,18 @@ fn check(parts: &Parts, size: usize, cursor: usize) -> Result<(), Refusal>
     check_ask(&parts.network, parts.ask)
 }
 
+// Stays: a buffer and a cursor; as one value they would have to be said to lend the same buffer afterwards.
 // The fields of an accepted network.
 fn put_network(out: &mut [u8], at: usize, network: &Accepted) -> usize
     requires { at + length (network_fields (net_in network.now)) ≤ length out.old }
     ensures { Put out.old out.new at result (network_fields (net_in network.now)) }
 {
-    let leaves = putfields::put_bytes(out, at, Tag::Weights, network.weights);
-    let last = putfields::put_leaves(out, leaves, network);
-    putfields::put_indices(out, last, Tag::Outputs, network.outputs)
+    let leaves = putfields::put_bytes(out, at, Tag::Weights.number(), network.weights);
+    let last = putfields::put_leaves_of(out, leaves, network);
+    putfields::put_indices(out, last, Tag::Outputs.number(), network.outputs)
 }
 
+// Stays: a buffer and a cursor; and children that are written as bytes, whether or not they are a tree.
 // The field of the tree, if there is one.
 fn put_tree(out: &mut [u8], at: usize, tree: Option<&[u16]>) -> usize
     requires { KidsFit (kids_of tree) × (at + length (tree_field (kids_of tree)) ≤ length out.old) }
@@ -133,10 +141,11 @@ fn put_tree(out: &mut [u8], at: usize, tree: Option<&[u16]>) -> usize
 {
     match tree {
         None => at,
-        Some(kids) => putfields::put_indices(out, at, Tag::Tree, kids),
+        Some(kids) => putfields::put_indices(out, at, Tag::Tree.number(), kids),
     }
 }
 
+// Stays: a buffer and a cursor; as one value they would have to be said to lend the same buffer afterwards.
 // The field of what is asked, if anything is.
 fn put_ask(out: &mut [u8], at: usize, ask: Asked) -> usize
     requires { AskFits (ask_of ask) × (at + length (ask_field (ask_of ask)) ≤ length out.old) }
@@ -144,14 +153,15 @@ fn put_ask(out: &mut [u8], at: usize, ask: Asked) -> usize
 {
     match ask {
         Asked::Plain => at,
-        Asked::Flagged(flags) => putfields::put_bytes(out, at, Tag::Flags, flags),
-        Asked::Target(bits) => putfields::put_bytes(out, at, Tag::Target, &[bits]),
+        Asked::Flagged(flags) => putfields::put_bytes(out, at, Tag::Flags.number(), flags),
+        Asked::Target(bits) => putfields::put_bytes(out, at, Tag::Target.number(), &[bits]),
     }
 }
 
+// Stays: a buffer and a cursor; as one value they would have to be said to lend the same buffer afterwards.
 /// Writes the file of an accepted network, of its tree, if there is one, and of what is asked, from the cursor on, and answers the cursor past
 /// it; or refuses, in this order, a buffer that is too short, a tree that is not the network's, wrong flags, and writes nothing.
-pub fn write(parts: &Parts, out: &mut [u8], cursor: usize) -> Result<usize, Refusal>
+pub fn write_accepted(parts: &Parts, out: &mut [u8], cursor: usize) -> Result<usize, Refusal>
     ensures answer { result ≡ write_of (parts_of parts.now) (length out.old) cursor }
     ensures buffer { out.new ≡ buffer_after (parts_of parts.now) cursor (write_of (parts_of parts.now) (length out.old) cursor) out.old }
 {
@@ -159,4 +169,27 @@ pub fn write(parts: &Parts, out: &mut [u8], cursor: usize) -> Result<usize, Refu
     let next = put_network(out, cursor, &parts.network);
     let last = put_tree(out, next, parts.tree);
     Ok(put_ask(out, last, parts.ask))
+}
+
+// Stays: asks no more of its callers than lists that fit.
+/// The same of the network of lists of which the first places are in use, as many as `counts` says of weights, leaves and outputs. It is
+/// refused by its check, before all else.
+pub fn write(
+    counts: (usize, usize, usize),
+    weights: &[u8],
+    leg_counts: &[u8],
+    legs: &[u16],
+    outputs: &[u16],
+    tree: Option<&[u16]>,
+    ask: Asked,
+    out: &mut [u8],
+    cursor: usize,
+) -> Result<usize, Refusal>
+    requires { Fitting counts.0 counts.1 counts.2 weights.now leg_counts.now legs.now outputs.now }
+    ensures answer { result ≡ write_of (contents_of counts.0 counts.1 counts.2 weights.now leg_counts.now legs.now outputs.now tree.entry ask.entry) (length out.old) cursor }
+    ensures buffer { out.new ≡ buffer_after (contents_of counts.0 counts.1 counts.2 weights.now leg_counts.now legs.now outputs.now tree.entry ask.entry) cursor (write_of (contents_of counts.0 counts.1 counts.2 weights.now leg_counts.now legs.now outputs.now tree.entry ask.entry) (length out.old) cursor) out.old }
+{
+    let network = Accepted::of_counts(counts, weights, leg_counts, legs, outputs)?;
+    let parts = Parts { network, tree, ask };
+    write_accepted(&parts, out, cursor)
 }

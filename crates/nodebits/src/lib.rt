@@ -7,12 +7,15 @@ ghost use Rattle.spec.specs.Layout.{firsts};
 ghost use Rattle.spec.specs.Memory.{over, filled};
 ghost use Rattle.slots.specs.Slots.{held};
 ghost use Rattle.slots.specs.Weigh.{open_weight, Light, weighed, either, word_weight};
+ghost use Rattle.network.specs.Checks.{Rows};
 ghost use Rattle.nodesets.specs.Passes.{nodes};
 ghost use Rattle.nodebits.specs.Bits.{Effective, StepKnown, InnerKnown, Known, size_of, work_of, leaf_size, node_work};
 ghost use Rattle.nodebits.specs.Stepped.{Stepped};
 
+// Stays: `Light effective.now`: weights of at most 8 bits, so that a sum fits its type; one list in a struct of its own would be unwrapped at each read.
+
 use bits::Digits;
-use network::{Accepted, scan};
+use network::scan;
 
 // The weight, or 0 where it is flagged.
 // Stays: 0 is the weight that a sliced index counts with, no sign of a missing one.
@@ -32,7 +35,8 @@ fn clear_flagged(effective: &mut [u8], flags: &[u8])
     }
 }
 
-// Writes the weights of `m` indices to `effective`, those of flagged indices as 0, and 0 after them.
+/// Writes the weights of `m` indices to `effective`, those of flagged indices as 0, and 0 after them.
+// Stays: weights are the network's and flags the caller's, lent apart; the first `m` places of a list that may be longer are in use.
 pub fn effective_weights(effective: &mut [u8], m: usize, weights: &[u8], flags: &[u8])
     requires { (m ≤ length weights.now) × (m ≤ length effective.old) }
     ensures { Effective (firsts m weights.now) flags.now effective.new }
@@ -56,12 +60,19 @@ fn leaf_size(effective: &[u8], leaf: &[u16]) -> usize
 
 // Writes each leaf's size bits, and its work bits, which are 0.
 // Stays: by number, as a leaf's number is its place in both lists; the bits are at most 256, which no type of a `usize` says.
-fn leaf_bits(sizes: &mut [u16], works: &mut [u16], network: &Accepted, effective: &[u8])
-    requires { Light effective.now × (length network.now.leg_counts.now ≤ length sizes.old) × (length network.now.leg_counts.now ≤ length works.old) }
-    ensures { (sizes.new ≡ over sizes.old (map (leaf_size effective.now network.now.leg_counts.now network.now.legs.now) (range (length network.now.leg_counts.now)))) × (works.new ≡ over works.old (filled (length network.now.leg_counts.now) 0)) }
+fn leaf_bits(
+    sizes: &mut [u16],
+    works: &mut [u16],
+    n: usize,
+    counts: &[u8],
+    legs: &[u16],
+    effective: &[u8],
+)
+    requires { Rows n counts.now legs.now × Light effective.now × (n ≤ length sizes.old) × (n ≤ length works.old) }
+    ensures { (sizes.new ≡ over sizes.old (map (leaf_size effective.now counts.now legs.now) (range n))) × (works.new ≡ over works.old (filled n 0)) }
 {
-    for i in 0..network.leg_counts.len() {
-        let size = leaf_size(effective, scan::leaf(network.leg_counts, network.legs, i));
+    for i in 0..n {
+        let size = leaf_size(effective, scan::leaf(counts, legs, i));
         sizes[i] = size as u16;
         works[i] = 0;
     }
@@ -163,22 +174,23 @@ fn inner_bits(
     }
 }
 
-// Writes each node's size bits and work bits; a leaf has no work.
-// Stays: the lists that pricing fills are a struct of pricing, a crate above; here two are written while the sets are only read.
+/// Writes each node's size bits and work bits, of a tree of `n` leaves; a leaf has no work. The nodes' sets are there.
+// Stays: asks no more of its callers than lists that fit.
 pub fn node_bits(
     sizes: &mut [u16],
     works: &mut [u16],
     sets: &[u64],
     w: usize,
-    network: &Accepted,
+    n: usize,
+    counts: &[u8],
+    legs: &[u16],
     kids: &[u16],
     order: &[u16],
     effective: &[u8],
 )
-    requires { Known w (length network.now.leg_counts.now) network.now.leg_counts.now network.now.legs.now kids.now order.now sets.now effective.now × (nodes (length network.now.leg_counts.now) kids.now ≤ length sizes.old) × (nodes (length network.now.leg_counts.now) kids.now ≤ length works.old) }
-    ensures { (sizes.new ≡ over sizes.old (map (size_of effective.now sets.now w) (range (nodes (length network.now.leg_counts.now) kids.now)))) × (works.new ≡ over works.old (map (node_work effective.now sets.now kids.now w (length network.now.leg_counts.now)) (range (nodes (length network.now.leg_counts.now) kids.now)))) }
+    requires { Known w n counts.now legs.now kids.now order.now sets.now effective.now × (nodes n kids.now ≤ length sizes.old) × (nodes n kids.now ≤ length works.old) }
+    ensures { (sizes.new ≡ over sizes.old (map (size_of effective.now sets.now w) (range (nodes n kids.now)))) × (works.new ≡ over works.old (map (node_work effective.now sets.now kids.now w n) (range (nodes n kids.now)))) }
 {
-    let n = network.leg_counts.len();
-    leaf_bits(sizes, works, network, effective);
+    leaf_bits(sizes, works, n, counts, legs, effective);
     inner_bits(sizes, works, sets, w, n, kids, order, effective);
 }

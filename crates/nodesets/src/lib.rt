@@ -1,20 +1,16 @@
 #![tactic(auto)]
 // Each node's set of indices, in slots of lent words: up, in step order, what leaves below a node name; down, what is wanted outside it.
 ghost use Rattle.std.specs.Prelude.{◌≡◌, ◌+◌, ◌*◌, ◌<◌, ◌≤◌, length};
-ghost use Rattle.spec.specs.Lists.{memb};
-ghost use Rattle.spec.specs.Tree.{pairs_of};
-ghost use Rattle.spec.specs.Price.{list_at};
-ghost use Rattle.network.specs.Views.{net_in};
 ghost use Rattle.laws.specs.FlatLaws.{left_of, right_of};
 ghost use Rattle.slots.specs.Writes.{leaf_has};
 ghost use Rattle.nodesets.specs.Passes.{nodes, with_sets, joined, ups, downs, cuts};
 ghost use Rattle.nodesets.specs.Steps.{Steps};
-ghost use Rattle.nodesets.specs.Lists.{Ordered};
+ghost use Rattle.nodesets.specs.Lists.{Ordered, SetsAre};
 
 mod mix; // mix.rt: a slot made of one of its own list and one of another list
 
-use mix::{Both, Either, combine_with};
-use network::Accepted;
+use mix::combine_with;
+use slots::mix::{Both, Either};
 
 /// The left child of inner node `v`, of `n` leaves.
 // Stays: the C interface lends a tree as a flat list, two children a node; `n` is the number of leaves, no list's length.
@@ -37,15 +33,15 @@ pub fn right(kids: &[u16], n: usize, v: usize) -> usize
 }
 
 // Makes slot i the set of leaf i's indices.
-// Stays: by number, as a leaf's number is its slot's and the place of its row of 32 indices.
-fn leaf_sets(sets: &mut [u64], w: usize, network: &Accepted)
-    requires { w ≤ 16 }
-    ensures { sets.new ≡ with_sets sets.old w (leaf_has network.now.leg_counts.now network.now.legs.now) (length network.now.leg_counts.now) }
+// Stays: by number, as a leaf's number is its slot's and the place of its row of 32 indices; a leaf past the counts' end has none.
+fn leaf_sets(sets: &mut [u64], w: usize, n: usize, counts: &[u8], legs: &[u16])
+    requires { (w ≤ 16) × (n ≤ 65536) }
+    ensures { sets.new ≡ with_sets sets.old w (leaf_has counts.now legs.now) n }
 {
-    for i in 0..network.leg_counts.len() {
-        let count = usize::from(network.leg_counts[i]);
+    for i in 0..n {
+        let count = usize::from(cells::get_or(counts, i, 0));
         slots::empty(sets, w, i);
-        slots::put_all(sets, w, i, network.legs, i * 32, count);
+        slots::put_all(sets, w, i, legs, i * 32, count);
     }
 }
 
@@ -64,6 +60,7 @@ fn join(sets: &mut [u64], w: usize, a: usize, b: usize, c: usize)
 }
 
 // In step order, makes each node's set the union of its children's.
+// Stays: a tree is lent as a flat list, with its order in a list beside it; what a step writes another reads, so the loop's invariant is the promise.
 fn join_up(sets: &mut [u64], w: usize, n: usize, kids: &[u16], order: &[u16])
     requires { Steps n kids.now order.now × (nodes n kids.now * w ≤ length sets.old) }
     ensures { sets.new ≡ ups w (left_of kids.now n) (right_of kids.now n) order.now sets.old (length order.now) }
@@ -77,6 +74,7 @@ fn join_up(sets: &mut [u64], w: usize, n: usize, kids: &[u16], order: &[u16])
 }
 
 // From the root down, makes slot c of `outside` what is wanted outside node c, for the children c of each node.
+// Stays: a tree is lent as a flat list, with its order in a list beside it; what a step writes another reads, so the loop's invariant is the promise.
 fn want_down(outside: &mut [u64], sets: &[u64], w: usize, n: usize, kids: &[u16], order: &[u16])
     requires { Steps n kids.now order.now × (nodes n kids.now * w ≤ length outside.old) × (nodes n kids.now * w ≤ length sets.now) }
     ensures { outside.new ≡ downs w (left_of kids.now n) (right_of kids.now n) order.now sets.now outside.old (length order.now) }
@@ -91,6 +89,7 @@ fn want_down(outside: &mut [u64], sets: &[u64], w: usize, n: usize, kids: &[u16]
 }
 
 // Cuts each inner node's set to what is wanted outside the node.
+// Stays: a tree is lent as a flat list, with its order in a list beside it; what a step writes another reads, so the loop's invariant is the promise.
 fn trim_all(sets: &mut [u64], outside: &[u64], w: usize, n: usize, kids: &[u16], order: &[u16])
     requires { Steps n kids.now order.now × (nodes n kids.now * w ≤ length sets.old) × (nodes n kids.now * w ≤ length outside.now) }
     ensures { sets.new ≡ cuts w order.now outside.now sets.old (length order.now) }
@@ -101,26 +100,32 @@ fn trim_all(sets: &mut [u64], outside: &[u64], w: usize, n: usize, kids: &[u16],
     }
 }
 
-/// Makes slot v of `sets` the set of the indices that node v lists, for every node v of a network's tree; `outside` is worked in.
+/// Makes slot v of `sets` the set of the indices that node v lists, for every node v of a tree of `n` leaves, of a network with `o` outputs;
+/// `outside` is worked in.
+// Stays: asks no more of its callers than lists that fit.
 pub fn node_sets(
     sets: &mut [u64],
     outside: &mut [u64],
     w: usize,
-    network: &Accepted,
+    n: usize,
+    o: usize,
+    counts: &[u8],
+    legs: &[u16],
+    outputs: &[u16],
     kids: &[u16],
     order: &[u16],
 )
     requires narrow { w ≤ 16 }
-    requires ordered { Ordered (length network.now.leg_counts.now) kids.now order.now }
-    requires sets { nodes (length network.now.leg_counts.now) kids.now * w ≤ length sets.old }
-    requires outside { nodes (length network.now.leg_counts.now) kids.now * w ≤ length outside.old }
-    ensures { sets.new ≡ with_sets sets.old w (λ v j. memb j (list_at (net_in network.now) (pairs_of kids.now) v)) (nodes (length network.now.leg_counts.now) kids.now) }
+    requires few { (n ≤ 65536) × (o ≤ 65536) }
+    requires ordered { Ordered n kids.now order.now }
+    requires sets { nodes n kids.now * w ≤ length sets.old }
+    requires outside { nodes n kids.now * w ≤ length outside.old }
+    ensures { SetsAre w n o counts.now legs.now outputs.now kids.now sets.old sets.new }
 {
-    let n = network.leg_counts.len();
     let top = (n + kids.len() / 2).saturating_sub(1);
-    leaf_sets(sets, w, network);
+    leaf_sets(sets, w, n, counts, legs);
     slots::empty(outside, w, top);
-    slots::put_all(outside, w, top, network.outputs, 0, network.outputs.len());
+    slots::put_all(outside, w, top, outputs, 0, o);
     join_up(sets, w, n, kids, order);
     want_down(outside, sets, w, n, kids, order);
     trim_all(sets, outside, w, n, kids, order);

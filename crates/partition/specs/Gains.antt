@@ -1,5 +1,5 @@
 -- The gain of a vertex's move by the slots of a hypergraph that is laid out. Assumes nothing.
-use Rattle.std.specs.Prelude.{Bool, true, false, ◌≡◌, refl, ℕ, ◌+◌, ◌-◌, ◌<◌, ltb}
+use Rattle.std.specs.Prelude.{Bool, true, false, ◌≡◌, ◌&&◌, refl, ℕ, ◌+◌, ◌-◌, ◌≤◌, ◌<◌, ltb}
 use Rattle.std.proofs.Math.Bool.{cond}
 use Rattle.std.proofs.Math.Path.{sym, ap}
 use Rattle.std.proofs.Common.{◌∙◌, arith}
@@ -19,7 +19,7 @@ use Rattle.slots.specs.Slots.{held}
 use Rattle.slots.specs.Rising.{rising_of, memb_rising, keep-add}
 use Rattle.partition.specs.Common.{common_of}
 use Rattle.partition.specs.Folds.{fold_map}
-use Rattle.partition.specs.Layout.{net_in, graph_in, sides_in, Laid, gain_step, gain_sum}
+use Rattle.partition.specs.Layout.{net_in, graph_in, sides_in, Crossed, Laid, gain_step, gain_sum}
 
 -- ---- lists ----
 
@@ -32,6 +32,26 @@ pub fold_cong : {S : Type 0} (f g : ℕ → S → S) (l : List ℕ) (s : S) → 
 fold_cong f g [] s h = refl
 fold_cong f g (x ∷ l) s h =
     ap (fold_over f l) (h x (memb_head x l) s) ∙ fold_cong f g l (g x s) (λ y m t. h y (or_intror (eqb y x) (memb y l) m) t)
+
+-- ---- the nets of a vertex ----
+
+-- each vertex's slot holds the nets that have it as a pin
+module _ (ws : List ℕ) (nets vertices m n : ℕ) (weights : List ℕ) (vw : List Float) (few : (m ≤ 256) × (n ≤ 128))
+    (crossed : Crossed ws nets vertices m n) where
+  pub nets_crossed : (v : ℕ) → v < n → nets_at (graph_in ws nets weights m vw) v ≡ map (net_in ws nets weights) (rising_of ws 4 (vertices + v))
+  unfolding graph_in rising_of
+  nets_crossed v b =
+      let split : 256 ≡ m + (256 - m) = omega (arith, few.0) in
+      keep-map (λ (x : Net). memb v x.pins) (net_in ws nets weights) (range m)
+      ∙ ap (map (net_in ws nets weights))
+      (keep_ext_from (λ e. memb v (rising_of ws 2 (nets + e))) (held ws 4 (vertices + v)) 0 m
+      (λ e lo hi. memb_rising ws 2 (nets + e) v (omega (arith, few.1)) ∙ sym (crossed v e b (omega (arith, few.0)) ∙ rw (lt-ltb e m (omega arith))))
+      ∙ sym (ap (λ (k : ℕ). keep (held ws 4 (vertices + v)) (range k)) split
+      ∙ keep-add (held ws 4 (vertices + v)) 0 m (256 - m)
+      ∙ ap (λ l. keep (held ws 4 (vertices + v)) (range m) ++ l)
+      (keep_none_from (held ws 4 (vertices + v)) (0 + m) (256 - m)
+      (λ e lo hi. crossed v e b (omega (arith, few.0)) ∙ rw (le-ltb e m (omega arith))))
+      ∙ append-nil (keep (held ws 4 (vertices + v)) (range m))))
 
 -- ---- sides ----
 
@@ -58,21 +78,8 @@ module _ (ws : List ℕ) (nets vertices sides m n : ℕ) (weights : List ℕ) (h
       (keep_cong (λ v. eqb (side_of (sides_in ws sides n) v) s) (held ws 2 t) (keep (held ws 2 (nets + e)) (range 128))
       (λ v q. k v (h.within e v b (kept_below (held ws 2 (nets + e)) 128 v q) (keep_passes v (held ws 2 (nets + e)) (range 128) q))))
 
-  -- the nets of a vertex
   pub nets_at_lem : (v : ℕ) (vw : List Float) → v < n → nets_at (graph_in ws nets weights m vw) v ≡ map (net_in ws nets weights) (rising_of ws 4 (vertices + v))
-  unfolding graph_in rising_of
-  nets_at_lem v vw b =
-      let split : 256 ≡ m + (256 - m) = omega (arith, h.few.0) in
-      keep-map (λ (x : Net). memb v x.pins) (net_in ws nets weights) (range m)
-      ∙ ap (map (net_in ws nets weights))
-      (keep_ext_from (λ e. memb v (rising_of ws 2 (nets + e))) (held ws 4 (vertices + v)) 0 m
-      (λ e lo hi. memb_rising ws 2 (nets + e) v (omega (arith, h.few.1)) ∙ sym (h.crossed v e b (omega (arith, h.few.0)) ∙ rw (lt-ltb e m (omega arith))))
-      ∙ sym (ap (λ (k : ℕ). keep (held ws 4 (vertices + v)) (range k)) split
-      ∙ keep-add (held ws 4 (vertices + v)) 0 m (256 - m)
-      ∙ ap (λ l. keep (held ws 4 (vertices + v)) (range m) ++ l)
-      (keep_none_from (held ws 4 (vertices + v)) (0 + m) (256 - m)
-      (λ e lo hi. h.crossed v e b (omega (arith, h.few.0)) ∙ rw (le-ltb e m (omega arith))))
-      ∙ append-nil (keep (held ws 4 (vertices + v)) (range m))))
+  nets_at_lem v vw b = nets_crossed ws nets vertices m n weights vw h.few h.crossed v b
 
   -- A GAIN BY THE SLOTS
   pub gain_laid : (s here there v : ℕ) (vw : List Float) → v < n → side_of (sides_in ws sides n) v ≡ s → Holds s here → Holds (other_side s) there

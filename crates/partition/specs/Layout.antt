@@ -27,10 +27,18 @@ module _ (ws : List ℕ) (nets : ℕ) (weights : List ℕ) where
 unfoldable pub sides_in : List ℕ → ℕ → ℕ → List ℕ
 sides_in ws sides n = map (λ v. cond (held ws 2 (sides + 1) v) 1 0) (range n)
 
+-- each of n vertices has those of m nets that have it as a pin
+abbrev pub Crossed : List ℕ → ℕ → ℕ → ℕ → ℕ → Type 0
+Crossed ws nets vertices m n = (v e : ℕ) → v < n → e < 256 → held ws 4 (vertices + v) e ≡ (ltb e m && held ws 2 (nets + e) v)
+
+-- the pins of m nets are vertices below n
+abbrev pub Within : List ℕ → ℕ → ℕ → ℕ → Type 0
+Within ws nets m n = (e v : ℕ) → e < m → v < 128 → held ws 2 (nets + e) v ≡ true → v < n
+
 pub record Laid (ws : List ℕ) (nets vertices sides m n : ℕ) : Type 0 where
   pub few : (m ≤ 256) × (n ≤ 128)
-  pub crossed : (v e : ℕ) → v < n → e < 256 → held ws 4 (vertices + v) e ≡ (ltb e m && held ws 2 (nets + e) v)
-  pub within : (e v : ℕ) → e < m → v < 128 → held ws 2 (nets + e) v ≡ true → v < n
+  pub crossed : Crossed ws nets vertices m n
+  pub within : Within ws nets m n
   pub apart : (v : ℕ) → v < n → held ws 2 sides v ≡ not (held ws 2 (sides + 1) v)
 
 abbrev pub place : ℕ → ℕ → ℕ → ℕ → ℕ → Place

@@ -1,5 +1,7 @@
 ghost use Rattle.partition.specs.Layout.{Placed};
 
+// Stays: `e < 65536`, `here < 65536`, `there < 65536`: bounds of numbers, so that a place fits a machine word; a type of its own would be unwrapped at each use.
+
 use crate::place::Place;
 use bits::Digits;
 
@@ -45,14 +47,13 @@ impl<'a> Hypergraph<'a> {
     }
 
     /// The gain with the nets of slot `s`, of four words.
+    // Stays: a slot is a place in lent words of the workspace that the C interface states, and may reach past their end, where a read gives 0; so it is no slice.
     fn gain_sum(&self, here: usize, there: usize, s: usize) -> f64
         requires { (here < 65536) × (there < 65536) × (s < 65536) }
         ensures { result ≡ gain_sum self.now.words.now self.now.place.nets here there self.now.weights.now (rising_of self.now.words.now 4 s) }
     {
-        // Stays: a slot is a place in lent words of the workspace that the C interface states.
         let p = s * 4;
         let mut g = 0.0;
-        // Stays: a slot may reach past the end of the words, where a read gives 0, so it is no slice.
         for k in 0..4 {
             let x = cells::get_or(self.words, p + k, 0);
             g = self.gain_word(here, there, k * 64, x, g);

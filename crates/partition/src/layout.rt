@@ -37,7 +37,7 @@ impl<'a> Layout<'a> {
             vertices: self.vertices,
             sides: self.sides,
             net_count: self.net_count,
-            vertex_count: self.vertex_weights.len(),
+            vertex_count: self.vertex_count(),
         }
     }
 }

@@ -7,6 +7,9 @@ ghost use Rattle.spec.specs.Fm.{gain_net};
 ghost use Rattle.partition.specs.Common.{common_of};
 ghost use Rattle.partition.specs.Few.{capped, Few};
 
+// Stays: `words: &[u64], w: usize`, `w: usize, a: usize`, `a: usize, b: usize`: two slots of the same words; a struct of words, width and slots would be made at each read.
+// Stays: `w ≤ 16`, `a < 1048576`, `b < 1048576`: bounds of numbers, so that a place fits a machine word; a type of its own would be unwrapped at each use.
+
 mod graph;
 mod layout;
 mod place;
@@ -16,16 +19,14 @@ pub use layout::Layout;
 pub use place::Place;
 
 /// How many members slots `a` and `b` have in common.
+// Stays: a slot is a place in lent words of the workspace that the C interface states, and may reach past their end, where a read gives 0; so it is no slice.
 pub fn common(words: &[u64], w: usize, a: usize, b: usize) -> usize
     requires { (w ≤ 16) × (a < 1048576) × (b < 1048576) }
     ensures { result ≡ length (common_of words.now w a b) }
 {
-    // Stays: a slot is a place in lent words of the workspace that the C interface states.
     let p = a * w;
-    // Stays: a slot is a place in lent words of the workspace that the C interface states.
     let q = b * w;
     let mut n: usize = 0;
-    // Stays: a slot may reach past the end of the words, where a read gives 0, so it is no slice.
     for k in 0..w {
         let x = cells::get_or(words, p + k, 0);
         let y = cells::get_or(words, q + k, 0);
@@ -48,13 +49,12 @@ fn few_ones(x: u64) -> usize
 }
 
 /// Have slots `a` and `b` of two words no member in common, just one, or more: 0, 1, or above.
+// Stays: a slot is a place in lent words of the workspace that the C interface states.
 fn few(words: &[u64], a: usize, b: usize) -> usize
     requires { (a < 1048576) × (b < 1048576) }
     ensures { Few result (length (common_of words.now 2 a b)) }
 {
-    // Stays: a slot is a place in lent words of the workspace that the C interface states.
     let p = a * 2;
-    // Stays: a slot is a place in lent words of the workspace that the C interface states.
     let q = b * 2;
     let x = few_ones(cells::get_or(words, p, 0) & cells::get_or(words, q, 0));
     let y = few_ones(cells::get_or(words, p + 1, 0) & cells::get_or(words, q + 1, 0));

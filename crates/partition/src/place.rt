@@ -1,6 +1,7 @@
 /// Where a hypergraph and a partition of its vertices lie in lent words. The pins of net `e` are the members of slot `nets + e`, of two words; the nets of vertex
 /// `v` are the members of slot `vertices + v`, of four words; the sides are the sets of slots `sides` and `sides + 1`, of two words.
 #[derive(Clone, Copy)]
+// Stays: no twin of a step of a tree: it says where a hypergraph lies.
 pub struct Place {
     pub nets: usize,
     pub vertices: usize,
@@ -15,6 +16,8 @@ impl Place {
     ghost use Rattle.std.specs.Prelude.{◌≡◌, ◌<◌};
     ghost use Rattle.partition.specs.Layout.{Laid};
     ghost use Rattle.partition.specs.Cuts.{cut_step, IsCutWeight};
+
+    // Stays: `e < 256`: a bound of a number, so that a place fits a machine word; a type of its own would be unwrapped at each use.
 
     /// The weight of the nets that are cut, with net `e`.
     fn cut_step(&self, words: &[u64], weights: &[u8], e: usize, c: f64) -> f64

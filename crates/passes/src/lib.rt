@@ -12,6 +12,11 @@ ghost use Rattle.passes.specs.Sorted.{sorted};
 ghost use Rattle.passes.specs.Made.{VisitsAll, Passes, Improves};
 ghost use Rattle.passes.specs.Loops.{passes_left};
 
+// Stays: `kids: &mut [u16], network: &Accepted`, `network: &Accepted, search: &Search`, `words: &mut [u64], list: &mut PriceList`: five owners; a struct of all would be filled anew for each call, with three of its fields lent to be written.
+// Stays: `IsReady network.now search.now (length words.old) list.old`: of four values that different callers own, so it is no field of one of them.
+// Stays: `Standing (net_in network.now) (flag_at search.now.flags.now) kids.old list.old.sets.now list.old.sizes.now list.old.works.now`: of tree, price list, network and flags; a visit writes the first two, and a field of a struct would be proved anew at each write.
+// Stays: `IsSameLoan list.old list.new`, `IsAsLong list.old list.new`: what a caller that lends a price list has of it afterwards, said where it is lent on.
+
 mod falling; // falling.rt: nodes by falling work
 
 use network::Accepted;
@@ -38,6 +43,7 @@ fn order_nodes(
 }
 
 // Visits `nodes`, one after the other, each in the tree that the visits before it left.
+// Stays: the tree is written here; the C interface lends it as a flat list, two children a node.
 fn visit_all(
     words: &mut [u64],
     list: &mut PriceList,
@@ -64,6 +70,7 @@ fn visit_all(
 }
 
 // One pass: the order of the nodes is fixed at its start.
+// Stays: the tree is written here; the C interface lends it as a flat list, two children a node.
 fn pass(
     words: &mut [u64],
     list: &mut PriceList,

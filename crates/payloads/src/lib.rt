@@ -103,11 +103,11 @@ pub fn check_tree(bytes: &[u8], n: usize) -> Result<(), Refusal>
     }
 }
 
+// Stays: std copies numbers of one width only, and of a list that is written through a zip only the length is known afterwards.
 /// Copies the bytes to the front of a list of indices, as far as it goes.
 pub fn copy_bytes(to: &mut [u16], bytes: &[u8])
     ensures { to.new ≡ over to.old bytes.now }
 {
-    // Stays: of a list that is written through a zip only the length is known afterwards
     for k in 0..to.len().min(bytes.len()) {
         to[k] = u16::from(bytes[k]);
     }

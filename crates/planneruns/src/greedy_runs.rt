@@ -3,6 +3,8 @@
 use network::Network;
 use std::io::{self, Read, Write};
 
+// Stays: `input: &mut R, out: &mut W`: what a case reads and what it writes.
+
 // Stays: twice the leaves less one is the length of the tree that was planned.
 // The plan of a network, or the number of the refusal.
 fn plan<W: Write>(out: &mut W, network: &Network) -> io::Result<()> {
@@ -19,12 +21,9 @@ fn plan<W: Write>(out: &mut W, network: &Network) -> io::Result<()> {
     writeln!(out)
 }
 
-fn next_case<R: Read, W: Write>(input: &mut R, out: &mut W) -> io::Result<()> {
+// Stays: a case of its own form; it reads a network and writes a line.
+/// One case: the network, and its plan.
+pub fn next_case<R: Read, W: Write>(input: &mut R, out: &mut W) -> io::Result<()> {
     let network = stored::next_network(input, out)?;
     plan(out, &network)
-}
-
-/// All cases.
-pub fn all<R: Read, W: Write>(input: &mut R, out: &mut W) -> io::Result<()> {
-    stored::each_case(input, out, next_case)
 }

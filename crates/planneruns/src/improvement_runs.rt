@@ -7,6 +7,10 @@ use network::Network;
 use reconfigure::Ask;
 use std::io::{self, Read, Write};
 
+// Stays: `input: &mut R, out: &mut W`: what a case reads and what it writes.
+// Stays: `out: &mut W, file: &[u8]`, `out: &mut W, network: &Network`: where a line goes, and what it is about.
+// Stays: `network: &Network, flags: &[u8]`, `network: &Network, given: Given`: what was read of one file; the reader hands out each apart.
+
 // What a case asks: k, how many passes, and the limit.
 #[derive(Clone, Copy)]
 struct Asked {
@@ -15,11 +19,7 @@ struct Asked {
     limit: Option<u16>,
 }
 
-// The limit that a number stands for: none from 65,535 on.
-fn limit_of(x: usize) -> Option<u16> {
-    if x < 65535 { Some(x as u16) } else { None }
-}
-
+// Stays: the tree is what a file gave, and is changed here; improvement checks it.
 // The tree improved, or the number of the refusal.
 fn improve<W: Write>(
     out: &mut W,
@@ -44,6 +44,7 @@ fn improve<W: Write>(
     }
 }
 
+// Stays: the list is as long as any tree; the tree is its front.
 // Improves the tree that was found in a file, under the flags that were.
 fn improve_given<W: Write>(
     out: &mut W,
@@ -70,7 +71,9 @@ fn run<W: Write>(out: &mut W, file: &[u8], asked: Asked) -> io::Result<()> {
     writeln!(out)
 }
 
-fn next_case<R: Read, W: Write>(input: &mut R, out: &mut W) -> io::Result<()> {
+// Stays: a case of its own form; it reads a question and a file, and writes a line.
+/// One case: what is asked, the file after it, and its tree improved. A limit of 65,535 is none.
+pub fn next_case<R: Read, W: Write>(input: &mut R, out: &mut W) -> io::Result<()> {
     let mut bytes = [0u8; 131072];
     let number = stored::next_number(input)?;
     let count = stored::next_number(input)?;
@@ -78,12 +81,9 @@ fn next_case<R: Read, W: Write>(input: &mut R, out: &mut W) -> io::Result<()> {
     let asked = Asked {
         k: number / 16777216,
         passes: number / 65536 % 256,
-        limit: limit_of(number % 65536),
+        limit: u16::try_from(number % 65536)
+            .ok()
+            .filter(|limit| *limit != u16::MAX),
     };
     run(out, &bytes[..n], asked)
-}
-
-/// All cases.
-pub fn all<R: Read, W: Write>(input: &mut R, out: &mut W) -> io::Result<()> {
-    stored::each_case(input, out, next_case)
 }

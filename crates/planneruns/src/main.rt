@@ -7,16 +7,16 @@ mod improvement_runs; // improvement_runs.rt: trees improved
 
 use std::io::{self, Read, Write};
 
+// Stays: `input: &mut R, out: &mut W`: what a run reads and what it writes; there is nothing else that a run has.
+// Stays: what this program runs; only the name is another program's.
 // All cases.
 fn run_all<R: Read, W: Write>(input: &mut R, out: &mut W) -> io::Result<()> {
-    greedy_runs::all(input, out)?;
-    bisection_runs::all(input, out)?;
-    improvement_runs::all(input, out)
+    stored::each_case(input, out, greedy_runs::next_case)?;
+    stored::each_case(input, out, bisection_runs::next_case)?;
+    stored::each_case(input, out, improvement_runs::next_case)
 }
 
-// An input that ends early goes on with zeros. A read or a write that fails ends the run, and is not told.
+// Stays: where a program begins. What programs share stands in `stored::run`; what is left names what this one runs.
 fn main(rt: HostRuntime) {
-    let mut input = stored::with_zeros(rt.reader());
-    let mut out = io::writer(&rt);
-    let _ = run_all(&mut input, &mut out);
+    stored::run(&rt, run_all);
 }

@@ -27,6 +27,14 @@ use steplines::digits::Text;
 use steplines::listed::Listed;
 use text::Printout;
 
+// Stays: `file: &[u8], out: &mut [u8]`: what is read and what is written, by the program's one function and the one below it.
+// Stays: `network: &Network, given: Given`: what was read of one file; the reader hands out both apart.
+// Stays: `tree: &mut [u16], flags: &mut [u8]`: two lists that each stage writes in turn; as fields of one value each contract says that it lends them still.
+// Stays: `Ready (net_of network.now) (length flags.old)`: of two values, an accepted record and lent flags that fit it; neither holds the other.
+// Stays: `length tree.old ≡ tree_places (net_of network.now)`: of two values, a record and a lent list; a stage may change the list.
+// Stays: `result ≤ 131072`: a bound of a number, which a caller's buffer is made by.
+
+// Stays: the list gets a tree here, or has one that improvement checks.
 // The tree that is improved: the given one, or greedy's.
 fn start(network: &Network, given: Option<usize>, tree: &mut [u16]) -> Result<(), Refusal>
     requires { length tree.old ≡ tree_places (net_of network.now) }
@@ -41,6 +49,7 @@ fn start(network: &Network, given: Option<usize>, tree: &mut [u16]) -> Result<()
     }
 }
 
+// Stays: improvement checks the tree, and changes it where it lies.
 // Improves a tree, with the given flags.
 fn improve(network: &Network, ask: Ask, tree: &mut [u16], flags: &[u8]) -> Result<Visited, Refusal>
     requires { (accepted (net_of network.now) ≡ true) × (flag_count ask ≤ length flags.now) }
@@ -57,6 +66,7 @@ fn improve(network: &Network, ask: Ask, tree: &mut [u16], flags: &[u8]) -> Resul
     reconfigure::improve(network, &asked, tree, &mut ws)
 }
 
+// Stays: slicing checks the tree, and changes it where it lies.
 // Slices the improved tree to a target, with improvement; the counts are added to those so far.
 fn slice_to(
     network: &Network,
@@ -76,6 +86,7 @@ fn slice_to(
     })
 }
 
+// Stays: the tree is changed where it lies, and slicing checks it.
 // Slices where the file has a target; else the plan stands, with the given flags.
 fn slice(
     network: &Network,
@@ -94,6 +105,7 @@ fn slice(
     }
 }
 
+// Stays: the list holds a tree or none, as the file says, and the plan in the end.
 // The plan of a network, from the given tree or from greedy's: improved with the given flags, and sliced.
 fn plan_network(
     network: &Network,
@@ -143,6 +155,7 @@ fn put_text<'a>(
     text.len()
 }
 
+// Stays: lists of different meaning, lent to pricing and to the text; pricing checks the tree.
 // Puts the text of a plan at the front of a buffer, and answers its length: prices it in local lists, which refuses nothing.
 fn put_plan(
     network: &Network,
@@ -168,6 +181,7 @@ fn put_plan(
     Ok(put_text(network, prices, &steps, list.sets, flags, counts, out))
 }
 
+// Stays: the list holds a tree or none, as the file says, and the plan in the end.
 // Plans, and puts the text of the plan at the front of a buffer.
 fn put_planned(
     network: &Network,
@@ -183,6 +197,7 @@ fn put_planned(
     put_plan(network, counts, tree, &flags[..network.index_count], out)
 }
 
+// Stays: two places for each inner node of the file's network, at the front of a list as long as any tree.
 // Plans what was found in a file: its network, the tree at the front of `tree`, if there is one, and the given flags.
 fn put_found(
     network: &Network,

@@ -6,6 +6,9 @@ mod slices; // slices.rt: trees sliced
 
 use std::io::{self, Read, Write};
 
+// Stays: `input: &mut R, out: &mut W`: what a run reads and what it writes; there is nothing else that a run has.
+
+// Stays: two buffers of no common places; the text is bytes already, and goes out as it is.
 // One case, with its number: what `plan` prints of a network file.
 fn next_case<R: Read, W: Write>(input: &mut R, out: &mut W, k: usize) -> io::Result<()> {
     let mut bytes = [0u8; 131072];
@@ -17,18 +20,16 @@ fn next_case<R: Read, W: Write>(input: &mut R, out: &mut W, k: usize) -> io::Res
     out.write_all(&text[..c])
 }
 
+// Stays: a case is told its number, which the loop that programs share does not hand out.
 // All cases, then all questions on slicing.
 fn run<R: Read, W: Write>(input: &mut R, out: &mut W) -> io::Result<()> {
-    // Stays: the input states how many cases follow; there is no list
     for k in 0..stored::next_number(input)? {
         next_case(input, out, k.saturating_add(1))?;
     }
-    slices::answer_all(input, out)
+    stored::each_case(input, out, slices::answer_next)
 }
 
-// An input that ends early goes on with zeros. A read or a write that fails ends the run, and is not told.
+// Stays: where a program begins. What programs share stands in `stored::run`; what is left names what this one runs.
 fn main(rt: HostRuntime) {
-    let mut input = stored::with_zeros(rt.reader());
-    let mut out = io::writer(&rt);
-    let _ = run(&mut input, &mut out);
+    stored::run(&rt, run);
 }

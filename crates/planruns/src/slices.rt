@@ -6,6 +6,10 @@ use reconf::Visited;
 use spec::Refusal;
 use std::io::{self, Read, Write};
 
+// Stays: `input: &mut R, out: &mut W`: what a question reads and what it writes.
+// Stays: `out: &mut W, network: &Network`: where a line goes, and what it is about.
+
+// Stays: the tree is what slicing left in the list that was lent.
 // Both counts, the tree and the flagged indices, or the number of the refusal.
 fn tell<W: Write>(
     out: &mut W,
@@ -24,37 +28,30 @@ fn tell<W: Write>(
     }
 }
 
+// Stays: the tree comes from outside; slicing checks it.
+// Slices the tree to a target, with improvement or without.
 fn slice<W: Write>(
     out: &mut W,
     network: &Network,
     tree: &mut [u16],
-    asked: usize,
+    improving: bool,
+    target: u16,
 ) -> io::Result<()> {
     let mut flags = [0u8; 256];
     let mut ws = [0u64; 6144];
-    let improving = 65536 <= asked;
-    // Stays: u16 has no From<usize>, and TryFrom would add an error that cannot come
-    let target = (asked % 65536) as u16;
     let indices = network.index_count.min(256);
     let sliced = slicetree::slice(network, improving, tree, target, &mut flags, &mut ws);
     tell(out, sliced, tree, &flags[..indices])
 }
 
-// One question.
-fn answer_next<R: Read, W: Write>(input: &mut R, out: &mut W) -> io::Result<()> {
+// Stays: the remainder is below the cast's limit.
+/// One question: two bytes that are 0 where no improvement is asked, two of the target, a network and a tree.
+pub fn answer_next<R: Read, W: Write>(input: &mut R, out: &mut W) -> io::Result<()> {
     let mut tree = [0u16; 512];
-    let asked = stored::next_number(input)?;
+    let question = stored::next_number(input)?;
+    let (improving, target) = (question / 65536 != 0, (question % 65536) as u16);
     let network = stored::next_network(input, out)?;
     let places = stored::next_tree(input, &mut tree)?;
-    slice(out, &network, &mut tree[..places], asked)?;
+    slice(out, &network, &mut tree[..places], improving, target)?;
     writeln!(out)
-}
-
-/// All questions.
-pub fn answer_all<R: Read, W: Write>(input: &mut R, out: &mut W) -> io::Result<()> {
-    // Stays: the input states how many questions follow; there is no list
-    for _ in 0..stored::next_number(input)? {
-        answer_next(input, out)?;
-    }
-    Ok(())
 }

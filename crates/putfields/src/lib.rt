@@ -4,12 +4,16 @@ ghost use Rattle.std.specs.Prelude.{◌+◌, ◌<◌, ◌≤◌, ◌≡◌, leng
 ghost use Rattle.spec.specs.Memory.{over};
 ghost use Rattle.spec.specs.File.{field, leaf_fields};
 ghost use Rattle.spec.specs.FileClaims.{Bytes};
+ghost use Rattle.network.specs.Checks.{leaves_of};
 ghost use Rattle.network.specs.Views.{net_in};
-ghost use Rattle.payloads.specs.Tags.{tag_number};
 ghost use Rattle.putfields.specs.Put.{Put, header};
+ghost use Rattle.putfields.specs.Leaves.{Leaves};
 
-use network::Accepted;
+use network::{Accepted, scan};
 use payloads::tags::Tag;
+
+// Stays: `out: &mut [u8], at: usize`: with buffer and cursor in one value each contract says that it still lends the same buffer; a list's does not.
+// Stays: `counts: &[u8], legs: &[u16]`, `n: usize, counts: &[u8]`: lists that fit are enough, and n may be fewer than counts; `put_leaves_of` takes a network.
 
 // Stays: std copies lists of one width only; that each index fits a byte is required, so that the cast loses nothing.
 // Writes indices below 256 to the front of `to`, a byte each.
@@ -22,22 +26,22 @@ fn narrow(to: &mut [u8], list: &[u16])
     }
 }
 
-// Stays: `to_be_bytes` would need the same cast before it, of n to 16 bits.
+// Stays: a tag is any byte, as in the definition of a field; `to_be_bytes` would need the same cast before it, of n to 16 bits.
 // A field's tag and the length n of its payload, high byte first.
-fn put_header(out: &mut [u8], at: usize, tag: Tag, n: usize) -> usize
+fn put_header(out: &mut [u8], at: usize, tag: u8, n: usize) -> usize
     requires { (n < 65536) × (at + 3 ≤ length out.old) }
-    ensures { Put out.old out.new at result (header (tag_number tag) n) }
+    ensures { Put out.old out.new at result (header tag n) }
 {
-    let head = [tag.number(), (n / 256) as u8, (n % 256) as u8];
+    let head = [tag, (n / 256) as u8, (n % 256) as u8];
     cells::place(out, at, &head);
     at + 3
 }
 
-// Stays: with buffer and cursor in one value each contract has to say that it still lends the same buffer, as a text's does; a list's does not.
+// Stays: a tag is any byte, as in the definition of a field.
 /// A field whose payload is bytes. The payload's writer is lent the rest of the buffer.
-pub fn put_bytes(out: &mut [u8], at: usize, tag: Tag, payload: &[u8]) -> usize
+pub fn put_bytes(out: &mut [u8], at: usize, tag: u8, payload: &[u8]) -> usize
     requires { (length payload.now < 65536) × (at + 3 + length payload.now ≤ length out.old) }
-    ensures { Put out.old out.new at result (field (tag_number tag) payload.now) }
+    ensures { Put out.old out.new at result (field tag payload.now) }
 {
     let n = payload.len();
     let next = put_header(out, at, tag, n);
@@ -45,10 +49,11 @@ pub fn put_bytes(out: &mut [u8], at: usize, tag: Tag, payload: &[u8]) -> usize
     next + n
 }
 
+// Stays: a tag is any byte, as in the definition of a field.
 /// A field whose payload is indices or nodes, a byte each.
-pub fn put_indices(out: &mut [u8], at: usize, tag: Tag, payload: &[u16]) -> usize
+pub fn put_indices(out: &mut [u8], at: usize, tag: u8, payload: &[u16]) -> usize
     requires { (length payload.now < 65536) × (at + 3 + length payload.now ≤ length out.old) × Bytes payload.now }
-    ensures { Put out.old out.new at result (field (tag_number tag) payload.now) }
+    ensures { Put out.old out.new at result (field tag payload.now) }
 {
     let n = payload.len();
     let next = put_header(out, at, tag, n);
@@ -56,15 +61,26 @@ pub fn put_indices(out: &mut [u8], at: usize, tag: Tag, payload: &[u16]) -> usiz
     next + n
 }
 
+// Stays: asks no more of its callers than lists that fit; leaves are read by number, and there may be fewer than counts.
+/// A field for each of n leaves.
+pub fn put_leaves(out: &mut [u8], at: usize, n: usize, counts: &[u8], legs: &[u16]) -> usize
+    requires { Leaves n counts.now legs.now × (at + length (leaf_fields (leaves_of n counts.now legs.now)) ≤ length out.old) }
+    ensures { Put out.old out.new at result (leaf_fields (leaves_of n counts.now legs.now)) }
+{
+    let mut next = at;
+    for i in 0..n {
+        let leaf = scan::leaf(counts, legs, i);
+        next = put_indices(out, next, Tag::Leaf.number(), leaf);
+    }
+    next
+}
+
+// Stays: no conversion; a buffer and a cursor, as of the fields above.
 /// A field for each leaf of an accepted network.
-pub fn put_leaves(out: &mut [u8], at: usize, network: &Accepted) -> usize
+pub fn put_leaves_of(out: &mut [u8], at: usize, network: &Accepted) -> usize
     requires { at + length (leaf_fields (net_in network.now).leaves) ≤ length out.old }
     ensures { Put out.old out.new at result (leaf_fields (net_in network.now).leaves) }
 {
-    let mut next = at;
-    // Stays: a network hands its leaves out by number; it has no list of them.
-    for i in 0..network.leaf_count() {
-        next = put_indices(out, next, Tag::Leaf, network.leaf(i));
-    }
-    next
+    let n = network.leaf_count();
+    put_leaves(out, at, n, network.leg_counts, network.legs)
 }

@@ -56,13 +56,20 @@ module _ {S : Type 0} (f : ℕ → S → S) where
       ∙ fold_from (suc k) a b (f k s)
       ∙ ap (λ (n : ℕ). fold_over f (from n b) (fold_over f (from (suc k) a) (f k s))) g
 
+  -- from k on nothing changes
+  pub fold_past : (k n : ℕ) (s : S) → k ≤ n → ((v : ℕ) → k ≤ v → (t : S) → f v t ≡ t) → fold_over f (range n) s ≡ fold_over f (range k) s
+  fold_past k n s b h =
+      let split : n ≡ k + (n - k) = omega arith in
+      ap (λ (j : ℕ). fold_over f (range j) s) split
+      ∙ fold_from 0 k (n - k) s
+      ∙ fold_still (0 + k) (n - k) (fold_over f (range k) s) (λ v g t. h v (omega arith) t)
+
   -- two words of w digits have all that matters below n
   pub fold_open : (p : ℕ → Bool) (w n x y : ℕ) (s : S) → Tests p (0 * w) w x → Tests p (1 * w) w y → n ≤ 2 * w
       → ((v : ℕ) → v < n → p v ≡ false → (t : S) → f v t ≡ t) → ((v : ℕ) → n ≤ v → (t : S) → f v t ≡ t)
       → fold_over f (places (1 * w) w y) (fold_over f (places (0 * w) w x) s) ≡ fold_over f (range n) s
   fold_open p w n x y s hx hy b closed past =
       let none : 0 * w ≡ 0 = omega arith in
-      let split : 2 * w ≡ n + (2 * w - n) = omega arith in
       let first : keep p (range (1 * w)) ≡ places (0 * w) w x =
       word_more w p 0 x hx ∙ ap (λ (k : ℕ). keep p (range k) ++ places (0 * w) w x) none in
       let all : keep p (range (2 * w)) ≡ places (0 * w) w x ++ places (1 * w) w y =
@@ -70,6 +77,4 @@ module _ {S : Type 0} (f : ℕ → S → S) where
       sym (fold_append f (places (0 * w) w x) (places (1 * w) w y) s)
       ∙ sym (ap (λ l. fold_over f l s) all)
       ∙ fold_skip p (range (2 * w)) s (λ v e t. elim (dec_lt v n) [ yes h ↦ closed v h e t | no h ↦ past v (omega arith) t ])
-      ∙ ap (λ (k : ℕ). fold_over f (range k) s) split
-      ∙ fold_from 0 n (2 * w - n) s
-      ∙ fold_still (0 + n) (2 * w - n) (fold_over f (range n) s) (λ v g t. past v (omega arith) t)
+      ∙ fold_past n (2 * w) s b past

@@ -8,6 +8,9 @@ ghost use Rattle.queue.specs.Enters.{Entered, AllEntered};
 ghost use Rattle.queue.specs.Open.{open_in};
 ghost use Rattle.queue.specs.Queues.{queue_in, no_words, first_of};
 
+// Stays: `graph: &Hypergraph, entries: &mut [Entry]`, `entries: &mut [Entry], draws: &mut Draws`: a struct that lends the entries and the draws would be made at each call, since
+// moves between the calls write the words that the hypergraph reads.
+
 use bits::Digits;
 use draws::Draws;
 use partition::Hypergraph;
@@ -72,6 +75,7 @@ fn open_word(words: &[u64], sides: usize, k: usize) -> u64
 pub fn largest(words: &[u64], sides: usize, entries: &[Entry]) -> Option<usize>
     requires { (sides < 32768) × (length entries.now ≤ 128) × ((v : ℕ) → v < length entries.now → open_in words.now sides v ≡ false → waits (queue_in entries.now no_words) v ≡ false) }
     ensures first { first_of (queue_in entries.now no_words) result ≡ largest (length entries.now) (queue_in entries.now no_words) }
+    ensures all { (n : ℕ) → length entries.now ≤ n → first_of (queue_in entries.now no_words) result ≡ largest n (queue_in entries.now no_words) }
     ensures below { IfSome result (λ v. v < length entries.now) }
 {
     let x = open_word(words, sides, 0);

@@ -8,6 +8,10 @@ ghost use Rattle.slots.specs.Rising.{rising_of};
 ghost use Rattle.ratings.specs.Lists.{IsSameLoan, ratings_of};
 ghost use Rattle.ratings.specs.Rated.{rated_pin, share, rated_open, rated_pins, rated_net, rated_nets};
 
+// Stays: `nets: usize, weights: &[u8]`: two of the fields of a hypergraph, with a partition or without, and neither is needed whole.
+// Stays: `nets < 65536`, `e < 65536`: bounds of numbers, so that a place fits a machine word; a type of its own would be unwrapped at each use.
+// Stays: `IsSameLoan self.old self.new`: that the lists that come back are those that were lent is a fact of a call; no invariant of the struct can say it.
+
 /// A vertex that is to be matched, and the mates so far: `none`, the number of vertices, stands for no mate yet.
 #[derive(Clone, Copy)]
 pub struct Single<'a> {
@@ -31,10 +35,9 @@ fn rate_of(w: u8, pins: usize) -> f64
     requires { pins ≤ 64 }
     ensures { result ≡ share w pins }
 {
-    if pins < 2 {
-        return (w as f64) / 1.0;
-    }
-    (w as f64) / ((pins - 1) as f64)
+    let others = pins.saturating_sub(1).max(1);
+    // Stays: no `From` goes from `usize` to `f64`.
+    f64::from(w) / (others as f64)
 }
 
 // Adds `r` to the rating of vertex `u`. Returns what it was before.

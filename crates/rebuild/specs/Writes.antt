@@ -21,7 +21,7 @@ wrote kids opened top left = record { array = pairs_of kids; top = top; slots = 
 
 -- what a number taken leaves
 abbrev pub IsTaken : Freed → Freed → Option ℕ → Type 0
-IsTaken old new None = (old.left ≡ 0) × (new.left ≡ 0)
+IsTaken old new None = (old.left ≡ 0) × (new.left ≡ 0) × (new.nodes.now ≡ old.nodes.now)
 IsTaken old new (Some v) = (1 ≤ old.left) × (v ≡ get_or old.nodes.now (old.left - 1) 0) × (new.left ≡ old.left - 1) × (new.nodes.now ≡ old.nodes.now)
 
 -- ---- one node ----

@@ -36,15 +36,20 @@ pub struct Freed<'a> {
 }
 
 impl<'a> Freed<'a> {
+    /// The first `left` numbers of a list. Past its end they are 0.
+    pub fn front(nodes: &'a [u16], left: usize) -> Freed<'a>
+        ensures nodes { result.nodes.now ≡ nodes.now }
+        ensures left { result.left ≡ left }
+    {
+        Freed { nodes, left }
+    }
+
     /// All numbers of a list.
     pub fn of(nodes: &'a [u16]) -> Freed<'a>
         ensures nodes { result.nodes.now ≡ nodes.now }
         ensures left { result.left ≡ length nodes.now }
     {
-        Freed {
-            nodes,
-            left: nodes.len(),
-        }
+        Freed::front(nodes, nodes.len())
     }
 
     /// Takes a number, if one is left.
@@ -62,7 +67,8 @@ impl<'a> Freed<'a> {
 // A node over two that are built: it takes a freed number.
 // Stays: `n` is the number of the tree's leaves, no list's length.
 fn join_node(free: &mut Freed, kids: &mut [u16], n: usize, first: u16, second: u16) -> u16
-    ensures { wrote kids.new free.new.nodes.now result free.new.left ≡ write n (pairs_of kids.old) first second (freed free.old.nodes.now free.old.left) }
+    ensures list { free.new.nodes.now ≡ free.old.nodes.now }
+    ensures joined { wrote kids.new free.new.nodes.now result free.new.left ≡ write n (pairs_of kids.old) first second (freed free.old.nodes.now free.old.left) }
 {
     match free.take() {
         Some(v) => {
@@ -97,7 +103,8 @@ pub fn build(
     n: usize,
 ) -> u16
     requires { 1 ≤ s }
-    ensures { wrote kids.new free.new.nodes.now result free.new.left ≡ build_array n members.now (region_of (split_at part.now) s) (freed free.old.nodes.now free.old.left) (pairs_of kids.old) }
+    ensures list { free.new.nodes.now ≡ free.old.nodes.now }
+    ensures built { wrote kids.new free.new.nodes.now result free.new.left ≡ build_array n members.now (region_of (split_at part.now) s) (freed free.old.nodes.now free.old.left) (pairs_of kids.old) }
 {
     match part_of(part, s) {
         None => cells::get_or(members, bits::low(s as u64), 0),

@@ -7,6 +7,7 @@ use Rattle.std.proofs.Math.ListN.{length}
 use Rattle.std.proofs.lemmas.List.Edits.{sets-eq, sets as put_at}
 use Rattle.spec.specs.Lists.{memb, range, sum_of}
 use Rattle.spec.specs.Network.{Network, leaf_count}
+use Rattle.spec.specs.Memory.{filled}
 use Rattle.spec.specs.Tree.{Tree, number, pairs_of, ValidTree}
 use Rattle.spec.specs.Price.{lists}
 use Rattle.slots.specs.Slots.{held}
@@ -20,6 +21,7 @@ use Rattle.frontier.specs.Opens.{state, openings, freed}
 use Rattle.frontier.specs.Costs.{cost_below}
 use Rattle.frontier.specs.Fronts.{Fronts}
 use Rattle.frontier.specs.Swaps.{number_at}
+use Rattle.frontier.specs.declared.Frontier.{Frontier}
 use Rattle.subset.specs.Search.{found_at, searched_in, tried_in}
 use Rattle.subset.specs.Walk.{split_at}
 use Rattle.subset.specs.Regions.{region_of}
@@ -63,12 +65,36 @@ put_front : (old l : List ℕ) → length l ≤ length old → take (length l) (
 put_front old l h = ap (take (length l)) (sets-eq l old 0 (omega (arith, h))) ∙ take-append-le (length l) l (drop (0 + length l) old) (omega arith) ∙ take_all (length l) l (omega arith)
 
 module _ {N : Network} {x : ℕ} {weights flags kids sets works : List ℕ} (h : Visitable N x weights flags kids sets works)
-    (v : ℕ) (inside_n : v < x + (x - 1)) (k : ℕ)
-    (members₀ opened₀ members opened : List ℕ) (m : ℕ) (one : 1 ≤ k) (room : k ≤ length members₀) (room_opened : k ≤ suc (length opened₀))
-    (st_n : state members opened m ≡ openings kids works x (k - 1) (state (set members₀ 0 v) opened₀ 1))
+    (v : ℕ) (inside_n : v < x + (x - 1)) (k : ℕ) (clamped : (3 ≤ k) × (k ≤ 12)) (f : Frontier)
+    (st_n : state f.members f.opened f.count ≡ openings kids works x (k - 1) (state (set (filled 12 0) 0 v) (filled 12 0) 1))
     -- the fronts of both lists
-    (M O : List ℕ) (eM : M ≡ take m members) (eO : O ≡ take (m - 1) opened)
+    (M O : List ℕ) (eM : M ≡ take f.count f.members) (eO : O ≡ take (f.count - 1) f.opened)
   where
+    abbrev m : ℕ
+    m = f.count
+
+    abbrev members : List ℕ
+    members = f.members
+
+    abbrev opened : List ℕ
+    opened = f.opened
+
+    abbrev members₀ : List ℕ
+    members₀ = filled 12 0
+
+    abbrev opened₀ : List ℕ
+    opened₀ = filled 12 0
+
+    one : 1 ≤ k
+    one = omega (arith, clamped.0)
+
+    room : k ≤ length members₀
+    unfolding filled
+    room = omega (arith, clamped.1)
+
+    room_opened : k ≤ suc (length opened₀)
+    room_opened = omega (arith, room)
+
     pub inside : v < leaf_count N + (leaf_count N - 1)
     inside = omega (arith, h.leaves)
 

@@ -2,15 +2,21 @@
 //! One visit of a node: its frontier, the search over it, the rebuild if it is cheaper, and then pricing again.
 ghost use Rattle.std.specs.Prelude.{◌≡◌, ℕ, ◌+◌, ◌-◌, ◌*◌, ◌^◌, ◌<◌, ◌≤◌, IfSome, length, get_or};
 ghost use Rattle.std.proofs.lemmas.List.Edits.{sets as put_at};
-ghost use Rattle.spec.specs.Network.{leaf_count};
+ghost use Rattle.spec.specs.Network.{Network, leaf_count};
 ghost use Rattle.spec.specs.Calls.{flag_at};
 ghost use Rattle.network.specs.Views.{net_in};
 ghost use Rattle.pricing.specs.Lists.{IsSameLoan};
 ghost use Rattle.reprice.specs.Held.{Standing, IsAsLong};
 ghost use Rattle.reconf.specs.Locals.{locals_in};
 ghost use Rattle.reconf.specs.Cases.{accepts};
+ghost use Rattle.reconf.specs.Node.{Visitable};
 ghost use Rattle.reconf.specs.Visits.{Searches, Reconfs, Visits};
 ghost use Rattle.reconf.specs.Benches.{IsReady};
+
+// Stays: `kids: &mut [u16], network: &Accepted`, `network: &Accepted, search: &Search`, `words: &mut [u64], list: &mut PriceList`: five owners; a struct of all would be filled anew for each call, with three of its fields lent to be written.
+// Stays: `IsReady network.now search.now (length words.old) list.old`: of four values that different callers own, so it is no field of one of them.
+// Stays: `Standing (net_in network.now) (flag_at search.now.flags.now) kids.old list.old.sets.now list.old.sizes.now list.old.works.now`: of tree, price list, network and flags; a visit writes the first two, and a field of a struct would be proved anew at each write.
+// Stays: `IsSameLoan list.old list.new`, `IsAsLong list.old list.new`: what a caller that lends a price list has of it afterwards, said where it is lent on.
 
 mod search; // search.rt: what a search is asked for
 
@@ -35,7 +41,7 @@ fn local_list(
 {
     let mut sliced = [0u64; 4];
     locals::flag_set(&mut sliced, 4, 0, flags);
-    locals::local_indices(words, 4, sets, &sliced, members, local)
+    locals::all_local_indices(words, 4, sets, &sliced, members, local)
 }
 
 // Searches the subsets of the members of node `v`, in the numbers of the local indices.
@@ -55,7 +61,7 @@ fn search_region<'a>(
     ensures searches { Searches sets.now members.now local.now weights.now v limit result.part.now result.cost result.tried }
 {
     let mut local_bits = [0u8; 128];
-    locals::local_weights(&mut local_bits, weights, local);
+    locals::all_local_weights(&mut local_bits, weights, local);
     let m = members.len();
     let n = subset::mask_count(m);
     let (cost, rest) = words.split_at_mut(n);
@@ -64,7 +70,7 @@ fn search_region<'a>(
     let (rows, _) = rest.as_chunks_mut::<2>();
     let (united, rows) = rows.split_at_mut(n);
     let (kept, _) = rows.split_at_mut(n);
-    locals::local_sets(united, sets, 4, usize::from(v), members, local);
+    locals::all_local_sets(united, sets, 4, usize::from(v), members, local);
     let masks = Masks {
         united,
         kept,
@@ -88,29 +94,32 @@ fn accepts(cost: Option<u64>, old: u64) -> bool
 }
 
 /// What a visit did: how many rebuilds, how many splits tried.
+// Stays: two counts of a visit; of the same shape are other pairs of numbers, of other things.
 #[derive(Clone, Copy)]
 pub struct Visited {
     pub rebuilt: u64,
     pub tried: u64,
 }
 
-/// Visits node `v` of the tree `kids` of a network, whose price list is at hand: the region below it, down to a frontier of at most as many members as
-/// asked, is rebuilt in `kids` if a tree over the members is cheaper.
+/// Visits node `v` of the tree `kids` of `n` leaves, whose sets and work bits are at hand: the region below it, down to a frontier of at most as many
+/// members as asked, is rebuilt in `kids` if a tree over the members is cheaper.
+// Stays: asks no more of its callers than lists that fit: neither a price list nor an accepted network's lists; `n` is the number of leaves.
 pub fn reconf_node(
     words: &mut [u64],
-    list: &PriceList,
+    sets: &[u64],
+    works: &[u16],
     kids: &mut [u16],
-    network: &Accepted,
+    n: usize,
+    weights: &[u8],
     search: &Search,
     v: u16,
 ) -> Visited
-    requires standing { Standing (net_in network.now) (flag_at search.now.flags.now) kids.old list.now.sets.now list.now.sizes.now list.now.works.now }
-    requires node { v < leaf_count (net_in network.now) + (leaf_count (net_in network.now) - 1) }
+    requires visitable { (N : Network) × Visitable N n weights.now search.now.flags.now kids.old sets.now works.now }
+    requires node { v < n + (n - 1) }
     requires words { 4096 + 8 * 2 ^ search.now.k ≤ length words.old }
-    ensures { Reconfs (net_in network.now) (flag_at search.now.flags.now) search.now.k search.now.limit v kids.old kids.new result.rebuilt result.tried }
+    ensures { (N : Network) → Visitable N n weights.now search.now.flags.now kids.old sets.now works.now → Reconfs N (flag_at search.now.flags.now) search.now.k search.now.limit v kids.old kids.new result.rebuilt result.tried }
 {
-    let n = network.leaf_count();
-    let frontier = Frontier::of(kids, n, list.works, search.k, v);
+    let frontier = Frontier::of(kids, n, works, search.k, v);
     let members = frontier.members();
     if members.len() < 3 {
         return Visited {
@@ -119,24 +128,17 @@ pub fn reconf_node(
         };
     }
     let mut places = [0u16; 256];
-    let c = local_list(words, list.sets, search.flags, members, &mut places);
+    let c = local_list(words, sets, search.flags, members, &mut places);
     if 128 < c {
         return Visited {
             rebuilt: 0,
             tried: 0,
         };
     }
-    let found = search_region(
-        words,
-        list.sets,
-        network.weights,
-        v,
-        members,
-        &places[..c],
-        search.limit,
-    );
+    let local = &places[..c];
+    let found = search_region(words, sets, weights, v, members, local, search.limit);
     let opened = frontier.opened();
-    let old = frontier::old_cost(list.works, opened);
+    let old = frontier::opened_cost(works, opened);
     if !accepts(found.cost, old) {
         return Visited {
             rebuilt: 0,
@@ -151,8 +153,29 @@ pub fn reconf_node(
     }
 }
 
+// The same of the tree of an accepted network, whose price list is at hand.
+// Stays: the tree is written here; the C interface lends it as a flat list, two children a node.
+fn reconf_listed(
+    words: &mut [u64],
+    list: &PriceList,
+    kids: &mut [u16],
+    network: &Accepted,
+    search: &Search,
+    v: u16,
+) -> Visited
+    requires standing { Standing (net_in network.now) (flag_at search.now.flags.now) kids.old list.now.sets.now list.now.sizes.now list.now.works.now }
+    requires node { v < leaf_count (net_in network.now) + (leaf_count (net_in network.now) - 1) }
+    requires words { 4096 + 8 * 2 ^ search.now.k ≤ length words.old }
+    ensures { Reconfs (net_in network.now) (flag_at search.now.flags.now) search.now.k search.now.limit v kids.old kids.new result.rebuilt result.tried }
+{
+    let n = network.leaf_count();
+    let weights = network.weights;
+    reconf_node(words, list.sets, list.works, kids, n, weights, search, v)
+}
+
 /// Visits node `v` of the tree `kids` of a network, whose price list is at hand: the region below it, down to a frontier of at most as many members as
 /// asked, is rebuilt in `kids` if a tree over the members is cheaper, and the tree is then priced again. `words` is worked in.
+// Stays: the tree is written here; the C interface lends it as a flat list, two children a node.
 pub fn visit(
     words: &mut [u64],
     list: &mut PriceList,
@@ -168,7 +191,7 @@ pub fn visit(
     ensures long { IsAsLong list.old list.new }
     ensures visits { Visits (net_in network.now) (flag_at search.now.flags.now) search.now.k search.now.limit v kids.old kids.new list.new.sets.now list.new.sizes.now list.new.works.now result.rebuilt result.tried }
 {
-    let made = reconf_node(words, list, kids, network, search, v);
+    let made = reconf_listed(words, list, kids, network, search, v);
     if made.rebuilt == 0 {
         return made;
     }

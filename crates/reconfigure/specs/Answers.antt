@@ -1,8 +1,7 @@
 -- What improvement's entry answers, number and values of each case, and what it leaves in each lent list. Assumes nothing.
-use Rattle.std.specs.Prelude.{List, [], ◌∷◌, ◌≡◌, refl, ℕ, length, Option, None, Some, Result, Err, Ok}
-use Rattle.std.proofs.Common.{ap, ◌∙◌}
+use Rattle.std.specs.Prelude.{List, [], ◌∷◌, ◌≡◌, ℕ, length, Option, Result, Err, Ok}
 use Rattle.spec.specs.declared.Refusal.{Refusal}
-use Rattle.spec.specs.Refusal.{number_of, checked}
+use Rattle.spec.specs.Refusal.{checked}
 use Rattle.spec.specs.Network.{Network}
 use Rattle.spec.specs.Tree.{pairs_of}
 use Rattle.spec.specs.Improve as spec

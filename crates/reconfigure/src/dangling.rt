@@ -17,6 +17,7 @@ fn one_more(x: u8) -> u8
 }
 
 // Counts the indices of a row.
+// Stays: a `for` over the row; a chain with `for_each` would need a closure with a contract that lends `tally`.
 fn tally_row(tally: &mut [u8], row: &[u16])
     ensures { tally.new ≡ tallied tally.old row.now }
 {
@@ -48,13 +49,15 @@ fn strike(tally: &mut [u8], row: &[u16])
 }
 
 // Is one of the counts 1.
+// Stays: `any` of the counts, no search by hand.
 fn any_one(tally: &[u8]) -> bool
     ensures { result ≡ anyb (λ x. eqb x 1) tally.now }
 {
     tally.iter().any(|&x| x == 1)
 }
 
-// Does just one of `n` leaves name one of the `m` indices that is none of the `o` outputs.
+/// Does just one of `n` leaves name one of the `m` indices that is none of the `o` outputs.
+// Stays: asks no more of its callers than lists that fit, which need not be an accepted network's; `is_dangling` is for one.
 pub fn dangling<'a>(
     m: usize,
     n: usize,

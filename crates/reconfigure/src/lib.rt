@@ -10,6 +10,9 @@ ghost use Rattle.network.specs.Views.{net_in};
 ghost use Rattle.pricing.specs.Sums.{work_sum};
 ghost use Rattle.reconfigure.specs.Answers.{rest_call, last_call, Follows, Improving};
 
+// Stays: `network: &Accepted, search: &Search`, `tree: &mut [u16], ws: &mut [u64]`: what each entry is handed by its caller, of several owners; a struct would be filled for one call.
+// Stays: `most ≤ 255`: a bound of a number, so that the counts of all passes fit a word; a type of its own would be unwrapped at each use.
+
 pub mod dangling; // dangling.rt: indices that just one leaf names
 
 use network::{Accepted, Network};
@@ -98,6 +101,7 @@ fn improve_valid(
 }
 
 // The answer where the workspace is long enough. On a refusal only `ws` is written.
+// Stays: the tree is checked and written here; the C interface lends it as a flat list, two children a node.
 fn improve_tree(
     network: &Accepted,
     search: &Search,
@@ -148,6 +152,7 @@ pub fn improve_of(
 /// Improves the tree of a network where it stands: passes over its nodes, each node's region rebuilt where a cheaper tree over its members is found,
 /// until a pass rebuilds nothing. The answer has how many rebuilds there were and how many splits were tried. More than 255 passes are `TooLarge`; then
 /// the network's own refusals come, then those of `improve_of`. On a refusal the tree is unchanged.
+// Stays: the tree is checked and written here; the C interface lends it as a flat list, two children a node.
 pub fn improve(
     network: &Network,
     ask: &Ask,

@@ -18,6 +18,12 @@ use moves::{Bipartition, Pass};
 use partition::{Hypergraph, Layout};
 use queue::Entry;
 
+// Stays: `entries: &mut [Entry], draws: &mut Draws`: the entries are a local list of one pass and the draws go on behind it; a struct of the two would be made for each pass and taken apart at each call below.
+// Stays: `layout: &Layout, split: &mut Bipartition`: the one is read and the other written, by methods of `Bipartition` that are given the layout; a struct of both would be taken apart at each of these calls.
+// Stays: `IsSameLoan split.old split.new`: what each step that is lent the partition promises; no value could hold it, as it is of two times.
+// Stays: `Site split.old.words.now (place_of layout.now)`, `Site words.old (place_of layout.now)`: one fact of the words and of a layout that is lent beside them; `Layout` holds no words, so it can't say it.
+// Stays: `Split split.old.words.now layout.now.sides (length layout.now.vertex_weights.now) split.old.part.now`: likewise of the partition's lists and of the layout's numbers, and a pass breaks and restores it.
+
 /// Enters every vertex.
 fn enter_all(layout: &Layout, split: &Bipartition, entries: &mut [Entry], draws: &mut Draws)
     requires { Placed split.now.words.now (place_of layout.now) }
@@ -60,7 +66,7 @@ fn one_pass(layout: &Layout, split: &mut Bipartition, most_weight: f64, draws: &
         peak: 0,
         over: false,
     };
-    fmpass::run_pass(
+    fmpass::run_on(
         layout,
         split,
         most_weight,

@@ -6,6 +6,8 @@ ghost use Rattle.std.specs.Prelude.{◌≤◌};
 mod records; // records.rt: the steps as records
 mod words; // words.rt: the listing
 
+// Stays: `out: &mut W, file: &[u8]`: where a call writes and what it reads, lent for that call alone.
+
 use std::io::{self, Read, Write};
 
 // One case: the listing and the records, or the number of the refusal.
@@ -19,6 +21,8 @@ fn price<W: Write>(out: &mut W, file: &[u8]) -> io::Result<()> {
     writeln!(out)
 }
 
+// A case in what is stored: how many bytes, and the bytes of a file.
+// Stays: this program's own case; the loop over the cases is `stored::each_case` for every program.
 fn next_case<R: Read, W: Write>(input: &mut R, out: &mut W) -> io::Result<()> {
     let mut bytes = [0u8; 131072];
     let count = stored::next_number(input)?;
@@ -27,6 +31,7 @@ fn next_case<R: Read, W: Write>(input: &mut R, out: &mut W) -> io::Result<()> {
 }
 
 // An input that ends early goes on with zeros. A read or a write that fails ends the run, and is not told.
+// Stays: a program's `main` hands its own case to the one loop of `stored`.
 fn main(rt: HostRuntime) {
     let mut input = stored::with_zeros(rt.reader());
     let mut out = io::writer(&rt);

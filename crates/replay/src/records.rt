@@ -1,4 +1,6 @@
 // A stored file priced with its steps as records, in words.
+// Stays: `out: &mut W, file: &[u8]`, `out: &mut W, network: &Network`: where a call writes and what it reads, lent for that call alone.
+
 use netfile::Given;
 use network::Network;
 use pricing::list::PriceList;
@@ -45,6 +47,7 @@ fn price<W: Write>(out: &mut W, network: &Network, flags: &[u8], tree: &[u16]) -
 }
 
 // The tree that was found in a file, under the flags that were.
+// Stays: the reader has put both into arrays of its caller, the tree as a flat list.
 fn price_given<W: Write>(
     out: &mut W,
     network: &Network,

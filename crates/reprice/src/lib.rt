@@ -7,11 +7,15 @@ ghost use Rattle.network.specs.Views.{net_in};
 ghost use Rattle.pricing.specs.Lists.{IsSameLoan};
 ghost use Rattle.reprice.specs.Held.{PriceHeld, IsAsLong};
 
+// Stays: `2048 ≤ length words.old`: a length that is stated once, in the contract that the caller reads; a slice's type has none.
+// Stays: `IsAsLong list.old list.new`, `IsSameLoan list.old list.new`: said of what a call hands back; a type says what holds of a value, not what a call left as it was.
+
 use network::Accepted;
 use pricing::list::PriceList;
 use walk::Tree;
 
 /// Prices the tree `kids` of a network with the given flags, in sets of four words: each node's set, size bits and work bits. `words` is worked in.
+// Stays: the C interface lends flags, tree and workspace apart, the tree as a flat list, which improvement has just written.
 pub fn price(
     words: &mut [u64],
     list: &mut PriceList,

@@ -13,7 +13,7 @@ use Rattle.laws.specs.GreedySlots.{pair_at}
 use Rattle.laws.specs.ListLaws.{memb_at}
 use Rattle.cells.specs.Loop.{turns}
 use Rattle.scores.specs.Scores.{key_at}
-use Rattle.rows.specs.Rows.{pairless, some_pair, none_pairless, entry_key, bettered, least_of, better_refused, better_over, better_none, better_first, better_sooner, better_later}
+use Rattle.rows.specs.Rows.{entry_key, bettered, least_of, better_refused, better_over, better_none, better_first, better_sooner, better_later}
 use Rattle.rows.specs.Pairs.{key_is}
 use Rattle.rows.specs.Known.{all_more, code_slot, code_bits, code_none, Share, TooWide, Before, NotBefore, code_for, RowTo, none, over, pair}
 
@@ -70,11 +70,8 @@ module _ (N : Network) (n₀ : ℕ) (tree : ℕ → Tree) (L rows sizes : List �
           abbrev key : Key
           key = key_of N (pair_at n₀ tree (slot i) y)
 
-          n₁ : pairless (get_or rows y 0) ≡ false
-          n₁ = some_pair (get_or rows y 0)
-              (λ z. code_none (merged_size N (pair_at n₀ tree (slot i) y)) (slot i) (small (slot i) (memb_at L i (omega arith))) 0 (omega arith) (sym e ∙ z))
-              (λ z. code_none (merged_size N (pair_at n₀ tree (slot i) y)) (slot i) (small (slot i) (memb_at L i (omega arith))) 2 (omega arith) (sym e ∙ z))
-              (λ z. code_none (merged_size N (pair_at n₀ tree (slot i) y)) (slot i) (small (slot i) (memb_at L i (omega arith))) 3 (omega arith) (sym e ∙ z))
+          n₁ : get_or rows y 0 ≡ 256 → ⊥
+          n₁ z = code_none (merged_size N (pair_at n₀ tree (slot i) y)) (slot i) (small (slot i) (memb_at L i (omega arith))) 0 (omega arith) (sym e ∙ z)
 
           n₂ : get_or rows y 0 ≡ 257 → ⊥
           n₂ z = code_none (merged_size N (pair_at n₀ tree (slot i) y)) (slot i) (small (slot i) (memb_at L i (omega arith))) 1 (omega arith) (sym e ∙ z)
@@ -106,11 +103,11 @@ module _ (N : Network) (n₀ : ℕ) (tree : ℕ → Tree) (L rows sizes : List �
       step : (best : ℕ) → LeastTo k best → RowTo N n₀ tree L k k (get_or rows y 0) → LeastTo (suc k) (next best)
       step best (too_broad e i q l d s w) r = too_broad (sym (better_refused sizes n₀ rows best y e) ∙ e) i q l (omega arith) s w
       step best (nothing e f) (none z h) =
-          nothing (sym (better_none sizes n₀ rows best y (λ q. omega arith) (λ q. omega arith) (none_pairless _ z)) ∙ e) (all_more (λ p. (j : ℕ) → j < p → Share N n₀ tree (slot j) (slot p) ≡ false) k f h)
+          nothing (sym (better_none sizes n₀ rows best y (λ q. omega arith) (λ q. omega arith) z) ∙ e) (all_more (λ p. (j : ℕ) → j < p → Share N n₀ tree (slot j) (slot p) ≡ false) k f h)
       step best (nothing e f) (over z i l s w) = too_broad (sym (better_over sizes n₀ rows best y (λ q. omega arith) z)) i k l (omega arith) s w
       step best (nothing e f) (pair i z l s w h) = step_first i z l s w h best e f
       step best (at i q e l d z s w f) (none z' h) =
-          at i q (sym (better_none sizes n₀ rows best y (no_code q (omega arith) best e).1 (λ q. omega arith) (none_pairless _ z')) ∙ e) l (omega arith) z s w
+          at i q (sym (better_none sizes n₀ rows best y (no_code q (omega arith) best e).1 (λ q. omega arith) z') ∙ e) l (omega arith) z s w
           (all_more (λ p. (j : ℕ) → j < p → NoneBefore i q j p) k f (λ j g r. clash r (h j g)))
       step best (at i q e l d z s w f) (over z' i' l' s' w') =
           too_broad (sym (better_over sizes n₀ rows best y (no_code q (omega arith) best e).1 z')) i' k l' (omega arith) s' w'

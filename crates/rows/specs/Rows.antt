@@ -5,7 +5,7 @@ use Rattle.std.specs.Prelude.{Bool, true, false, not, ◌&&◌, ◌||◌, ◌≡
 use Rattle.std.proofs.Math.Bool.{cond}
 use Rattle.std.proofs.Math.Path.{refl, ap}
 use Rattle.std.proofs.Common.{sym, ◌∙◌, arith, length-set}
-use Prim.Native.Nat.{ℕ, zero, suc, ◌+◌, ◌-◌, ◌≤◌, ◌/◌, ◌%◌}
+use Prim.Native.Nat.{ℕ, zero, suc, ◌+◌, ◌-◌, ◌≤◌, ◌<◌, ◌/◌, ◌%◌}
 use Rattle.std.proofs.Math.ListN.{set}
 use borrow.Author.Tests.{eq-eqb, ne_eqb}
 use Rattle.spec.specs.Greedy.{Key, key_before}
@@ -51,16 +51,6 @@ module _ (ws : List ℕ) (W : ℕ) (wt sizes : List ℕ) (n₀ : ℕ) (live : Li
   all_length rows zero = refl
   all_length rows (suc m) = renewed_length m (turns renewed rows m) ∙ all_length rows m
 
--- does an entry name no pair: there is none, it is yet to be found, or the table is gone
-abbrev pub pairless : ℕ → Bool
-pairless r = eqb r 256 || (eqb r 258 || eqb r 259)
-
-pub none_pairless : (r : ℕ) → r ≡ 256 → pairless r ≡ true
-none_pairless r e = ap (λ (b : Bool). b || (eqb r 258 || eqb r 259)) (eq-eqb r 256 e)
-
-pub some_pair : (r : ℕ) → (r ≡ 256 → ⊥) → (r ≡ 258 → ⊥) → (r ≡ 259 → ⊥) → pairless r ≡ false
-some_pair r a b c = rw (ne_eqb r 256 a, ne_eqb r 258 b, ne_eqb r 259 c)
-
 module _ (sizes : List ℕ) (n₀ : ℕ) (rows : List ℕ) where
   -- the key of the pair that an entry names
   abbrev pub entry_key : ℕ → Key
@@ -71,7 +61,7 @@ module _ (sizes : List ℕ) (n₀ : ℕ) (rows : List ℕ) where
   bettered best y =
       cond (eqb best 257) best
       (cond (eqb (get_or rows y 0) 257) 257
-      (cond (pairless (get_or rows y 0)) best
+      (cond (eqb (get_or rows y 0) 256) best
       (cond (eqb best 256 || key_before (entry_key y) (entry_key best)) y best)))
 
   -- it is one of the two, or 257
@@ -80,7 +70,7 @@ module _ (sizes : List ℕ) (n₀ : ℕ) (rows : List ℕ) where
   bettered_one P best y p q r =
       by_cases (eqb best 257) (λ e. rw e p)
       (λ e. by_cases (eqb (get_or rows y 0) 257) (λ d. rw (e, d) r)
-      (λ d. by_cases (pairless (get_or rows y 0)) (λ f. rw (e, d, f) p)
+      (λ d. by_cases (eqb (get_or rows y 0) 256) (λ f. rw (e, d, f) p)
       (λ f. by_cases (eqb best 256 || key_before (entry_key y) (entry_key best)) (λ h. rw (e, d, f, h) q) (λ h. rw (e, d, f, h) p))))
 
   -- of the first m live tables
@@ -98,41 +88,76 @@ module _ (sizes : List ℕ) (n₀ : ℕ) (rows : List ℕ) where
       better_over e = rw (ne_eqb best 257 n, eq-eqb (get_or rows y 0) 257 e)
 
       module _ (l : get_or rows y 0 ≡ 257 → ⊥) where
-        pub better_none : pairless (get_or rows y 0) ≡ true → best ≡ bettered best y
+        pub better_none : get_or rows y 0 ≡ 256 → best ≡ bettered best y
         unfolding bettered
-        better_none e = rw (ne_eqb best 257 n, ne_eqb (get_or rows y 0) 257 l, e)
+        better_none e = rw (ne_eqb best 257 n, ne_eqb (get_or rows y 0) 257 l, eq-eqb (get_or rows y 0) 256 e)
 
-        module _ (f : pairless (get_or rows y 0) ≡ false) where
+        module _ (f : get_or rows y 0 ≡ 256 → ⊥) where
           pub better_first : best ≡ 256 → y ≡ bettered best y
           unfolding bettered
-          better_first e = rw (ne_eqb best 257 n, ne_eqb (get_or rows y 0) 257 l, f, eq-eqb best 256 e)
+          better_first e = rw (ne_eqb best 257 n, ne_eqb (get_or rows y 0) 257 l, ne_eqb (get_or rows y 0) 256 f, eq-eqb best 256 e)
 
           pub better_sooner : (best ≡ 256 → ⊥) → key_before (entry_key y) (entry_key best) ≡ true → y ≡ bettered best y
           unfolding bettered
-          better_sooner g k = rw (ne_eqb best 257 n, ne_eqb (get_or rows y 0) 257 l, f, ne_eqb best 256 g, k)
+          better_sooner g k = rw (ne_eqb best 257 n, ne_eqb (get_or rows y 0) 257 l, ne_eqb (get_or rows y 0) 256 f, ne_eqb best 256 g, k)
 
           pub better_later : (best ≡ 256 → ⊥) → key_before (entry_key y) (entry_key best) ≡ false → best ≡ bettered best y
           unfolding bettered
-          better_later g k = rw (ne_eqb best 257 n, ne_eqb (get_or rows y 0) 257 l, f, ne_eqb best 256 g, k)
+          better_later g k = rw (ne_eqb best 257 n, ne_eqb (get_or rows y 0) 257 l, ne_eqb (get_or rows y 0) 256 f, ne_eqb best 256 g, k)
+
+-- does an entry say nothing of a pair yet: it is yet to be found, or the table is gone
+abbrev pub unfound : ℕ → Bool
+unfound r = eqb r 258 || eqb r 259
+
+pub not_unfound : (r : ℕ) → (r ≡ 258 → ⊥) → (r ≡ 259 → ⊥) → unfound r ≡ false
+not_unfound r a b = rw (ne_eqb r 258 a, ne_eqb r 259 b)
+
+-- the same as `bettered` and `least_of`, but that a table whose entry says nothing yet is passed over
+module _ (sizes : List ℕ) (n₀ : ℕ) (rows : List ℕ) where
+  unfoldable pub bettered_found : ℕ → ℕ → ℕ
+  bettered_found best y = cond (unfound (get_or rows y 0)) best (bettered sizes n₀ rows best y)
+
+  unfoldable pub least_found : List ℕ → ℕ → ℕ
+  least_found live m = turns (λ k best. bettered_found best (get_or live k 0)) 256 m
+
+  pub found_passed : (best y : ℕ) → unfound (get_or rows y 0) ≡ true → best ≡ bettered_found best y
+  unfolding bettered_found
+  found_passed best y e = rw e
+
+  pub found_looked : (best y : ℕ) → unfound (get_or rows y 0) ≡ false → bettered sizes n₀ rows best y ≡ bettered_found best y
+  unfolding bettered_found
+  found_looked best y e = rw e
+
+  found_refused : (best y : ℕ) → best ≡ 257 → best ≡ bettered_found best y
+  found_refused best y e =
+      by_cases (unfound (get_or rows y 0)) (λ u. found_passed best y u) (λ u. better_refused sizes n₀ rows best y e ∙ found_looked best y u)
 
   -- ---- as the loop finds it ----
 
-  pub least_none : (live : List ℕ) → 256 ≡ least_of live 0
-  unfolding least_of turns
+  pub least_none : (live : List ℕ) → 256 ≡ least_found live 0
+  unfolding least_found turns
   least_none live = refl
 
   module _ (live : List ℕ) where
-    pub least_next : (k best b y : ℕ) → best ≡ least_of live k → y ≡ get_or live k 0 → b ≡ bettered best y → b ≡ least_of live (k + 1)
-    unfolding least_of
-    least_next k best b y e ey eb = turns_next _ _ k e (eb ∙ ap (bettered best) ey)
+    pub least_next : (k best b y : ℕ) → best ≡ least_found live k → y ≡ get_or live k 0 → b ≡ bettered_found best y → b ≡ least_found live (k + 1)
+    unfolding least_found
+    least_next k best b y e ey eb = turns_next _ _ k e (eb ∙ ap (bettered_found best) ey)
 
     -- once a pair is too wide, it stays so
-    sticks : (k d : ℕ) → least_of live k ≡ 257 → least_of live (d + k) ≡ 257
-    unfolding least_of turns
-    sticks k zero e = ap (least_of live) (let z : 0 + k ≡ k = omega arith in z) ∙ e
+    sticks : (k d : ℕ) → least_found live k ≡ 257 → least_found live (d + k) ≡ 257
+    unfolding least_found turns
+    sticks k zero e = ap (least_found live) (let z : 0 + k ≡ k = omega arith in z) ∙ e
     sticks k (suc d) e =
-        ap (least_of live) (let z : suc d + k ≡ suc (d + k) = omega arith in z)
-        ∙ sym (better_refused (least_of live (d + k)) (get_or live (d + k) 0) (sticks k d e)) ∙ sticks k d e
+        ap (least_found live) (let z : suc d + k ≡ suc (d + k) = omega arith in z)
+        ∙ sym (found_refused (least_found live (d + k)) (get_or live (d + k) 0) (sticks k d e)) ∙ sticks k d e
 
-    pub least_sticks : (j k : ℕ) → j ≤ k → least_of live j ≡ 257 → 257 ≡ least_of live k
-    least_sticks j k h e = sym (sticks j (k - j) e) ∙ ap (least_of live) (let z : (k - j) + j ≡ k = omega arith in z)
+    pub least_sticks : (j k : ℕ) → j ≤ k → least_found live j ≡ 257 → 257 ≡ least_found live k
+    least_sticks j k h e = sym (sticks j (k - j) e) ∙ ap (least_found live) (let z : (k - j) + j ≡ k = omega arith in z)
+
+    -- where each entry says something, it is the least of all
+    pub least_same : (m : ℕ) → ((k : ℕ) → k < m → unfound (get_or rows (get_or live k 0) 0) ≡ false) → least_found live m ≡ least_of sizes n₀ rows live m
+    unfolding least_found least_of turns
+    least_same zero h = refl
+    least_same (suc m) h =
+        sym (found_looked (least_found live m) (get_or live m 0) (h m (omega arith)))
+        ∙ ap (λ (b : ℕ). bettered sizes n₀ rows b (get_or live m 0)) (least_same m (λ k b. h k (omega arith)))

@@ -12,7 +12,7 @@ use Rattle.tables.specs.declared.partner.Partner.{Partner}
 use Rattle.tables.specs.declared.Row.{Row}
 use Rattle.tables.specs.declared.Row.TheVariants.{Stale, Gone, TooWide, Found}
 use Rattle.tables.specs.Lists.{Lists, with_rows, code, coded, coded_at, coded_length, pair_slot, pair_size, pair_apart}
-use Rattle.rows.specs.Rows.{stands, renewed, renewed_all, pairless, some_pair, entry_key, bettered, better_over, better_none, better_first, better_sooner, better_later}
+use Rattle.rows.specs.Rows.{stands, renewed, renewed_all, unfound, not_unfound, entry_key, bettered, bettered_found, found_passed, found_looked, better_over, better_none, better_first, better_sooner, better_later}
 use Rattle.laws.specs.Booleans.{by_cases}
 
 -- the table of a choice: 256 where there is none, 257 where a pair is too wide
@@ -48,14 +48,14 @@ stands_past rows l r h b n =
     let e : r % 512 ≡ r = omega arith in
     rw (ne_eqb r 258 n, e, get_or-eq_default rows 0 (let z : length rows ≤ r = omega arith in z))
 
-module _ (wt : List ℕ) (n₀ : ℕ) where
+module _ (W : ℕ) (wt : List ℕ) (n₀ : ℕ) where
   -- the entry of the k-th live table, found anew where it does not stand
   abbrev pub renewed_in : ℕ → Lists → Lists
-  renewed_in k M = with_rows M (renewed M.words 4 wt M.sizes n₀ M.live k M.rows)
+  renewed_in k M = with_rows M (renewed M.words W wt M.sizes n₀ M.live k M.rows)
 
   -- those of the first m
   abbrev pub all_renewed : Lists → ℕ → Lists
-  all_renewed M m = with_rows M (renewed_all M.words 4 wt M.sizes n₀ M.live M.rows m)
+  all_renewed M m = with_rows M (renewed_all M.words W wt M.sizes n₀ M.live M.rows m)
 
   pub none_renewed : (M : Lists) → M ≡ all_renewed M 0
   unfolding renewed_all turns
@@ -65,7 +65,7 @@ module _ (wt : List ℕ) (n₀ : ℕ) where
   unfolding renewed_all
   next_renewed M K K' k e q =
       q ∙ ap (renewed_in k) e
-      ∙ ap (with_rows M) (sym (turns_more (renewed M.words 4 wt M.sizes n₀ M.live) M.rows k))
+      ∙ ap (with_rows M) (sym (turns_more (renewed M.words W wt M.sizes n₀ M.live) M.rows k))
 
 -- ---- rows as they are read ----
 
@@ -111,35 +111,42 @@ module _ (sizes : List ℕ) (n₀ : ℕ) (rows : List ℕ) where
       ap₂ (λ (x m : ℕ). key_at sizes n₀ x b.table m) (ap (λ (r : ℕ). r % 512) e ∙ pair_slot b.pair) (ap (λ (r : ℕ). r / 512) e ∙ pair_size b.pair)
 
   module _ (best : Option Choice) (y : ℕ) where
-    pub takes_wide : get_or rows y 0 ≡ 257 → 257 ≡ bettered sizes n₀ rows (choice_code best) y
-    takes_wide e = better_over sizes n₀ rows (choice_code best) y (choice_apart best) e
+    pub takes_wide : get_or rows y 0 ≡ 257 → 257 ≡ bettered_found sizes n₀ rows (choice_code best) y
+    takes_wide e =
+        better_over sizes n₀ rows (choice_code best) y (choice_apart best) e
+        ∙ found_looked sizes n₀ rows (choice_code best) y (not_unfound (get_or rows y 0) (λ z. omega (arith, e)) (λ z. omega (arith, e)))
 
-    pub takes_none : (get_or rows y 0 ≡ 257 → ⊥) → pairless (get_or rows y 0) ≡ true → choice_code best ≡ bettered sizes n₀ rows (choice_code best) y
-    takes_none n e = better_none sizes n₀ rows (choice_code best) y (choice_apart best) n e
+    pub takes_none : get_or rows y 0 ≡ 256 → choice_code best ≡ bettered_found sizes n₀ rows (choice_code best) y
+    takes_none e =
+        better_none sizes n₀ rows (choice_code best) y (choice_apart best) (λ z. omega (arith, e)) e
+        ∙ found_looked sizes n₀ rows (choice_code best) y (not_unfound (get_or rows y 0) (λ z. omega (arith, e)) (λ z. omega (arith, e)))
 
-  pub takes_pair : (best : Option Choice) → Named rows best → (next : Choice) → get_or rows next.table 0 ≡ next.pair.bits * 512 + next.pair.other
-      → (sooner_of sizes n₀ best next).table ≡ bettered sizes n₀ rows (choice_code best) next.table
-  takes_pair None u next e =
-      better_first sizes n₀ rows 256 next.table (λ z. omega arith) (λ z. pair_apart next.pair 1 (omega arith) (sym e ∙ z)) (names_pair next e) refl
-    where
-      names_pair : (b : Choice) → get_or rows b.table 0 ≡ b.pair.bits * 512 + b.pair.other → pairless (get_or rows b.table 0) ≡ false
-      names_pair b h =
-          some_pair (get_or rows b.table 0) (λ z. pair_apart b.pair 0 (omega arith) (sym h ∙ z)) (λ z. pair_apart b.pair 2 (omega arith) (sym h ∙ z)) (λ z. pair_apart b.pair 3 (omega arith) (sym h ∙ z))
-  takes_pair (Some b) u next e =
-      by_cases (key_before (choice_key sizes n₀ next) (choice_key sizes n₀ b))
-      (λ t. ap (λ (c : Bool). (cond c next b).table) t
-      ∙ better_sooner sizes n₀ rows b.table next.table (λ z. omega (arith, b.slot)) wide some (λ z. omega (arith, b.slot)) (keys ∙ t))
-      (λ t. ap (λ (c : Bool). (cond c next b).table) t
-      ∙ better_later sizes n₀ rows b.table next.table (λ z. omega (arith, b.slot)) wide some (λ z. omega (arith, b.slot)) (keys ∙ t))
-    where
-      wide : get_or rows next.table 0 ≡ 257 → ⊥
-      wide z = pair_apart next.pair 1 (omega arith) (sym e ∙ z)
+    pub takes_passed : unfound (get_or rows y 0) ≡ true → choice_code best ≡ bettered_found sizes n₀ rows (choice_code best) y
+    takes_passed e = found_passed sizes n₀ rows (choice_code best) y e
 
-      some : pairless (get_or rows next.table 0) ≡ false
-      some = some_pair (get_or rows next.table 0) (λ z. pair_apart next.pair 0 (omega arith) (sym e ∙ z)) (λ z. pair_apart next.pair 2 (omega arith) (sym e ∙ z)) (λ z. pair_apart next.pair 3 (omega arith) (sym e ∙ z))
+  module _ (next : Choice) (e : get_or rows next.table 0 ≡ next.pair.bits * 512 + next.pair.other) where
+    pair_is_none : get_or rows next.table 0 ≡ 256 → ⊥
+    pair_is_none z = pair_apart next.pair 0 (omega arith) (sym e ∙ z)
 
-      keys : key_before (entry_key sizes n₀ rows next.table) (entry_key sizes n₀ rows b.table) ≡ key_before (choice_key sizes n₀ next) (choice_key sizes n₀ b)
-      keys = ap₂ key_before (entry_is next e) (entry_is b u)
+    pair_is_wide : get_or rows next.table 0 ≡ 257 → ⊥
+    pair_is_wide z = pair_apart next.pair 1 (omega arith) (sym e ∙ z)
+
+    pair_looked : (best : ℕ) → bettered sizes n₀ rows best next.table ≡ bettered_found sizes n₀ rows best next.table
+    pair_looked best =
+        found_looked sizes n₀ rows best next.table
+        (not_unfound (get_or rows next.table 0) (λ z. pair_apart next.pair 2 (omega arith) (sym e ∙ z)) (λ z. pair_apart next.pair 3 (omega arith) (sym e ∙ z)))
+
+    pub takes_pair : (best : Option Choice) → Named rows best → (sooner_of sizes n₀ best next).table ≡ bettered_found sizes n₀ rows (choice_code best) next.table
+    takes_pair None u = better_first sizes n₀ rows 256 next.table (λ z. omega arith) pair_is_wide pair_is_none refl ∙ pair_looked 256
+    takes_pair (Some b) u =
+        by_cases (key_before (choice_key sizes n₀ next) (choice_key sizes n₀ b))
+        (λ t. ap (λ (c : Bool). (cond c next b).table) t
+        ∙ better_sooner sizes n₀ rows b.table next.table (λ z. omega (arith, b.slot)) pair_is_wide pair_is_none (λ z. omega (arith, b.slot)) (keys ∙ t) ∙ pair_looked b.table)
+        (λ t. ap (λ (c : Bool). (cond c next b).table) t
+        ∙ better_later sizes n₀ rows b.table next.table (λ z. omega (arith, b.slot)) pair_is_wide pair_is_none (λ z. omega (arith, b.slot)) (keys ∙ t) ∙ pair_looked b.table)
+      where
+        keys : key_before (entry_key sizes n₀ rows next.table) (entry_key sizes n₀ rows b.table) ≡ key_before (choice_key sizes n₀ next) (choice_key sizes n₀ b)
+        keys = ap₂ key_before (entry_is next e) (entry_is b u)
 
   pub takes_named : (best : Option Choice) → Named rows best → (next : Choice) → get_or rows next.table 0 ≡ next.pair.bits * 512 + next.pair.other
       → Named rows (Some (sooner_of sizes n₀ best next))

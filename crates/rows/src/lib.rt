@@ -1,11 +1,14 @@
 #![tactic(auto)]
 //! The least pair of each live table with those before it, kept from turn to turn by slot, and the least of all.
-ghost use Rattle.std.specs.Prelude.{◌≡◌, ◌<◌, eqb, length, IfErr};
+ghost use Rattle.std.specs.Prelude.{false, ◌≡◌, ◌<◌, ℕ, eqb, get_or, length, IfErr};
 ghost use Rattle.spec.specs.declared.Refusal.TheVariants.{TableTooWide};
 ghost use Rattle.tables.specs.Lists.{code, least_code, coded, lists_in, IsSameLoan};
-ghost use Rattle.rows.specs.Rows.{stands, bettered, least_of};
+ghost use Rattle.scores.specs.Scores.{row_of};
+ghost use Rattle.rows.specs.Rows.{stands, unfound, bettered_found, least_found, least_of};
 ghost use Rattle.rows.specs.Within.{choice_code, chosen_code, Named, NamedIn, sooner_of, renewed_in, all_renewed};
 
+// Stays: `IfErr result (λ r. r ≡ TableTooWide)`: which refusal it is; an error type of its own would be made a `Refusal` by each caller.
+// Stays: `IsSameLoan tables.old tables.new`: the words are lent in the tables, and only a clause can say that the same come back.
 use spec::Refusal;
 use tables::Row;
 use tables::partner::{Choice, Partner};
@@ -20,7 +23,7 @@ fn is_gone(row: Row) -> bool
 }
 
 /// Does a row stand: it was found, and its other table is not gone.
-fn still(tables: &Tables, row: Row) -> bool
+fn still<const W: usize>(tables: &Tables<W>, row: Row) -> bool
     ensures { result ≡ stands (coded tables.now.rows) (code row) }
 {
     match row {
@@ -42,26 +45,36 @@ fn known(found: Result<Option<Partner>, Refusal>) -> Row
     }
 }
 
+/// The row of slot `y`: its least pair with the first `k` live tables.
+// Stays: no search by hand: the scan of `scores`, over the tables' lists.
+fn find<const W: usize>(tables: &Tables<W>, scoring: &Scoring, k: usize, y: usize) -> Row
+    requires { y < 1048576 }
+    ensures { code result ≡ row_of tables.now.sets.now W scoring.now.weights.now tables.now.sizes scoring.now.start tables.now.live.items k y }
+{
+    let live = tables.live.as_slice();
+    known(scores::row::<W>(&*tables.sets, &tables.sizes, scoring, live, k, y))
+}
+
 /// Finds the row of the `k`-th live table anew, where it does not stand.
-fn renew(tables: &mut Tables, scoring: &Scoring, k: usize)
+fn renew<const W: usize>(tables: &mut Tables<W>, scoring: &Scoring, k: usize)
     requires { k < length tables.old.live.items }
     ensures same { IsSameLoan tables.old tables.new }
-    ensures lists { lists_in tables.new ≡ renewed_in scoring.now.weights.now scoring.now.start k (lists_in tables.old) }
+    ensures lists { lists_in tables.new ≡ renewed_in W scoring.now.weights.now scoring.now.start k (lists_in tables.old) }
 {
-    let y = tables.live.as_slice()[k];
-    let row = tables.rows[usize::from(y)];
+    let slot = usize::from(tables.live.as_slice()[k]);
+    let row = tables.rows[slot];
     if still(&*tables, row) {
         return;
     }
-    let found = known(scores::row(&*tables, scoring, k, y));
-    tables.rows[usize::from(y)] = found;
+    let found = find(&*tables, scoring, k, slot);
+    tables.rows[slot] = found;
 }
 
 /// The same for all live tables.
 // Stays: the loop lends the same words to each turn; `for_each` with a closure over them is no plainer.
-pub fn renew_all(tables: &mut Tables, scoring: &Scoring)
+pub fn renew_all<const W: usize>(tables: &mut Tables<W>, scoring: &Scoring)
     ensures same { IsSameLoan tables.old tables.new }
-    ensures lists { lists_in tables.new ≡ all_renewed scoring.now.weights.now scoring.now.start (lists_in tables.old) (length tables.old.live.items) }
+    ensures lists { lists_in tables.new ≡ all_renewed W scoring.now.weights.now scoring.now.start (lists_in tables.old) (length tables.old.live.items) }
 {
     // Stays: the turn writes the rows of the tables whose live list would be borrowed.
     for k in 0..tables.live.len() {
@@ -70,15 +83,15 @@ pub fn renew_all(tables: &mut Tables, scoring: &Scoring)
 }
 
 /// Of the least pair so far and one more, the one that comes first.
-// Stays: the order is that of scores, which are made from the tables, so the values themselves have none.
-fn sooner(tables: &Tables, scoring: &Scoring, best: Option<Choice>, next: Choice) -> Choice
-    ensures { result ≡ sooner_of tables.now.sizes scoring.now.start best next }
+// Stays: the order is that of scores, which are made from the sizes, so the values themselves have none.
+fn sooner(sizes: &[u16], start: usize, best: Option<Choice>, next: Choice) -> Choice
+    ensures { result ≡ sooner_of sizes.now start best next }
 {
     let Some(known) = best else {
         return next;
     };
-    let score = scores::score(tables, scoring, next.table, next.pair);
-    if score.is_before(scores::score(tables, scoring, known.table, known.pair)) {
+    let score = scores::score(sizes, start, usize::from(next.table), next.pair);
+    if score.is_before(scores::score(sizes, start, usize::from(known.table), known.pair)) {
         next
     } else {
         known
@@ -87,13 +100,13 @@ fn sooner(tables: &Tables, scoring: &Scoring, best: Option<Choice>, next: Choice
 
 /// The least pair so far, when that of `y` is looked at too; refused where it is too wide.
 // Stays: no order of two values: it looks at one more row, and may refuse.
-fn better(
-    tables: &Tables,
+fn better<const W: usize>(
+    tables: &Tables<W>,
     scoring: &Scoring,
     best: Option<Choice>,
     y: u8,
 ) -> Result<Option<Choice>, Refusal>
-    ensures least { Named (coded tables.now.rows) best → chosen_code result ≡ bettered tables.now.sizes scoring.now.start (coded tables.now.rows) (choice_code best) y }
+    ensures least { Named (coded tables.now.rows) best → chosen_code result ≡ bettered_found tables.now.sizes scoring.now.start (coded tables.now.rows) (choice_code best) y }
     ensures named { Named (coded tables.now.rows) best → NamedIn (coded tables.now.rows) result }
     ensures why { IfErr result (λ r. r ≡ TableTooWide) }
 {
@@ -102,7 +115,7 @@ fn better(
         Row::TooWide => Err(Refusal::TableTooWide),
         Row::Found(Some(pair)) => {
             let next = Choice { table: y, pair };
-            Ok(Some(sooner(tables, scoring, best, next)))
+            Ok(Some(sooner(&tables.sizes, scoring.start, best, next)))
         }
         Row::Found(None) => Ok(best),
         Row::Gone => Ok(best),
@@ -111,8 +124,13 @@ fn better(
 }
 
 /// The least pair of all live tables, none where no two share an index; refused where a pair is too wide.
-pub fn least(tables: &Tables, scoring: &Scoring) -> Result<Option<Choice>, Refusal>
-    ensures least { chosen_code result ≡ least_of tables.now.sizes scoring.now.start (coded tables.now.rows) tables.now.live.items (length tables.now.live.items) }
+pub fn least<const W: usize>(
+    tables: &Tables<W>,
+    scoring: &Scoring,
+) -> Result<Option<Choice>, Refusal>
+    ensures least { chosen_code result ≡ least_found tables.now.sizes scoring.now.start (coded tables.now.rows) tables.now.live.items (length tables.now.live.items) }
+    ensures of_all { ((k : ℕ) → k < length tables.now.live.items → unfound (get_or (coded tables.now.rows) (get_or tables.now.live.items k 0) 0) ≡ false)
+        → chosen_code result ≡ least_of tables.now.sizes scoring.now.start (coded tables.now.rows) tables.now.live.items (length tables.now.live.items) }
     ensures named { NamedIn (coded tables.now.rows) result }
     ensures why { IfErr result (λ r. r ≡ TableTooWide) }
 {

@@ -1,17 +1,21 @@
 #![tactic(auto)]
 //! Scores of pairs of live tables, and the least pair of a table with those before it.
-ghost use Rattle.std.specs.Prelude.{◌≡◌, ◌+◌, ◌^◌, ◌<◌, ◌≤◌, length, get_or, Some};
+ghost use Rattle.std.specs.Prelude.{◌≡◌, ◌+◌, ◌^◌, ◌<◌, ◌≤◌, get_or, Some, IfErr};
+ghost use Rattle.spec.specs.declared.Refusal.TheVariants.{TableTooWide};
 ghost use Rattle.tables.specs.Lists.{pair_code, least_code};
 ghost use Rattle.tables.specs.Scores.{Scores};
 ghost use Rattle.scores.specs.Scores.{power, first_of, second_of, key_at, over_forty, lesser_of, considered, row_of};
 
+// Stays: `W ≤ 16`, `y < 1048576`: bounds of numbers, so that a place fits a machine word; a type of its own would be unwrapped at each use.
+// Stays: `x: usize, y: usize`: two slots of one list, the lower first.
+// Stays: `IfErr result (λ r. r ≡ TableTooWide)`: which refusal it is; an error type of its own would be made a `Refusal` by each caller.
 use spec::Refusal;
 use tables::Score;
 use tables::partner::Partner;
 use tables::scoring::Scoring;
-use tables::slotted::Tables;
 
 /// 2 to the power `bits`, and 0 above 40.
+// Stays: no twin: the other function of this name takes no number above 52, and has no 0 for one.
 fn exp2(bits: usize) -> u64
     ensures { (result ≡ power bits) × (result ≤ 2 ^ 40) }
 {
@@ -19,61 +23,57 @@ fn exp2(bits: usize) -> u64
 }
 
 /// What a merge of slots `x` and `y` takes.
-fn takes(tables: &Tables, x: u8, y: u8) -> u64
-    ensures { (result ≡ power (get_or tables.now.sizes x 0) + power (get_or tables.now.sizes y 0)) × (result ≤ 2 ^ 41) }
+fn takes(sizes: &[u16], x: usize, y: usize) -> u64
+    ensures { (result ≡ power (get_or sizes.now x 0) + power (get_or sizes.now y 0)) × (result ≤ 2 ^ 41) }
 {
-    let left = usize::from(tables.sizes[usize::from(x)]);
-    let right = usize::from(tables.sizes[usize::from(y)]);
+    let left = usize::from(cells::get_or(sizes, x, 0));
+    let right = usize::from(cells::get_or(sizes, y, 0));
     exp2(left) + exp2(right)
 }
 
 /// Of two slots, the lower first, the one that goes first in their pair: `start` slots are the start's.
-pub fn first(start: usize, x: u8, y: u8) -> u8
+// Stays: no search, and no twin: a rule of greedy's order, which a function of the same shape elsewhere does not state.
+pub fn first(start: usize, x: usize, y: usize) -> usize
     ensures { result ≡ first_of start x y }
 {
-    if usize::from(y) < start { x } else { y }
+    if y < start { x } else { y }
 }
 
 /// The one that goes second.
-pub fn second(start: usize, x: u8, y: u8) -> u8
+pub fn second(start: usize, x: usize, y: usize) -> usize
     ensures { result ≡ second_of start x y }
 {
-    if usize::from(y) < start { y } else { x }
+    if y < start { y } else { x }
 }
 
 /// The place in greedy's order of the pair of `y` with another table.
-pub fn score(tables: &Tables, scoring: &Scoring, y: u8, pair: Partner) -> Score
-    ensures { Scores (key_at tables.now.sizes scoring.now.start pair.other y pair.bits) result }
+pub fn score(sizes: &[u16], start: usize, y: usize, pair: Partner) -> Score
+    ensures { Scores (key_at sizes.now start pair.other y pair.bits) result }
 {
+    let x = usize::from(pair.other);
     Score {
-        raised: exp2(usize::from(pair.bits)) + (1 << 41) - takes(tables, pair.other, y),
-        first: first(scoring.start, pair.other, y),
-        second: second(scoring.start, pair.other, y),
+        raised: exp2(usize::from(pair.bits)) + (1 << 41) - takes(sizes, x, y),
+        first: first(start, x, y),
+        second: second(start, x, y),
     }
 }
 
 /// Has one of two slots more than 40 bits.
-fn too_wide(tables: &Tables, x: u8, y: u8) -> bool
-    ensures { result ≡ over_forty tables.now.sizes x y }
+fn too_wide(sizes: &[u16], x: usize, y: usize) -> bool
+    ensures { result ≡ over_forty sizes.now x y }
 {
-    40 < tables.sizes[usize::from(x)] || 40 < tables.sizes[usize::from(y)]
+    40 < cells::get_or(sizes, x, 0) || 40 < cells::get_or(sizes, y, 0)
 }
 
 /// Of the least pair of `y` so far and one more, the one that comes first.
-// Stays: the order is that of scores, which are made from the tables, so the values themselves have none.
-fn lesser(
-    tables: &Tables,
-    scoring: &Scoring,
-    y: u8,
-    best: Option<Partner>,
-    pair: Partner,
-) -> Partner
-    ensures { pair_code (Some result) ≡ lesser_of tables.now.sizes scoring.now.start y (pair_code best) pair.other pair.bits }
+// Stays: the order is that of scores, which are made from the sizes, so the values themselves have none.
+fn lesser(sizes: &[u16], start: usize, y: usize, best: Option<Partner>, pair: Partner) -> Partner
+    ensures { pair_code (Some result) ≡ lesser_of sizes.now start y (pair_code best) pair.other pair.bits }
 {
     let Some(known) = best else {
         return pair;
     };
-    if score(tables, scoring, y, pair).is_before(score(tables, scoring, y, known)) {
+    if score(sizes, start, y, pair).is_before(score(sizes, start, y, known)) {
         pair
     } else {
         known
@@ -81,25 +81,27 @@ fn lesser(
 }
 
 /// The least pair of `y` so far, when its pair with `x` is looked at too; refused where that is too wide.
-fn consider(
-    tables: &Tables,
+fn consider<const W: usize>(
+    sets: &[u64],
+    sizes: &[u16],
     scoring: &Scoring,
-    y: u8,
+    y: usize,
     best: Option<Partner>,
     x: u8,
 ) -> Result<Option<Partner>, Refusal>
-    ensures { least_code result ≡ considered tables.now.sets.now 4 scoring.now.weights.now tables.now.sizes scoring.now.start y (pair_code best) x }
+    requires { (W ≤ 16) × (y < 1048576) }
+    ensures least { least_code result ≡ considered sets.now W scoring.now.weights.now sizes.now scoring.now.start y (pair_code best) x }
+    ensures why { IfErr result (λ r. r ≡ TableTooWide) }
 {
     let left = usize::from(x);
-    let right = usize::from(y);
-    if !live::share(&*tables.sets, left, right) {
+    if !live::share::<W>(sets, left, y) {
         return Ok(best);
     }
-    let bits = live::merged_size(&*tables.sets, left, right, scoring.weights);
+    let bits = live::merged_size::<W>(sets, left, y, scoring.weights);
     if 40 < bits {
         return Err(Refusal::TableTooWide);
     }
-    if too_wide(tables, x, y) {
+    if too_wide(sizes, left, y) {
         return Err(Refusal::TableTooWide);
     }
     let pair = Partner {
@@ -107,17 +109,27 @@ fn consider(
         // Stays: the number fits by what is known here; `try_from` would add a failure that never comes.
         bits: bits as u8,
     };
-    Ok(Some(lesser(tables, scoring, y, best, pair)))
+    Ok(Some(lesser(sizes, scoring.start, y, best, pair)))
 }
 
-/// The least pair of `y` with the first `k` of the live tables; refused where such a pair is too wide.
-pub fn row(tables: &Tables, scoring: &Scoring, k: usize, y: u8) -> Result<Option<Partner>, Refusal>
-    requires { k ≤ length tables.now.live.items }
-    ensures { least_code result ≡ row_of tables.now.sets.now 4 scoring.now.weights.now tables.now.sizes scoring.now.start tables.now.live.items k y }
+/// The least pair of `y` with the first `k` slots of a list; past its end the slot is 0. Refused where such a pair is too wide.
+// Stays: asks no more of its callers than lists that fit: `k` may be more than the list has.
+pub fn row<const W: usize>(
+    sets: &[u64],
+    sizes: &[u16],
+    scoring: &Scoring,
+    live: &[u8],
+    k: usize,
+    y: usize,
+) -> Result<Option<Partner>, Refusal>
+    requires { (W ≤ 16) × (y < 1048576) }
+    ensures least { least_code result ≡ row_of sets.now W scoring.now.weights.now sizes.now scoring.now.start live.now k y }
+    ensures why { IfErr result (λ r. r ≡ TableTooWide) }
 {
     let mut best = None;
-    for &x in &tables.live.as_slice()[..k] {
-        best = consider(tables, scoring, y, best, x)?;
+    for i in 0..k {
+        let x = cells::get_or(live, i, 0);
+        best = consider::<W>(sets, sizes, scoring, y, best, x)?;
     }
     Ok(best)
 }

@@ -6,6 +6,9 @@ ghost use Rattle.network.specs.Views.{net_in};
 ghost use Rattle.slicetree.specs.Once.{Once};
 ghost use Rattle.slicetree.specs.Choices.{Stands, Taken, ChoicesMade};
 
+// Stays: `6144 ≤ length words.old`, `dangling (net_in network.now) ≡ false`: of the words and the network that callers lend; a struct of the two would be made for this one loop.
+// Stays: `Stands (net_in network.now) (leaf_count (net_in network.now)) kids.old flags.old`: of tree and flags, which each turn writes, so that it is proved anew after each.
+
 use network::Accepted;
 use pricing::list::PriceList;
 use reconf::{Search, Visited};
@@ -45,6 +48,7 @@ fn improve_once(
 }
 
 // A turn on the tree as it stands: flags one index more, unless slicing is done, and improves the tree; what the pass did.
+// Stays: the tree is written here; the C interface lends it as a flat list, two children a node.
 fn turn(
     network: &Accepted,
     kids: &mut [u16],

@@ -100,6 +100,7 @@ fn slice_with(
 }
 
 // The answer where the lists are long enough. On a refusal only `words` is written.
+// Stays: the tree is checked and written here; the C interface lends it as a flat list, two children a node.
 fn slice_in(
     network: &Accepted,
     improving: bool,
@@ -146,6 +147,7 @@ pub fn slice_of(
 /// Slices the tree of a network until its widest table is within a target or no candidate is left: one flag an index, to the front of `flags`.
 /// With improvement a pass over the tree, where it stands, follows each choice; without it the tree stays. The answer has how many subtrees were
 /// rebuilt, and how many splits were tried. The network's own refusals come first, then those of `slice_of`.
+// Stays: the tree is checked and written here; the C interface lends it as a flat list, two children a node.
 pub fn slice(
     network: &Network,
     improving: bool,

@@ -1,9 +1,10 @@
 -- An amount at the set digits of a word, one after another, and at the indices of two slots, word by word. Assumes nothing.
-use Rattle.std.specs.Prelude.{◌≡◌, refl, List, [], ◌∷◌, ℕ, ◌+◌, ◌-◌, ◌*◌, ◌^◌, ◌≤◌, ◌<◌, length, get_or, set}
+use Rattle.std.specs.Prelude.{◌≡◌, refl, List, [], ◌∷◌, map, ℕ, zero, suc, ◌+◌, ◌-◌, ◌*◌, ◌≤◌, ◌<◌, length, get_or, set}
 use Rattle.std.proofs.Common.{sym, ◌∙◌, ap, arith, length-set, get_or-set_same, get_or-set_other, eq-eqb, ne_eqb}
 use Rattle.std.proofs.Math.Decide.{ℕ_discrete}
 use Rattle.std.specs.Int.Bits.{bit_or}
-use Rattle.spec.specs.Lists.{keep, range}
+use Rattle.spec.specs.Lists.{keep, from, range}
+use Rattle.laws.specs.Booleans.{by_cases}
 use Rattle.laws.specs.ListLaws.{sum_append}
 use Rattle.bits.specs.Digits.{digit}
 use Rattle.bits.specs.Lowest.{places}
@@ -20,6 +21,27 @@ pub record Adding (a : ℕ) (old : List ℕ) (base x : ℕ) (new : List ℕ) (le
 
 pub adding_none : {a : ℕ} {old : List ℕ} {base x : ℕ} {left : List ℕ} → left ≡ places base 64 x → Adding a old base x old left
 adding_none {a} {old} e = record { same = refl; at = λ j. ap (λ (l : List ℕ). get_or old j 0 + share a j l) e }
+
+-- the places of a word's digits, from b on, are those from 0 on and b
+places_more : (b k x : ℕ) → map (λ i. b + i) (places 0 k x) ≡ places b k x
+unfolding places
+places_more b k x =
+    let z : b + 0 ≡ b = omega arith in
+    go 0 k ∙ ap (λ n. keep (λ j. digit x (j - b)) (from n k)) z
+  where
+    go : (o k : ℕ) → map (λ i. b + i) (keep (λ j. digit x (j - 0)) (from o k)) ≡ keep (λ j. digit x (j - b)) (from (b + o) k)
+    go o zero = refl
+    go o (suc k) =
+        let e : b + o - b ≡ o - 0 = omega arith in
+        let f : suc (b + o) ≡ b + suc o = omega arith in
+        let r : map (λ i. b + i) (keep (λ j. digit x (j - 0)) (from (suc o) k)) ≡ keep (λ j. digit x (j - b)) (from (suc (b + o)) k) =
+        go (suc o) k ∙ ap (λ n. keep (λ j. digit x (j - b)) (from n k)) (sym f) in
+        by_cases (digit x (o - 0))
+        (λ h. rw (e, h) (ap (λ l. (b + o) ∷ l) r))
+        (λ h. rw (e, h) r)
+
+pub places_from : (b x : ℕ) → map (λ i. b + i) (places 0 64 x) ≡ places b 64 x
+places_from b x = places_more b 64 x
 
 pub share_word : (a j base x : ℕ) → share a j (places base 64 x) ≤ a
 unfolding places

@@ -8,12 +8,15 @@ ghost use Rattle.slots.specs.Weigh.{Light, open_weight};
 ghost use Rattle.slicing.specs.Best.{rank_from, considered, best_of, candidate_in, rank_in};
 ghost use Rattle.slicing.specs.Promise.{Rankable, Chosen};
 
+// Stays: `network: &Accepted, flags: &[u8]`: the network is the caller's, and the flags are written between the turns of slicing.
+
 use crate::tallies;
 use network::Accepted;
 use pricing::list::PriceList;
 use std::cmp::Reverse;
 use walk::Tree;
 
+// Stays: three numbers of an index, whose derived order needs these fields in this order; no other type ranks by it.
 /// What ranks an index. The derived order is that in which indices are sliced: the lower cost first, then the larger size, then the lower index.
 #[derive(Clone, Copy, Debug, PartialEq, Eq, PartialOrd, Ord)]
 pub struct Rank {

@@ -4,13 +4,16 @@ ghost use Rattle.std.specs.Int.Bits.{bit_and, bit_or, and_lt};
 ghost use Rattle.std.proofs.lemmas.Nat.{or_lt};
 ghost use Rattle.bits.specs.Digits.{Digitwise, bit_diff, or_digits, and_digits, diff_digits, diff_lt};
 ghost use Rattle.slots.specs.Slots.{held, with_set};
+// Stays: `words: &mut [u64], w: usize`, `w: usize, a: usize`, `a: usize, b: usize`, `b: usize, c: usize`: a slot is named by its list, width and number; three of one list are read and written in one call, so none can hold the list.
+// Stays: `w ≤ 16`, `a < 1048576`, `b < 1048576`, `c < 1048576`: bounds of numbers, so that a place fits a machine word.
 
 /// An operation on words that works digit by digit: what it does to words, and to the question whether an index is in a set.
-pub(crate) trait WordOp {
+pub trait WordOp {
     ghost op: { ℕ → ℕ → ℕ };
 
     ghost on_members: { Bool → Bool → Bool };
 
+    // Stays: the trait's method and its impls are one name; each impl is one operation on words.
     fn apply(x: u64, y: u64) -> u64
         ensures { result ≡ op x y };
 
@@ -20,13 +23,13 @@ pub(crate) trait WordOp {
 }
 
 /// In one set or the other.
-pub(crate) struct Either;
+pub struct Either;
 
 /// In both sets.
-pub(crate) struct Both;
+pub struct Both;
 
 /// In the first set and not in the second.
-pub(crate) struct Without;
+pub struct Without;
 
 impl WordOp for Either {
     ghost op = { bit_or };
@@ -37,6 +40,8 @@ impl WordOp for Either {
 
     ghost fits = { λ x y. or_lt 64 x y };
 
+    // Stays: the trait's method and its impls are one name; each impl is one operation on words.
+    #[inline]
     fn apply(x: u64, y: u64) -> u64 {
         x | y
     }
@@ -51,6 +56,8 @@ impl WordOp for Both {
 
     ghost fits = { λ x y. and_lt 64 x y };
 
+    // Stays: the trait's method and its impls are one name; each impl is one operation on words.
+    #[inline]
     fn apply(x: u64, y: u64) -> u64 {
         x & y
     }
@@ -65,13 +72,16 @@ impl WordOp for Without {
 
     ghost fits = { λ x y h g. diff_lt 64 x y h };
 
+    // Stays: the trait's method and its impls are one name; each impl is one operation on words.
+    #[inline]
     fn apply(x: u64, y: u64) -> u64 {
         x ^ (x & y)
     }
 }
 
 /// Makes slot `c` what the operation makes of slots `a` and `b`.
-pub(crate) fn combine<O: WordOp>(words: &mut [u64], w: usize, a: usize, b: usize, c: usize)
+// Stays: by word of three slots of one list, read as 0 past its end and not written there.
+pub fn combine<O: WordOp>(words: &mut [u64], w: usize, a: usize, b: usize, c: usize)
     requires { (w ≤ 16) × (a < 1048576) × (b < 1048576) × (c < 1048576) }
     ensures { words.new ≡ with_set words.old w c (λ j. O.on_members (held words.old w a j) (held words.old w b j)) }
 {

@@ -8,68 +8,77 @@ ghost use Rattle.slots.specs.Weigh.{Light};
 ghost use Rattle.start.specs.Leaves.{with_other, outside_to, with_leaves, with_sizes, start_words, put_all};
 
 use arrayvec::ArrayVec;
-use tables::{OUTSIDE, TWICE, WIDTH};
+use tables::{OUTSIDE, TWICE};
 
 /// Makes slot `s` the set of the indices of leaf `v`.
-fn put_leaf(sets: &mut [u64], s: usize, counts: &[u8], legs: &[u16], v: usize)
-    requires { (s < 1048576) × (v < 65536) }
-    ensures { sets.new ≡ with_set sets.old 4 s (leaf_has counts.now legs.now v) }
+// Stays: the network's lists are lent apart, so no check of them is asked for; the bounds are those of places in memory.
+fn put_leaf<const W: usize>(sets: &mut [u64], s: usize, counts: &[u8], legs: &[u16], v: usize)
+    requires { (W ≤ 16) × (s < 1048576) × (v < 65536) }
+    ensures { sets.new ≡ with_set sets.old W s (leaf_has counts.now legs.now v) }
 {
     let count = usize::from(cells::get_or(counts, v, 0));
-    slots::empty(sets, WIDTH, s);
+    slots::empty(sets, W, s);
     // Stays: 32 places for each leaf is the layout of the list of legs in the C interface.
-    slots::put_all(sets, WIDTH, s, legs, v * 32, count);
+    slots::put_all(sets, W, s, legs, v * 32, count);
 }
 
 /// Makes slots 0, 1, .. the sets of the indices of some leaves.
 // Stays: the loop lends the same words to each turn; `for_each` with a closure over them is no plainer.
-fn put_leaves(sets: &mut [u64], counts: &[u8], legs: &[u16], leaves: &[u16])
-    requires { length leaves.now < 1048576 }
-    ensures { sets.new ≡ with_leaves 4 counts.now legs.now leaves.now sets.old (length leaves.now) }
+fn put_leaves<const W: usize>(sets: &mut [u64], counts: &[u8], legs: &[u16], leaves: &[u16])
+    requires { (W ≤ 16) × (length leaves.now < 1048576) }
+    ensures { sets.new ≡ with_leaves W counts.now legs.now leaves.now sets.old (length leaves.now) }
 {
     for (i, &v) in leaves.iter().enumerate() {
-        put_leaf(sets, i, counts, legs, usize::from(v));
+        put_leaf::<W>(sets, i, counts, legs, usize::from(v));
     }
 }
 
 /// Makes slot `s` the set of the numbers of a list.
-fn put_list(sets: &mut [u64], s: usize, list: &[u16])
-    requires { (s < 1048576) × (length list.now ≤ 4294967296) }
-    ensures { sets.new ≡ with_set sets.old 4 s (among list.now 0 (length list.now)) }
+// Stays: the bounds are those of places in memory.
+fn put_list<const W: usize>(sets: &mut [u64], s: usize, list: &[u16])
+    requires { (W ≤ 16) × (s < 1048576) × (length list.now ≤ 4294967296) }
+    ensures { sets.new ≡ with_set sets.old W s (among list.now 0 (length list.now)) }
 {
-    slots::empty(sets, WIDTH, s);
-    slots::put_all(sets, WIDTH, s, list, 0, list.len());
+    slots::empty(sets, W, s);
+    slots::put_all(sets, W, s, list, 0, list.len());
 }
 
 /// Puts the indices of leaf `l` into slot 256, unless slot 257 has `l`.
-fn put_other(sets: &mut [u64], counts: &[u8], legs: &[u16], l: usize)
-    requires { l < 65536 }
-    ensures { sets.new ≡ with_other 4 counts.now legs.now sets.old l }
+// Stays: the network's lists are lent apart, so no check of them is asked for; the bounds are those of places in memory.
+fn put_other<const W: usize>(sets: &mut [u64], counts: &[u8], legs: &[u16], l: usize)
+    requires { (W ≤ 16) × (l < 65536) }
+    ensures { sets.new ≡ with_other W counts.now legs.now sets.old l }
 {
-    if slots::has(sets, WIDTH, TWICE, l) {
+    if slots::has(sets, W, TWICE, l) {
         return;
     }
     let count = usize::from(cells::get_or(counts, l, 0));
     // Stays: 32 places for each leaf is the layout of the list of legs in the C interface.
-    slots::put_all(sets, WIDTH, OUTSIDE, legs, l * 32, count);
+    slots::put_all(sets, W, OUTSIDE, legs, l * 32, count);
 }
 
 /// Makes slot 256 the set of the outputs and of the indices of the leaves, of `n` in all, that slot 257 has not.
 // Stays: `n` is how many leaves are planned over, and the promise does not ask that the list of counts has as many.
-fn put_outside(sets: &mut [u64], n: usize, counts: &[u8], legs: &[u16], outputs: &[u16])
-    requires { (n ≤ 256) × (length outputs.now ≤ 4294967296) }
-    ensures { sets.new ≡ outside_to 4 counts.now legs.now sets.old outputs.now n }
+fn put_outside<const W: usize>(
+    sets: &mut [u64],
+    n: usize,
+    counts: &[u8],
+    legs: &[u16],
+    outputs: &[u16],
+)
+    requires { (W ≤ 16) × (n ≤ W * 64) × (length outputs.now ≤ 4294967296) }
+    ensures { sets.new ≡ outside_to W counts.now legs.now sets.old outputs.now n }
 {
-    put_list(sets, OUTSIDE, outputs);
+    put_list::<W>(sets, OUTSIDE, outputs);
     // Stays: a walk over numbers, since the leaves that are not planned stand in no list to iterate.
     for l in 0..n {
-        put_other(sets, counts, legs, l);
+        put_other::<W>(sets, counts, legs, l);
     }
 }
 
 /// Makes the sets of the start: those of some leaves in slots 0, 1, .., and what stays whatever is merged. Leaves are `n` in all.
 // Stays: `n` is how many leaves are planned over, and the promise does not ask that the list of counts has as many.
-pub fn put_sets(
+pub fn put_sets<const W: usize>(
     sets: &mut [u64],
     n: usize,
     counts: &[u8],
@@ -77,23 +86,23 @@ pub fn put_sets(
     outputs: &[u16],
     leaves: &[u16],
 )
-    requires { (n ≤ 256) × (length outputs.now ≤ 4294967296) × (length leaves.now < 1048576) }
-    ensures { sets.new ≡ start_words 4 n counts.now legs.now outputs.now leaves.now sets.old }
+    requires { (W ≤ 16) × (n ≤ W * 64) × (length outputs.now ≤ 4294967296) × (length leaves.now < 1048576) }
+    ensures { sets.new ≡ start_words W n counts.now legs.now outputs.now leaves.now sets.old }
 {
-    put_list(sets, TWICE, leaves);
-    put_outside(sets, n, counts, legs, outputs);
-    put_leaves(sets, counts, legs, leaves);
+    put_list::<W>(sets, TWICE, leaves);
+    put_outside::<W>(sets, n, counts, legs, outputs);
+    put_leaves::<W>(sets, counts, legs, leaves);
 }
 
 /// Puts the size bits of the first `n` slots down.
 // Stays: the loop lends the same words to each turn; `for_each` with a closure over them is no plainer.
-pub fn weigh_all(sizes: &mut [u16], sets: &[u64], weights: &[u8], n: usize)
-    requires { (n < 1048576) × Light weights.now }
-    ensures { sizes.new ≡ with_sizes sets.now 4 weights.now sizes.old n }
+pub fn weigh_all<const W: usize>(sizes: &mut [u16], sets: &[u64], weights: &[u8], n: usize)
+    requires { (W ≤ 16) × (n < 1048576) × Light weights.now }
+    ensures { sizes.new ≡ with_sizes sets.now W weights.now sizes.old n }
 {
     // Stays: the promise is total where `sizes` is shorter than `n`, and the number is itself the slot that is weighed.
     for i in 0..n {
-        let bits = slots::weigh(sets, WIDTH, i, i, weights, &weights[..0]);
+        let bits = slots::weigh(sets, W, i, i, weights, &weights[..0]);
         // Stays: the number fits by what is known here; `try_from` would add a failure that never comes.
         cells::put(sizes, i, bits as u16);
     }

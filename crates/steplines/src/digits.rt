@@ -5,9 +5,11 @@ ghost use Rattle.steplines.specs.Puts.{Puts};
 
 use itoa::Buffer;
 
+// Stays: `length word.now ≤ 64`: a bound of a number, so that a sum fits a machine word; a type of words would be made at each call.
+
 // Stays: `write!` answers a Result that no line here can fail with; the calls answer nothing, and their contracts name the bytes.
-/// A lent buffer that is written from its front, and how many bytes were put so far. Past the buffer's end nothing is written, and the count
-/// goes on: a buffer that is shorter than the text gets the text's front.
+/// A lent buffer that is written from a place on, and the place behind what was put so far. Past the buffer's end nothing is written, and
+/// the place goes on: a buffer that is shorter than the text gets the text's front.
 #[derive(Drop)]
 pub struct Text<'a> {
     buffer: &'a mut [u8],
@@ -15,17 +17,26 @@ pub struct Text<'a> {
 }
 
 impl<'a> Text<'a> {
-    /// A text of no bytes yet.
+    /// A text of no bytes yet, at the buffer's front.
     pub fn new(buffer: &'a mut [u8]) -> Text<'a>
         ensures same { result.buffer.ghost_name ≡ buffer.entry.ghost_name }
         ensures bytes { result.buffer.now ≡ buffer.old }
         ensures empty { result.len ≡ 0 }
     {
-        Text { buffer, len: 0 }
+        Text::at(buffer, 0)
     }
 
-    // Stays: a count that goes on past the buffer's end, which is no list's length.
-    /// How many bytes the text has, those past the buffer's end too.
+    /// A text that begins at a place of the buffer. What stands before it stays.
+    pub fn at(buffer: &'a mut [u8], place: usize) -> Text<'a>
+        ensures same { result.buffer.ghost_name ≡ buffer.entry.ghost_name }
+        ensures bytes { result.buffer.now ≡ buffer.old }
+        ensures begun { result.len ≡ place }
+    {
+        Text { buffer, len: place }
+    }
+
+    // Stays: a place that goes on past the buffer's end, which is no list's length.
+    /// How many bytes there are up to the text's end, those past the buffer's end too.
     #[inline]
     pub fn len(&self) -> usize
         ensures { result ≡ self.now.len }

@@ -8,6 +8,9 @@ ghost use Rattle.steplines.specs.Steps.{step_from, steps_from};
 
 use crate::digits::Text;
 
+// Stays: `text.old.len ≤ 1000000`: a bound of a number, so that a sum fits a machine word; a type of bounded texts would be unwrapped at each line.
+// Stays: `&self, text: &mut Text`: each is a value of its own; a listing that held its text could be printed once only.
+
 // Stays: steps and sets are of two lengths, and no place of one goes with a place of the other.
 /// What pricing handed out of a plan's steps, in lists that are lent: the flat listing, five numbers a step (node, left, right, work bits,
 /// size bits), and the nodes' index sets, `width` words each, of a network of so many indices.
@@ -34,24 +37,24 @@ fn put_numbers(text: &mut Text, list: &[u16])
 }
 
 impl<'a> Listed<'a> {
+    // Stays: std has no From of usize for u64.
     // Puts the index j, if it is in node v's set.
-    fn put_member(&self, text: &mut Text, v: usize, j: usize)
-        requires { (text.old.len ≤ 1048576) × (v < 65536) }
+    fn put_member(&self, text: &mut Text, v: u16, j: usize)
+        requires { text.old.len ≤ 1048576 }
         ensures { Puts text.old (spaced (cond (held self.now.sets.now self.now.width v j) (j ∷ []) [])) text.new }
     {
-        // Stays: std has no From of usize for u64.
-        if slots::has(self.sets, self.width, v, j) {
+        if slots::has(self.sets, self.width, usize::from(v), j) {
             text.put_number(j as u64);
         }
     }
 
+    // Stays: an index is what is tested and printed, and the method that would do it is the one here.
     // Puts the indices in node v's set, rising.
-    fn put_kept(&self, text: &mut Text, v: usize)
-        requires { (text.old.len ≤ 1000000) × (v < 65536) }
+    fn put_kept(&self, text: &mut Text, v: u16)
+        requires { text.old.len ≤ 1000000 }
         ensures written { Puts text.old (spaced (keep (held self.now.sets.now self.now.width v) (range self.now.index_count))) text.new }
         ensures short { text.new.len ≤ text.old.len + 914 }
     {
-        // Stays: an index is what is tested and printed
         for j in 0..self.index_count {
             self.put_member(text, v, j);
         }
@@ -84,17 +87,17 @@ impl<'a> Listed<'a> {
         let node = row[0];
         text.put_word(b"step");
         put_numbers(text, &row);
-        self.put_kept(text, usize::from(node));
+        self.put_kept(text, node);
         text.put_word(b"\n");
     }
 
+    // Stays: a step is read by its number, and 0 past the listing's end, where an iterator of rows would end.
     /// Puts the lines of the first n steps.
     pub fn put_steps(&self, text: &mut Text, n: usize)
         requires { (text.old.len ≤ 1000) × (n ≤ 127) }
         ensures written { Puts text.old (lines_of step_line (steps_from self.now.steps.now self.now.sets.now self.now.width self.now.index_count n)) text.new }
         ensures short { text.new.len ≤ text.old.len + n * 949 }
     {
-        // Stays: a step is read by its number, and 0 past the listing's end
         for k in 0..n {
             self.put_step(text, k);
         }

@@ -7,11 +7,14 @@ ghost use Rattle.pricing.specs.Lists.{IsSameLoan};
 ghost use Rattle.steps.specs.Records.{step_at, steps_of};
 ghost use Rattle.steps.specs.Promise.{StepRecords};
 
+// Stays: `IsSameLoan list.old list.new`: said of what a call hands back; a type says what holds of a value, not what a call left as it was.
+
 use network::Network;
 use pricing::list::PriceList;
 use spec::{Prices, Refusal};
 
 /// A step: its node, the children, work bits and size bits.
+// Stays: the five numbers of a step; `partition::Place` has five numbers too, which say where a hypergraph lies.
 #[derive(Clone, Copy, Debug, PartialEq, Eq)]
 pub struct Step {
     pub node: u16,
@@ -49,6 +52,7 @@ pub fn put_steps(steps: &mut [Step], numbers: &[u16], count: usize)
 
 /// Prices the tree `kids` of a network with the given flags, as `cost::tree_cost` does, and hands its steps out as records: one for each internal
 /// node, in step order.
+// Stays: the C interface lends flags, tree, workspace, price list and records apart, the tree as a flat list.
 pub fn step_records(
     network: &Network,
     flags: &[u8],
@@ -66,7 +70,7 @@ pub fn step_records(
         return Err(Refusal::ShortBuffer);
     }
     let mut numbers = [0u16; 635];
-    let prices = cost::cost_of(&network, flags, kids, ws, list, &mut numbers)?;
+    let prices = cost::price_accepted(&network, flags, kids, ws, list, &mut numbers)?;
     put_steps(steps, &numbers, inner);
     Ok(prices)
 }

@@ -1,24 +1,56 @@
 #![tactic(auto)]
 // What the programs that run stored cases share: numbers, files and trees that are read, lists that are written.
-ghost use Rattle.std.specs.Prelude.{◌≤◌, length, IfOk};
+ghost use Rattle.std.specs.Prelude.{◌<◌, ◌≤◌, length, IfOk};
 
 pub mod sums; // sums.rt: sums over lists
 
 use byteorder::{BigEndian, ReadBytesExt};
 use network::Network;
-use std::io::{self, Chain, Read, Repeat, Write};
+use std::io::{self, Chain, Input, Print, Printer, Read, Repeat, Write};
+
+// Stays: `input: &mut R, out: &mut W`: what a run reads and what it writes; most functions below a case take one of them.
 
 /// An input that goes on with zeros where its bytes end.
 pub fn with_zeros<R: Read>(input: R) -> Chain<R, Repeat> {
     input.chain(io::repeat(0))
 }
 
+/// Runs a program on what its host reads and prints. An input that ends early goes on with zeros. A read or a write that fails ends the run,
+/// and is not told.
+pub fn run<
+    'a,
+    H: Input + Print,
+    F: Fn(&mut Chain<H::Reader, Repeat>, &mut Printer<'a, H>) -> io::Result<()>,
+>(host: &'a H, all: F)
+    requires { F.IsAlwaysCallable all }
+{
+    let mut input = with_zeros(host.reader());
+    let mut out = io::writer(host);
+    let _ = all(&mut input, &mut out);
+}
+
+/// Runs a program of one kind of cases in the same way: the input says how many there are.
+pub fn run_cases<
+    'a,
+    H: Input + Print,
+    F: Fn(&mut Chain<H::Reader, Repeat>, &mut Printer<'a, H>) -> io::Result<()>,
+>(host: &'a H, case: F)
+    requires { F.IsAlwaysCallable case }
+{
+    let mut input = with_zeros(host.reader());
+    let mut out = io::writer(host);
+    let _ = each_case(&mut input, &mut out, case);
+}
+
 // Stays: std has no From of u32 for usize.
 /// A number of four bytes, high byte first.
-pub fn next_number<R: Read>(input: &mut R) -> io::Result<usize> {
+pub fn next_number<R: Read>(input: &mut R) -> io::Result<usize>
+    ensures { IfOk result (λ n. n < 4294967296) }
+{
     Ok(input.read_u32::<BigEndian>()? as usize)
 }
 
+// Stays: the input says how many cases follow; there is no list of them.
 /// Reads how many cases there are, and runs each.
 pub fn each_case<R: Read, W: Write, F: Fn(&mut R, &mut W) -> io::Result<()>>(
     input: &mut R,
@@ -52,14 +84,13 @@ pub fn next_network<R: Read, W: Write>(input: &mut R, out: &mut W) -> io::Result
     let count = next_number(input)?;
     let n = take(input, &mut bytes, count)?;
     match netfile::read_network(&bytes[..n], &mut network, &mut tree, &mut flags) {
-        Ok(_) => Ok(network),
-        Err(refusal) => {
-            write!(out, "file refused {}", refusal.number())?;
-            Ok(Network::empty())
-        }
+        Ok(_) => {}
+        Err(refusal) => write!(out, "file refused {}", refusal.number())?,
     }
+    Ok(network)
 }
 
+// Stays: the tree is read here, and checked where it is used.
 /// A number of places, or as many as there is room for, then so many bytes as a tree, to the front of a list; returns how many.
 pub fn next_tree<R: Read>(input: &mut R, tree: &mut [u16]) -> io::Result<usize>
     ensures { IfOk result (λ n. n ≤ length tree.new) }

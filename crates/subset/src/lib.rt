@@ -8,7 +8,12 @@ ghost use Rattle.subset.specs.Rooms.{HasRoom};
 ghost use Rattle.subset.specs.Search.{found_at, searched_in, tried_in};
 ghost use Rattle.subset.specs.Walk.{infinite, finite, step_cost, considered, cheapest_of, entry_of, Filled, best_at, split_at};
 
-use masks::{Masks, Tables};
+// Stays: `l: usize, r: usize`: two masks that are joined, each a place by itself; no list goes with them.
+// Stays: `1 ≤ m`, `m ≤ 12`: bounds of a number, so that there is a mask, and all fit 4,096 places; a type of its own would be unwrapped at each use.
+// Stays: `128 ≤ length weights.now`, `Light weights.now`: asked where `Planes` are made, which hold from there on what the weights are.
+// Stays: `length cost.now ≡ length tables.now.bits.now`: the costs are written while the tables are read, so they are no field of these.
+
+use masks::{Masks, Planes, Tables};
 
 // From 2^53 on a cost counts as infinite.
 // Stays: the walk compares one word a mask; an `Option` would be two in its inner loop.
@@ -34,7 +39,7 @@ fn below(bits: u64, room: u64) -> bool
 // tables is too large already.
 fn step_cost(tables: &Tables, l: usize, r: usize, room: u64) -> Option<u64>
     requires { (1 ≤ l) × (l < length tables.now.bits.now) × (1 ≤ r) × (r < length tables.now.bits.now) × (room ≤ infinite) }
-    ensures { result ≡ step_cost (work_at tables.now.kept.now tables.now.weights.now l r) room }
+    ensures { result ≡ step_cost (work_at tables.now.kept.now tables.now.planes.weights.now l r) room }
 {
     if !below(tables.bits(l), room) {
         return None;
@@ -61,7 +66,7 @@ fn consider(
     was: Choice,
 ) -> Choice
     requires { (length cost.now ≡ length tables.now.bits.now) × (1 ≤ low) × (low + rest < length tables.now.bits.now) × (sub < rest) × (was.cost ≤ infinite) }
-    ensures { result ≡ considered (best_at cost.now) (work_at tables.now.kept.now tables.now.weights.now) low rest sub was }
+    ensures { result ≡ considered (best_at cost.now) (work_at tables.now.kept.now tables.now.planes.weights.now) low rest sub was }
 {
     let l = sub + low;
     let r = rest - sub;
@@ -87,7 +92,7 @@ fn consider(
 // Stays: the form that a rule of the project names: a loop whose break has the value.
 fn cheapest_split(tables: &Tables, cost: &[u64], low: usize, rest: usize) -> Choice
     requires { (length cost.now ≡ length tables.now.bits.now) × (1 ≤ low) × (low + rest < length tables.now.bits.now) }
-    ensures { result ≡ cheapest_of (best_at cost.now) (work_at tables.now.kept.now tables.now.weights.now) (length tables.now.bits.now) low rest }
+    ensures { result ≡ cheapest_of (best_at cost.now) (work_at tables.now.kept.now tables.now.planes.weights.now) (length tables.now.bits.now) low rest }
 {
     let mut found = Choice {
         cost: INFINITE,
@@ -124,7 +129,7 @@ pub struct Entry {
 // Stays: a mask is a place here and a word of digits there; std has no `From` of a `usize` for a `u64`.
 fn search_mask(tables: &Tables, cost: &[u64], limit: Option<u16>, s: usize) -> Entry
     requires { (length cost.now ≡ length tables.now.bits.now) × (1 ≤ s) × (s < length tables.now.bits.now) }
-    ensures { result ≡ entry_of (best_at cost.now) (work_at tables.now.kept.now tables.now.weights.now) (length tables.now.bits.now) limit s }
+    ensures { result ≡ entry_of (best_at cost.now) (work_at tables.now.kept.now tables.now.planes.weights.now) (length tables.now.bits.now) limit s }
 {
     let rest = s & (s - 1);
     if rest == 0 {
@@ -155,7 +160,7 @@ fn search_mask(tables: &Tables, cost: &[u64], limit: Option<u16>, s: usize) -> E
 // Stays: s is a mask, and costs before it are read: no iterator lends these beside the one that is written.
 fn fill(tables: &Tables, limit: Option<u16>, cost: &mut [u64], part: &mut [u64]) -> u64
     requires { (length cost.old ≡ length tables.now.bits.now) × (length part.old ≡ length tables.now.bits.now) × (1 ≤ length tables.now.bits.now) }
-    ensures { Filled (best_at cost.new) (split_at part.new) (work_at tables.now.kept.now tables.now.weights.now) (length tables.now.bits.now) limit (length tables.now.bits.now) result }
+    ensures { Filled (best_at cost.new) (split_at part.new) (work_at tables.now.kept.now tables.now.planes.weights.now) (length tables.now.bits.now) limit (length tables.now.bits.now) result }
 {
     let mut tried: u64 = 0;
     for s in 1..tables.len() {
@@ -171,16 +176,16 @@ fn fill(tables: &Tables, limit: Option<u16>, cost: &mut [u64], part: &mut [u64])
 fn fill_from<'a>(
     kept: &'a [[u64; 2]],
     bits: &'a [u64],
-    weights: &'a [u8],
+    planes: Planes<'a>,
     limit: Option<u16>,
     cost: &mut [u64],
     part: &mut [u64],
 ) -> u64
-    requires tables { Sized kept.now bits.now weights.now }
+    requires tables { Sized kept.now bits.now planes.weights.now }
     requires room { (length cost.old ≡ length bits.now) × (length part.old ≡ length bits.now) × (1 ≤ length bits.now) }
-    ensures { Filled (best_at cost.new) (split_at part.new) (work_at kept.now weights.now) (length bits.now) limit (length bits.now) result }
+    ensures { Filled (best_at cost.new) (split_at part.new) (work_at kept.now planes.entry.weights.now) (length bits.now) limit (length bits.now) result }
 {
-    fill(&Tables::of(kept, bits, weights), limit, cost, part)
+    fill(&Tables::of_planes(kept, bits, planes), limit, cost, part)
 }
 
 /// The least cost of a tree over all members, if one is below 2^53, how many splits were tried, and the part of each mask.
@@ -210,6 +215,7 @@ fn finite(cost: u64) -> Option<u64>
 
 /// The search over `m` members, whose local indices stand in the rows of the masks of one member, and the region's root's in row 0. The splits
 /// of the tree of that cost are in the list of parts. `limit` is the most bits of a table that is not the root's.
+// Stays: the search over subsets that the crate is about, no search in a list.
 pub fn search<'a>(masks: Masks<'a>, weights: &[u8], limit: Option<u16>, m: usize) -> Searched<'a>
     requires room { HasRoom masks (2 ^ m) }
     requires members { (1 ≤ m) × (m ≤ 12) }
@@ -227,8 +233,9 @@ pub fn search<'a>(masks: Masks<'a>, weights: &[u8], limit: Option<u16>, m: usize
         part,
     } = masks;
     masks::unions(united);
-    masks::keep_sets(united, weights, kept, bits);
-    let tried = fill_from(kept, bits, weights, limit, cost, part);
+    let planes = Planes::of(weights);
+    masks::keep_sets_by(united, &planes, kept, bits);
+    let tried = fill_from(kept, bits, planes, limit, cost, part);
     let least = finite(cost[n - 1]);
     Searched {
         cost: least,

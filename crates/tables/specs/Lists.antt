@@ -58,7 +58,7 @@ coded_at (x ∷ l) zero d h = refl
 coded_at (x ∷ l) (suc i) d h = coded_at l i d (omega arith)
 
 -- the lists of some tables
-abbrev pub lists_in : Tables → Lists
+abbrev pub lists_in : {W : ℕ} → Tables W → Lists
 lists_in t = lists_of t.sets.now t.nodes t.sizes t.live.items (coded t.rows)
 
 -- one of the lists replaced
@@ -75,7 +75,7 @@ abbrev pub with_rows : Lists → List ℕ → Lists
 with_rows M y = lists_of M.words M.nodes M.sizes M.live y
 
 -- the same words are lent, whatever they hold
-abbrev pub IsSameLoan : Tables → Tables → Type 0
+abbrev pub IsSameLoan : {W : ℕ} → Tables W → Tables W → Type 0
 IsSameLoan old new = new.sets.ghost_name ≡ old.sets.ghost_name
 
 -- a pair's number, and back

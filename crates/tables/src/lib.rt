@@ -12,7 +12,7 @@ pub mod partner;
 pub mod scoring;
 pub mod slotted;
 
-/// How many words a set has: one slot of the lent words.
+/// How many words a set of greedy's plan has: one slot of the lent words.
 pub const WIDTH: usize = 4;
 
 /// The slot of the indices that stay whatever is merged: the outputs, and what is named by leaves that are not planned.
@@ -26,9 +26,6 @@ pub const TWICE: usize = 257;
 /// The slot of what three live tables or more hold.
 // Stays: the number of a slot, and no kind.
 pub const THRICE: usize = 258;
-
-/// How many words the sets take: 259 slots, and one to spare.
-pub const WORDS: usize = 1040;
 
 /// What is known of a table's least pair with the live tables before it.
 #[derive(Clone, Copy, Debug, PartialEq, Eq)]
@@ -44,14 +41,15 @@ pub enum Row {
 }
 
 /// A pair's place in greedy's order, which is the derived one: the least score first, then the lower first slot, then the lower second.
+// Stays: no twin: three numbers whose order is this struct's own.
 #[derive(Clone, Copy, Debug, PartialEq, Eq, PartialOrd, Ord)]
 pub struct Score {
     /// 2^merged - 2^left - 2^right, raised by 2^41 so that it is never below 0
     pub raised: u64,
     /// the slot of the table that goes on the left
-    pub first: u8,
+    pub first: usize,
     /// the slot of the table that goes on the right
-    pub second: u8,
+    pub second: usize,
 }
 
 impl Score {

@@ -9,6 +9,8 @@ use spec::Prices;
 use steplines::digits::Text;
 use steplines::listed::Listed;
 
+// Stays: `&self, text: &mut Text`: each is a value of its own; a plan that held its text could be printed once only.
+
 /// What is printed of a plan: what pricing handed out of its steps, the prices, the flags of the sliced indices, and improvement's counts.
 #[derive(Clone, Copy)]
 pub struct Printout<'a> {

@@ -2,11 +2,13 @@
 // Runs the tree check, the step order and the comparison of two trees on stored cases and writes a line for each.
 // The form of input and output is stated in harness/src/tree_record.rs, which makes both.
 ghost use Rattle.std.specs.Prelude.{◌≤◌};
+// Stays: `network: &Network, tree: &[u16]`, `tree: &[u16], other: &[u16]`, `out: &mut W, network: &Network`, `input: &mut R, out: &mut W`: what a stored case has, handed to each call that it is made of; a struct would be made and taken apart once.
 
 use network::Network;
 use std::io::{self, Read, Write};
 
 // Is the tree valid.
+// Stays: a stored tree need be none: the calls that are run here check it.
 fn check<W: Write>(out: &mut W, network: &Network, tree: &[u16]) -> io::Result<()> {
     let mut ws = [0u64; 4096];
     match tree::is_valid(network, tree, &mut ws) {
@@ -16,6 +18,7 @@ fn check<W: Write>(out: &mut W, network: &Network, tree: &[u16]) -> io::Result<(
 }
 
 // The nodes in step order.
+// Stays: a stored tree need be none: the calls that are run here check it.
 fn order<W: Write>(out: &mut W, network: &Network, tree: &[u16]) -> io::Result<()> {
     let mut ws = [0u64; 4096];
     let mut steps = [0u16; 127];
@@ -26,6 +29,7 @@ fn order<W: Write>(out: &mut W, network: &Network, tree: &[u16]) -> io::Result<(
 }
 
 // Are the two trees the same plan.
+// Stays: a stored tree need be none: the calls that are run here check it.
 fn compare<W: Write>(
     out: &mut W,
     network: &Network,
@@ -40,6 +44,7 @@ fn compare<W: Write>(
     }
 }
 
+// Stays: a stored tree need be none: the calls that are run here check it.
 fn run<W: Write>(out: &mut W, network: &Network, tree: &[u16], other: &[u16]) -> io::Result<()> {
     check(out, network, tree)?;
     order(out, network, tree)?;
@@ -49,6 +54,7 @@ fn run<W: Write>(out: &mut W, network: &Network, tree: &[u16], other: &[u16]) ->
 }
 
 // A network and two trees.
+// Stays: each program has its own case; two trees of one length are read.
 fn next_case<R: Read, W: Write>(input: &mut R, out: &mut W) -> io::Result<()> {
     let mut tree = [0u16; 512];
     let mut other = [0u16; 512];
@@ -59,6 +65,7 @@ fn next_case<R: Read, W: Write>(input: &mut R, out: &mut W) -> io::Result<()> {
 }
 
 // An input that ends early goes on with zeros. A read or a write that fails ends the run, and is not told.
+// Stays: each program begins so, with its own case.
 fn main(rt: HostRuntime) {
     let mut input = stored::with_zeros(rt.reader());
     let mut out = io::writer(&rt);

@@ -7,6 +7,9 @@ ghost use Rattle.spec.specs.Calls.{plain_words, wrong_tree};
 ghost use Rattle.spec.specs.declared.Refusal.TheVariants.{InvalidTree};
 ghost use Rattle.walk.specs.Stack.{pushed, pushed_both, picked};
 ghost use Rattle.walk.specs.Marks.{fresh, marked, fresh_both, marked_both};
+// Stays: `kids: &[u16], n: usize`, `wrong_tree n kids.now ≡ false`, `n ≤ 512`: a list that is still to be checked, or that its caller knows to be a tree and has made no `Tree` of; in `Tree` these are ghost fields.
+// Stays: `n: usize, ws: &mut [u64]`, `ws: &mut [u64], out: &mut [u16]`, `2048 ≤ length ws.old`, `2048 ≤ length words.old`, `n - 1 ≤ length out.old`: lists that a caller lends for one call; a struct of them would be made and taken apart in each.
+// Stays: `l: usize, r: usize`: the two children of a node, read from two places and used once.
 
 use spec::Refusal;
 
@@ -22,6 +25,7 @@ pub fn stated() -> usize
 }
 
 // The number of an internal node, or else the other one.
+// Stays: another choice than that of halves in `bisect`, which has the name and takes lists.
 fn pick(n: usize, x: usize, other: usize) -> usize
     ensures { result ≡ picked n x other }
 {
@@ -37,6 +41,7 @@ fn push(n: usize, p: usize, x: usize) -> usize
 }
 
 // The top of the stack, which is the node to be visited, and the stack's places, the top's included.
+// Stays: two numbers of a stack; that others have two numbers too is chance.
 #[derive(Clone, Copy)]
 struct Top {
     node: usize,
@@ -44,6 +49,7 @@ struct Top {
 }
 
 // The stack with the two children of its top in place of it, the right one above. What is under the top stands from word 1,024 on, `p` places.
+// Stays: the stack lies in lent words, and no `From` goes between `u64` and `usize`; `n` is the number of leaves.
 fn next(ws: &mut [u64], n: usize, p: usize, l: usize, r: usize) -> Top
     requires { (p < 1024) × (2048 ≤ length ws.old) }
     ensures { (result.node ≡ picked n r (picked n l (get_or ws.old (1023 + p) 0))) × (result.places ≡ pushed_both n p l r) × (ws.new ≡ set ws.old (1024 + p) l) }
@@ -84,6 +90,7 @@ fn mark_both(ws: &mut [u64], root: usize, l: usize, r: usize) -> bool
 
 // Whether a walk from the root meets every number once and none above the root's: the numbers met are marked, the internal nodes among
 // them that are still to be visited are on the stack.
+// Stays: a stack is walked until it is empty, so no iterator gives the turns; a node has two places of the list, which is no `Tree` yet.
 fn meets_all(kids: &[u16], n: usize, ws: &mut [u64]) -> bool
     requires { (2 ≤ n) × (n ≤ 512) × (length kids.now ≡ n * 2 - 2) × (2048 ≤ length ws.old) × ((k : ℕ) → k < n * 2 → get_or ws.old k 0 ≡ 0) }
     ensures { result ≡ valid n (pairs_of kids.now) }
@@ -109,6 +116,7 @@ fn meets_all(kids: &[u16], n: usize, ws: &mut [u64]) -> bool
 }
 
 /// Whether `kids` is a tree of `n` leaves. Only the first 2,048 words of `ws` are used, whatever they hold.
+// Stays: the list is being checked here, and is no `Tree` yet; `n` is how many leaves it is to have.
 pub fn is_tree(kids: &[u16], n: usize, ws: &mut [u64]) -> bool
     requires { (n ≤ 512) × (2048 ≤ length ws.old) }
     ensures { result ≡ not (wrong_tree n kids.now) }
@@ -124,15 +132,14 @@ pub fn is_tree(kids: &[u16], n: usize, ws: &mut [u64]) -> bool
 }
 
 // Fills `out` up to place n - 1 from there down: a node, then its right child's nodes, then its left child's.
+// Stays: by place from the last one down, as nothing is known of what a reversed `iter_mut` writes; a node has two places, and its number fits.
 fn fill_order(kids: &[u16], n: usize, ws: &mut [u64], out: &mut [u16])
     requires { (2 ≤ n) × (n ≤ 512) × (wrong_tree n kids.now ≡ false) × (2048 ≤ length ws.old) × (n - 1 ≤ length out.old) }
     ensures { out.new ≡ over out.old (step_order kids.now n) }
 {
     let mut v = n * 2 - 2;
     let mut p: usize = 1;
-    let mut rest = n - 1;
-    while 0 < rest {
-        rest -= 1;
+    for rest in (0..n - 1).rev() {
         out[rest] = v as u16;
         let j = (v - n) * 2;
         let left = usize::from(kids[j]);
@@ -145,6 +152,7 @@ fn fill_order(kids: &[u16], n: usize, ws: &mut [u64], out: &mut [u16])
 
 /// Writes the step order of a tree of `n` leaves to the front of `out`: the internal nodes, each after its left and then its right child's.
 /// Returns how many they are. Only the first 2,048 words of `ws` are used, whatever they hold.
+// Stays: asks no more of its callers than a list that is a tree of `n` leaves.
 pub fn post_order(kids: &[u16], n: usize, ws: &mut [u64], out: &mut [u16]) -> usize
     requires { (n ≤ 512) × (wrong_tree n kids.now ≡ false) × (2048 ≤ length ws.old) × (n - 1 ≤ length out.old) }
     ensures { (result ≡ n - 1) × (out.new ≡ over out.old (step_order kids.now n)) }
@@ -159,6 +167,7 @@ pub fn post_order(kids: &[u16], n: usize, ws: &mut [u64], out: &mut [u16]) -> us
 impl<'a> Tree<'a> {
     /// The tree of `leaves` leaves in `kids`, two places an internal node, unless the list is no tree of them. Only the first 2,048 words of
     /// `words` are used, whatever they hold.
+    // Stays: the list comes from outside and is being checked here.
     pub fn check(kids: &'a [u16], leaves: usize, words: &mut [u64]) -> Result<Tree<'a>, Refusal>
         requires { (leaves ≤ 512) × (2048 ≤ length words.old) }
         ensures ok { IfOk result (λ t. (t.kids.now ≡ kids.now) × (t.leaves ≡ leaves)) }

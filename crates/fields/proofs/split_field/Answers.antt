@@ -31,24 +31,22 @@ returns-then-not-allows c = let l = c.args.bytes.now in
 pub returns-then-body-count : goal.returns-then-body-count
 returns-then-body-count c = let l = c.args.bytes.now in
     let t : get_or l 0 0 ≡ tag_number c.in_ok-tag.tag = rw c.in_ok-tag.was at c.try_from.ensures in
-    let x : c.from.result ≡ get_or l 1 0 = search rules in
-    let y : c.from-2.result ≡ get_or l 2 0 = search rules in
-    let z : c.from.result * 256 + c.from-2.result ≡ get_or l 1 0 * 256 + get_or l 2 0 = omega arith in
+    let x : c.from-count.result ≡ c.from_be_bytes.result = search rules in
+    let z : c.from-count.result ≡ get_or l 1 0 * 256 + get_or l 2 0 = omega (arith, c.from_be_bytes.ensures) in
     let a : allowed (due_of c.args.due) (tag_number c.in_ok-tag.tag) ≡ true = sym c.allows.ensures ∙ not-false _ (not_from_true _ c.if-not-allows.false) in
     let b : c.split_at.result.1.now ≡ drop 3 l = search rules in
-    λ s q. split_truncated l c.if-bytes-lt3.false (tag_number c.in_ok-tag.tag) (c.from.result * 256 + c.from-2.result) t z (due_of c.args.due) s q a (rw b at c.if-body-count.true)
+    λ s q. split_truncated l c.if-bytes-lt3.false (tag_number c.in_ok-tag.tag) c.from-count.result t z (due_of c.args.due) s q a (rw b at c.if-body-count.true)
 
 pub returns : goal.returns
 returns c = let l = c.args.bytes.now in
     let t : get_or l 0 0 ≡ tag_number c.in_ok-tag.tag = rw c.in_ok-tag.was at c.try_from.ensures in
-    let x : c.from.result ≡ get_or l 1 0 = search rules in
-    let y : c.from-2.result ≡ get_or l 2 0 = search rules in
-    let z : c.from.result * 256 + c.from-2.result ≡ get_or l 1 0 * 256 + get_or l 2 0 = omega arith in
+    let x : c.from-count.result ≡ c.from_be_bytes.result = search rules in
+    let z : c.from-count.result ≡ get_or l 1 0 * 256 + get_or l 2 0 = omega (arith, c.from_be_bytes.ensures) in
     let a : allowed (due_of c.args.due) (tag_number c.in_ok-tag.tag) ≡ true = sym c.allows.ensures ∙ not-false _ (not_from_true _ c.if-not-allows.false) in
     let b : c.split_at.result.1.now ≡ drop 3 l = search rules in
-    let g : c.from.result * 256 + c.from-2.result ≤ length (drop 3 l) = rw b at c.if-body-count.false in
-    let p : c.split_at-2.result.0.now ≡ take (c.from.result * 256 + c.from-2.result) (drop 3 l) = rw (← b) (search rules) in
-    let r : c.split_at-2.result.1.now ≡ drop (c.from.result * 256 + c.from-2.result) (drop 3 l) = rw (← b) (search rules) in (
-      λ s q. rw (p, r) (split_whole l c.if-bytes-lt3.false (tag_number c.in_ok-tag.tag) (c.from.result * 256 + c.from-2.result) t z (due_of c.args.due) s q a g),
-      omega (arith, ap length r, length-drop (c.from.result * 256 + c.from-2.result) (drop 3 l), length-drop 3 l, c.if-bytes-lt3.false),
+    let g : c.from-count.result ≤ length (drop 3 l) = rw b at c.if-body-count.false in
+    let p : c.split_at-2.result.0.now ≡ take c.from-count.result (drop 3 l) = rw (← b) (search rules) in
+    let r : c.split_at-2.result.1.now ≡ drop c.from-count.result (drop 3 l) = rw (← b) (search rules) in (
+      λ s q. rw (p, r) (split_whole l c.if-bytes-lt3.false (tag_number c.in_ok-tag.tag) c.from-count.result t z (due_of c.args.due) s q a g),
+      omega (arith, ap length r, length-drop c.from-count.result (drop 3 l), length-drop 3 l, c.if-bytes-lt3.false),
     )

@@ -4,18 +4,15 @@ use Rattle.network.specs.Record.{net_of}
 use Rattle.std.proofs.Common.{Err}
 use native.Mathlib.Omega.{arith}
 use mathlib.Core.Path.{◌≡◌, sym, ◌∙◌}
-use lib.ListN.{length}
 use Rattle.fields.proofs.take_weights.Goals as goal
 
 pub returns-in_err-check_weights : goal.returns-in_err-check_weights
 returns-in_err-check_weights c = let k = c.in_err-check_weights.field-0.0 in
     let e : c.from_residual.result ≡ Err k = search rules in
-    rw e (weights_decide c.args.payload.now ∙ refused _ _ k (sym c.in_err-check_weights.was ∙ c.check_weights.ensures))
+    λ x y z. rw e (weights_decide c.args.payload.now ∙ refused _ _ k (sym c.in_err-check_weights.was ∙ c.check_weights.ensures))
 
 pub returns : goal.returns
 unfolding net_of
-returns c = let n = c.args.network.now in
-    let p = c.args.payload.now in
+returns c = let p = c.args.payload.now in
     let e = sym c.in_ok-check_weights.was ∙ c.check_weights.ensures in
-    let w : length n.weights ≡ 256 = search rules in
-    rw (c.bare.ensures, c.place.ensures) (weights_taken p n.weights n.leg_counts n.legs n.outputs (omega (arith, weights_fit p e)) e, record { leaves = omega arith; few = λ i h. absurd (omega arith) })
+    λ x y z. rw (c.bare.ensures, c.place.ensures) (weights_taken p c.args.weights.now x y z (omega (arith, c.requires, weights_fit p e)) e, record { leaves = omega arith; few = λ i h. absurd (omega arith) })

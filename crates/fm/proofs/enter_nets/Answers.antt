@@ -1,5 +1,5 @@
-use Rattle.std.proofs.Common.{arith, length}
-use Rattle.fm.specs.NetsAgain.{next_net, all_nets}
+use Rattle.std.proofs.Common.{arith}
+use Rattle.fm.specs.NetsAgain.{next_net}
 use Rattle.fm.proofs.enter_nets.Goals as goal
 
 pub enter_net-requires : goal.enter_net-requires
@@ -21,10 +21,3 @@ loop-e-preserved c =
       omega (arith, t),
       next_net g.words.now g.place g.weights.now a.locked a.own.now l.e-index c.from.result _ _ _ t c.from.ensures l.invariant.1 c.enter_net.ensures,
     )
-
-pub returns : goal.returns
-returns c =
-    let a = c.args in
-    let g = a.graph.now in
-    let l = c.loop-e in
-    all_nets g.words.now g.place g.weights.now a.locked a.own.now l.e-index (length a.own.now) _ _ (omega (arith, l.invariant.0, c.loop-e-test.false)) l.invariant.1

@@ -1,5 +1,5 @@
-use Rattle.std.proofs.Common.{arith, length}
-use Rattle.fm.specs.Again.{same_again, all_again}
+use Rattle.std.proofs.Common.{arith}
+use Rattle.fm.specs.Again.{same_again}
 use Rattle.fm.proofs.enter_pins.Goals as goal
 
 pub enter_again-requires : goal.enter_again-requires
@@ -18,10 +18,3 @@ loop-pin-preserved c =
       omega (arith, c.loop-pin-test.true),
       same_again g.words.now g.place g.weights.now a.locked a.pins.now l.pin-index _ _ _ c.from.result c.loop-pin-test.true c.from.ensures l.invariant.1 c.enter_again.ensures,
     )
-
-pub returns : goal.returns
-returns c =
-    let a = c.args in
-    let g = a.graph.now in
-    let l = c.loop-pin in
-    all_again g.words.now g.place g.weights.now a.locked a.pins.now l.pin-index (length a.pins.now) _ _ (omega (arith, l.invariant.0, c.loop-pin-test.false)) l.invariant.1

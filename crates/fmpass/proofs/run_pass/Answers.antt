@@ -1,5 +1,5 @@
 use Rattle.std.proofs.Common.{arith, ◌∙◌}
-use Rattle.fmpass.specs.State.{lists_in, run_in}
+use Rattle.fmpass.specs.State.{lists_of, run_in}
 use Rattle.fmpass.specs.Turns.{runs_next, runs_over, runs_end}
 use Rattle.fmpass.proofs.run_pass.Goals as goal
 
@@ -8,8 +8,8 @@ returns-then-pass-clause-ran c =
     let a = c.args in
     let g = a.layout.now in
     let l = c.loop-k in
-    runs_over g.net_weights.now g.vertex_weights.now a.most_weight g.nets g.vertices g.sides g.net_count (lists_in a.split.now a.entries.now a.pass.now) (run_in a.pass.now a.draws.now)
-    (lists_in l.split l.entries l.pass) (run_in l.pass l.draws) l.k c.if-pass.true l.invariant.3
+    runs_over g.net_weights.now g.vertex_weights.now a.most_weight g.nets g.vertices g.sides g.net_count (lists_of a.work.now a.entries.now) (run_in a.pass.now a.draws.now)
+    (lists_of l.work l.entries) (run_in l.pass l.draws) l.k c.if-pass.true l.invariant.3
 
 pub loop-k-preserved : goal.loop-k-preserved
 loop-k-preserved c =
@@ -19,9 +19,9 @@ loop-k-preserved c =
     let t = c.turn.ensures in (
       omega (arith, c.loop-k-test.true),
       l.invariant.1,
-      (t.lent.0 ∙ l.invariant.2.0, t.lent.1 ∙ l.invariant.2.1),
-      runs_next g.net_weights.now g.vertex_weights.now a.most_weight g.nets g.vertices g.sides g.net_count (lists_in a.split.now a.entries.now a.pass.now) (run_in a.pass.now a.draws.now)
-          (lists_in l.split l.entries l.pass) _ (run_in l.pass l.draws) _ l.k (omega (arith, c.loop-k-test.true, l.invariant.1)) c.if-pass.false l.invariant.3 t.turned,
+      (t.lent.0 ∙ l.invariant.2.0, t.lent.1 ∙ l.invariant.2.1, t.lent.2 ∙ l.invariant.2.2, t.lent.3 ∙ l.invariant.2.3),
+      runs_next g.net_weights.now g.vertex_weights.now a.most_weight g.nets g.vertices g.sides g.net_count (lists_of a.work.now a.entries.now) (run_in a.pass.now a.draws.now)
+          (lists_of l.work l.entries) _ (run_in l.pass l.draws) _ l.k (omega (arith, c.loop-k-test.true, l.invariant.1)) c.if-pass.false l.invariant.3 t.turned,
     )
 
 pub returns-clause-ran : goal.returns-clause-ran
@@ -29,5 +29,5 @@ returns-clause-ran c =
     let a = c.args in
     let g = a.layout.now in
     let l = c.loop-k in
-    runs_end g.net_weights.now g.vertex_weights.now a.most_weight g.nets g.vertices g.sides g.net_count (lists_in a.split.now a.entries.now a.pass.now) (run_in a.pass.now a.draws.now)
-    (lists_in l.split l.entries l.pass) (run_in l.pass l.draws) l.k (omega (arith, l.invariant.1)) l.invariant.3
+    runs_end g.net_weights.now g.vertex_weights.now a.most_weight g.nets g.vertices g.sides g.net_count (lists_of a.work.now a.entries.now) (run_in a.pass.now a.draws.now)
+    (lists_of l.work l.entries) (run_in l.pass l.draws) l.k (omega (arith, l.invariant.1)) l.invariant.3

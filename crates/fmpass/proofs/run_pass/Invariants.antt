@@ -1,12 +1,11 @@
 use Rattle.std.proofs.Common.{◌≡◌, ◌≤◌, ◌+◌, ◌*◌, length}
-use Rattle.moves.specs.Loans.{IsSameLoan}
-use Rattle.fmpass.specs.State.{lists_in, run_in}
+use Rattle.fmpass.specs.State.{lists_of, IsSameLoan, run_in}
 use Rattle.fmpass.specs.Turns.{Runs}
 use Rattle.fmpass.proofs.run_pass.Given as goal
 
 abbrev pub invariant-loop-k : goal.invariant-loop-k
 invariant-loop-k l =
     let g = l.layout in
-    (l.k ≤ l.k-end) × (l.k-end ≡ (length g.vertex_weights.now + 1) * (length g.vertex_weights.now + 1)) × IsSameLoan l.initial.split l.split
-    × Runs g.net_weights.now g.vertex_weights.now l.most_weight g.nets g.vertices g.sides g.net_count (lists_in l.initial.split l.initial.entries l.initial.pass) (run_in l.initial.pass l.initial.draws)
-    (lists_in l.split l.entries l.pass) (run_in l.pass l.draws) l.k
+    (l.k ≤ l.k-end) × (l.k-end ≡ (length g.vertex_weights.now + 1) * (length g.vertex_weights.now + 1)) × IsSameLoan l.initial.work l.work
+    × Runs g.net_weights.now g.vertex_weights.now l.most_weight g.nets g.vertices g.sides g.net_count (lists_of l.initial.work l.initial.entries) (run_in l.initial.pass l.initial.draws)
+    (lists_of l.work l.entries) (run_in l.pass l.draws) l.k

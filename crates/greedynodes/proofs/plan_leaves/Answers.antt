@@ -1,28 +1,10 @@
-use Rattle.std.proofs.Common.{rules, Err, Ok}
-use Rattle.greedynodes.specs.Ends.{Planned}
-use Rattle.greedynodes.specs.Copied.{asks_behind, copied_wide, copied_plan}
-use native.Mathlib.Omega.{arith}
-use Prim.Native.Nat.{◌*◌}
-use mathlib.Core.Path.{◌≡◌, refl, sym, subst}
-use lib.ListN.{length}
+use Rattle.greedynodes.specs.Networks.{accepted_light, accepted_room}
 use Rattle.greedynodes.proofs.plan_leaves.Goals as goal
 
-pub returns-in_err-top-clause-planned : goal.returns-in_err-top-clause-planned
-returns-in_err-top-clause-planned c =
+pub greedy_nodes-requires-clause-room : goal.greedy_nodes-requires-clause-room
+greedy_nodes-requires-clause-room c =
     let d = c.args in
-    let A = d.network.now in
-    let z : c.grow.result ≡ Err c.in_err-top.field-0.0 = search rules in
-    let e : c.from_residual.result ≡ Err c.in_err-top.field-0.0 = search rules in
-    λ N a asks. subst (Planned N a d.leaves.now d.kids.now d.kids.now) (sym e)
-    (copied_wide N a (length A.leg_counts.now) d.count A.weights.now A.leg_counts.now A.legs.now A.outputs.now d.leaves.now d.kids.now _ asks _ c.grow.result c.in_err-top.field-0.0 z
-    (c.grow.ensures N a (asks_behind N a (length A.leg_counts.now) d.count A.weights.now A.leg_counts.now A.legs.now A.outputs.now d.leaves.now d.kids.now _ asks)))
+    accepted_room d.network.now d.count d.leaves.now d.words.now c.requires.1 c.requires.0 c.requires.2
 
-pub returns-clause-planned : goal.returns-clause-planned
-returns-clause-planned c =
-    let d = c.args in
-    let A = d.network.now in
-    let z : c.grow.result ≡ Ok c.in_ok-top.top = search rules in
-    λ N a asks.
-    copied_plan N a (length A.leg_counts.now) d.count A.weights.now A.leg_counts.now A.legs.now A.outputs.now d.leaves.now d.kids.now _ asks c.grow.new.made c.grow.result c.in_ok-top.top z
-    (d.count * 2) (c.saturating_sub.result * 2) refl (omega (arith, c.saturating_sub.ensures)) refl (omega (arith, c.saturating_sub.ensures, c.requires.1)) _ c.copy_out.ensures
-    (c.grow.ensures N a (asks_behind N a (length A.leg_counts.now) d.count A.weights.now A.leg_counts.now A.legs.now A.outputs.now d.leaves.now d.kids.now _ asks))
+pub greedy_nodes-requires-clause-light : goal.greedy_nodes-requires-clause-light
+greedy_nodes-requires-clause-light c = accepted_light c.args.network.now

@@ -1,11 +1,28 @@
-use Rattle.leafsets.specs.Search.{same_words, after_hint, before_hint, nowhere}
+use mathlib.Core.Path.{sym, ◌∙◌}
+use Rattle.leafsets.specs.Search.{same_words, some_after, some_before}
 use Rattle.leafsets.proofs.find_near.Goals as goal
 
-pub returns-then-u-hi : goal.returns-then-u-hi
-returns-then-u-hi c = let a = c.args in let q = c.requires in after_hint (same_words a.w a.ws.now a.s) a.lo a.hint a.hi q.2 q.3 c.find-u.result c.find-u.ensures c.if-u-hi.true
+pub returns-in-Some-clause-any : goal.returns-in-Some-clause-any
+returns-in-Some-clause-any c =
+    let a = c.args in
+    let q = c.requires in
+    (some_after (same_words a.w a.ws.now a.s) a.lo a.hint a.hi q.2 q.3 c.in-Some.u (sym c.in-Some.is ∙ c.find.ensures)).0
 
-pub returns-then-v-hint : goal.returns-then-v-hint
-returns-then-v-hint c = let a = c.args in let q = c.requires in before_hint (same_words a.w a.ws.now a.s) a.lo a.hint a.hi q.2 q.3 c.find-u.result c.find-v.result c.find-u.ensures c.if-u-hi.false c.find-v.ensures c.if-v-hint.true
+pub returns-in-Some-clause-within : goal.returns-in-Some-clause-within
+returns-in-Some-clause-within c =
+    let a = c.args in
+    let q = c.requires in
+    let h = some_after (same_words a.w a.ws.now a.s) a.lo a.hint a.hi q.2 q.3 c.in-Some.u (sym c.in-Some.is ∙ c.find.ensures) in
+    (h.1, h.2)
 
-pub returns : goal.returns
-returns c = let a = c.args in let q = c.requires in nowhere (same_words a.w a.ws.now a.s) a.lo a.hint a.hi q.2 q.3 c.find-u.result c.find-v.result c.find-u.ensures c.if-u-hi.false c.find-v.ensures c.if-v-hint.false
+pub returns-clause-any : goal.returns-clause-any
+returns-clause-any c =
+    let a = c.args in
+    let q = c.requires in
+    (some_before (same_words a.w a.ws.now a.s) a.lo a.hint a.hi q.2 q.3 c.find-2.result (sym c.in_default.is ∙ c.find.ensures) c.find-2.ensures).0
+
+pub returns-clause-within : goal.returns-clause-within
+returns-clause-within c =
+    let a = c.args in
+    let q = c.requires in
+    (some_before (same_words a.w a.ws.now a.s) a.lo a.hint a.hi q.2 q.3 c.find-2.result (sym c.in_default.is ∙ c.find.ensures) c.find-2.ensures).1

@@ -11,8 +11,8 @@ use Rattle.levels.proofs.project_at.Goals as goal
 pub returns : goal.returns
 returns c =
     let a = c.args in
-    let s = span (a.level * 128) (a.level * 128 + a.n) a.levels.now.places.now in
-    let e : length s ≡ a.n = span_length (a.level * 128) a.n a.levels.now.places.now (omega (arith, c.requires.0, c.requires.1, c.requires.4)) in
+    let s = span (a.level * 128) (a.level * 128 + a.n) a.places.now in
+    let e : length s ≡ a.n = span_length (a.level * 128) a.n a.places.now (omega (arith, c.requires.0, c.requires.1, c.requires.4)) in
     take_at _ _ a.n (ap length c.project.ensures ∙ length-map s _ ∙ e)
     ∙ c.project.ensures
     ∙ ap (λ k. map (side_of k) s)

@@ -1,5 +1,4 @@
 use Rattle.levels.specs.Spans.{sum_next}
-use Rattle.std.proofs.Common.{refl}
 use Rattle.std.proofs.lemmas.List.{get_or_default}
 use Rattle.spec.specs.Floats.{zero_float}
 use Rattle.levels.proofs.total_weight.Goals as goal

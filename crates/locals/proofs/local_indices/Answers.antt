@@ -6,5 +6,5 @@ use Rattle.locals.proofs.local_indices.Goals as goal
 
 pub returns : goal.returns
 returns c = let a = c.args in
-    let r = locals_are a.words.now a.sets.now a.sliced.now a.w a.members.now (length a.members.now) c.unite_members.new.words c.take_slot.new.words c.unite_members.ensures c.take_slot.ensures c.requires.1 in
+    let r = locals_are a.words.now a.sets.now a.sliced.now a.w a.members.now a.m c.unite_members.new.words c.mix_slot.new.words c.unite_members.ensures c.mix_slot.ensures c.requires.1 in
     (c.members.ensures.0 ∙ ap length r, c.members.ensures.1 ∙ ap (sets a.local.now 0) r)

@@ -1,5 +1,5 @@
 use mathlib.Core.List.{List}
-use Rattle.masks.specs.Unions.{unite_start, unite_single, unite_joint}
+use Rattle.masks.specs.Unions.{unite_single, unite_joint}
 use Rattle.masks.specs.Tables.{United}
 use native.Mathlib.Omega.{arith}
 use Prim.Native.Nat.{ℕ, ◌+◌}
@@ -7,9 +7,6 @@ use mathlib.Core.Path.{sym, subst, refl}
 use lib.ListN.{length}
 use Rattle.masks.proofs.unions.Goals as goal
 use Rattle.masks.proofs.unions.Goals.{then-rest-ne0, else-rest-ne0}
-
-pub loop-s-init : goal.loop-s-init
-loop-s-init c = (omega arith, omega arith, unite_start _ _)
 
 pub loop-s-preserved : goal.loop-s-preserved
 loop-s-preserved c = let a = c.args in let l = c.loop-s in let n : ℕ = length a.united.now in (

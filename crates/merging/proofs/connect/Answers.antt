@@ -6,18 +6,18 @@ use Rattle.tables.specs.Lists.{Lists, coded, lists_in}
 use Rattle.rows.specs.Within.{NamedIn}
 use Rattle.merging.specs.Removed.{flat_length}
 use Rattle.merging.specs.Merge.{with_node}
-use Rattle.merging.specs.Connect.{Connected, reached_start, reached_end}
+use Rattle.merging.specs.Connect.{Connected, reached_end}
 use Rattle.merging.specs.Scans.{kids_behind, node_behind, scan_refused, scan_ends, scan_merges}
 use native.Mathlib.Omega.{arith}
 use mathlib.Core.List.{List, ◌++◌}
 use Prim.Native.Nat.{ℕ, ◌+◌, ◌<◌}
-use mathlib.Core.Path.{◌≡◌, refl, sym, ap, ap₂, ◌∙◌, subst}
+use mathlib.Core.Path.{◌≡◌, sym, ap, ap₂, ◌∙◌, subst}
 use lib.ListN.{length}
 use Rattle.std.specs.Prelude.{Result}
 use Rattle.merging.proofs.connect.Goals as goal
 
 pub returns-in_err-choice-clause-connected : goal.returns-in_err-choice-clause-connected
-returns-in_err-choice-clause-connected c =
+returns-in_err-choice-clause-connected g c =
     let d = c.args in
     let s = d.scoring.now in
     let l = c.loop-t in
@@ -26,37 +26,21 @@ returns-in_err-choice-clause-connected c =
     let why : c.in_err-choice.field-0.0 ≡ TableTooWide = search rules in
     let less : l.t < s.start = omega arith in
     λ G S start. subst (λ (q : Result ℕ Refusal). Connected G S (kids_behind S d.kids.now) c.scan.new.tables.nodes c.scan.new.tables.sizes c.scan.new.tables.live.items (kids_behind S l.kids) q) (sym (e ∙ ap (λ (r : Refusal). Err r) why))
-    (scan_refused G S d.n s.start d.count s.weights.now (kids_behind S d.kids.now) (lists_in d.tables.now) start l.t (lists_in l.tables) (kids_behind S l.kids) (l.invariant.3 G S start) less
+    (scan_refused G S g.row.W d.n s.start d.count s.weights.now (kids_behind S d.kids.now) (lists_in d.tables.now) start l.t (lists_in l.tables) (kids_behind S l.kids) (l.invariant.3 G S start) less
     (lists_in c.scan.new.tables) c.scan.result c.scan.ensures.lists c.scan.ensures.least _ _ _ _ c.in_err-choice.field-0.0 z)
 
 pub returns-in_default-clause-connected : goal.returns-in_default-clause-connected
-returns-in_default-clause-connected c =
+returns-in_default-clause-connected g c =
     let d = c.args in
     let s = d.scoring.now in
     let l = c.loop-t in
     let z : c.scan.result ≡ Ok None = search rules in
     let less : l.t < s.start = omega arith in
-    λ G S start. scan_ends G S d.n s.start d.count s.weights.now (kids_behind S d.kids.now) (lists_in d.tables.now) start l.t (lists_in l.tables) (kids_behind S l.kids) (l.invariant.3 G S start) less
+    λ G S start. scan_ends G S g.row.W d.n s.start d.count s.weights.now (kids_behind S d.kids.now) (lists_in d.tables.now) start l.t (lists_in l.tables) (kids_behind S l.kids) (l.invariant.3 G S start) less
     (lists_in c.scan.new.tables) c.scan.result c.scan.ensures.lists c.scan.ensures.least z
 
-pub returns-then-scoring-gt-MAX_TABLES-clause-connected : goal.returns-then-scoring-gt-MAX_TABLES-clause-connected
-returns-then-scoring-gt-MAX_TABLES-clause-connected c = λ G S start. absurd (omega (arith, start.slots, start.next, start.holds.few, c.if-scoring-gt-MAX_TABLES.true))
-
-pub returns-then-len-gt-MAX_TABLES-clause-connected : goal.returns-then-len-gt-MAX_TABLES-clause-connected
-returns-then-len-gt-MAX_TABLES-clause-connected c = λ G S start. absurd (omega (arith, start.slots, start.next, ap length start.holds.lived, start.holds.few, c.if-len-gt-MAX_TABLES.true))
-
-pub loop-t-init : goal.loop-t-init
-loop-t-init c =
-    let d = c.args in
-    let s = d.scoring.now in (
-      omega arith,
-      refl,
-      omega arith,
-      (λ G S start. reached_start G S (lists_in d.tables.now) 4 d.n s.start d.count s.weights.now (kids_behind S d.kids.now) start),
-    )
-
 pub loop-t-preserved : goal.loop-t-preserved
-loop-t-preserved c =
+loop-t-preserved g c =
     let d = c.args in
     let s = d.scoring.now in
     let l = c.loop-t in
@@ -68,7 +52,7 @@ loop-t-preserved c =
       c.merge-children.ensures.same ∙ c.scan.ensures.same ∙ l.invariant.1,
       omega (arith, c.merge-children.ensures.few, kept, l.invariant.2),
       (λ G S start.
-          scan_merges G S d.n s.start d.count s.weights.now (kids_behind S d.kids.now) (lists_in d.tables.now) start l.t (lists_in l.tables) (kids_behind S l.kids) (l.invariant.3 G S start) less
+          scan_merges G S g.row.W d.n s.start d.count s.weights.now (kids_behind S d.kids.now) (lists_in d.tables.now) start l.t (lists_in l.tables) (kids_behind S l.kids) (l.invariant.3 G S start) less
           (lists_in c.scan.new.tables) c.scan.result c.scan.ensures.lists c.scan.ensures.least c.in-Some.choice z named
           (lists_in c.merge-children.new.tables) (kids_behind S c.put_node.new.kids) c.merge-children.ensures.lists
           (ap (λ (k : List ℕ). flat_of S.array ++ k) c.put_node.ensures
@@ -77,10 +61,10 @@ loop-t-preserved c =
     )
 
 pub returns-clause-connected : goal.returns-clause-connected
-returns-clause-connected c =
+returns-clause-connected g c =
     let d = c.args in
     let s = d.scoring.now in
     let l = c.loop-t in
     let e : l.t ≡ s.start = omega arith in
     λ G S start. subst (λ (t : ℕ). Connected G S (kids_behind S d.kids.now) l.tables.nodes l.tables.sizes l.tables.live.items (kids_behind S l.kids) (Ok t)) e
-    (reached_end G S 4 d.n s.start d.count s.weights.now (kids_behind S d.kids.now) (lists_in d.tables.now) start l.t (lists_in l.tables) (kids_behind S l.kids) e (l.invariant.3 G S start))
+    (reached_end G S g.row.W d.n s.start d.count s.weights.now (kids_behind S d.kids.now) (lists_in d.tables.now) start l.t (lists_in l.tables) (kids_behind S l.kids) e (l.invariant.3 G S start))

@@ -1,17 +1,11 @@
-use Rattle.std.proofs.Common.{arith, refl, ap, ◌∙◌, ◌≡◌, ℕ, length}
+use Rattle.std.proofs.Common.{arith, ◌∙◌}
 use Rattle.std.proofs.lemmas.List.{get_or_default}
 use lib.Ieee.{of_bits}
 use Rattle.spec.specs.Floats.{zero_float}
-use Rattle.spec.specs.Hypergraph.{fold_over}
-use Rattle.spec.specs.Lists.{range}
 use Rattle.partition.specs.Folds.{range_next}
 use Rattle.moves.specs.Sums.{weigh_step, weigh_here, weigh_off}
 use Rattle.moves.proofs.weight_on.Goals as goal
 use Rattle.moves.proofs.weight_on.Goals.{then-from-s, else-from-s}
-
-pub loop-v-init : goal.loop-v-init
-unfolding of_bits
-loop-v-init c = (omega arith, refl)
 
 pub loop-v-preserved : goal.loop-v-preserved
 unfolding of_bits
@@ -27,10 +21,3 @@ loop-v-preserved c =
         | else-from-s w ↦ more (w.sum-is ∙ weigh_off a.part.now a.vw.now a.s l.v c.from.result l.sum side w.if-from-s.false)
       ],
     )
-
-pub returns : goal.returns
-returns c =
-    let a = c.args in
-    let l = c.loop-v in
-    let z : l.v ≡ length a.vw.now = omega (arith, l.invariant.0, c.loop-v-test.false) in
-    l.invariant.1 ∙ ap (λ (n : ℕ). fold_over (weigh_step a.part.now a.vw.now a.s) (range n) zero_float) z

@@ -1,5 +1,5 @@
 use borrow.Author.Rules.{rules}
-use Rattle.netfile.specs.Writer.{network_refused, buffer_kept}
+use Rattle.netwrite.specs.Answers.{network_refused, buffer_kept}
 use Rattle.netwrite.specs.Contents.{kids_of}
 use Rattle.fields.specs.Scans.{ask_of}
 use Rattle.network.specs.Record.{net_of}

@@ -1,9 +1,8 @@
 use borrow.Author.Rules.{rules}
 use Rattle.netwrite.specs.Sizes.{summed_none, summed_next}
-use Rattle.putfields.specs.Leaves.{leaf_bytes}
 use native.Mathlib.Omega.{arith}
-use mathlib.Core.Path.{◌≡◌, ap, ◌∙◌}
-use lib.ListN.{get_or, length}
+use mathlib.Core.Path.{◌≡◌}
+use lib.ListN.{get_or}
 use Rattle.netwrite.proofs.leaf_bytes.Goals as goal
 
 pub loop-count-init : goal.loop-count-init
@@ -13,7 +12,3 @@ pub loop-count-preserved : goal.loop-count-preserved
 loop-count-preserved c = let i = c.loop-count.count-index in
     let e : c.from.result ≡ get_or c.args.counts.now i 0 = search rules in
     summed_next c.from.result e c.requires c.loop-count.invariant (omega arith)
-
-pub returns : goal.returns
-returns c = let e : c.loop-count.count-index ≡ length c.args.counts.now = omega arith in
-    (c.loop-count.invariant.bytes ∙ ap (λ k. leaf_bytes k c.args.counts.now) e, omega (arith, c.loop-count.invariant.small, c.requires.leaves))

@@ -6,4 +6,4 @@ use mathlib.Core.Path.{◌≡◌}
 use Rattle.nodebits.proofs.leaf_bits.Given as goal
 
 abbrev pub invariant-loop-i : goal.invariant-loop-i
-invariant-loop-i l = (length l.sizes ≡ length l.initial.sizes) × (length l.works ≡ length l.initial.works) × (l.sizes ≡ put_to l.initial.sizes (leaf_size l.effective l.network.leg_counts.now l.network.legs.now) (length l.network.leg_counts.now) l.i) × (l.works ≡ over l.initial.works (filled l.i 0))
+invariant-loop-i l = (length l.sizes ≡ length l.initial.sizes) × (length l.works ≡ length l.initial.works) × (l.sizes ≡ put_to l.initial.sizes (leaf_size l.effective l.counts l.legs) l.n l.i) × (l.works ≡ over l.initial.works (filled l.i 0))

@@ -2,8 +2,8 @@ use Rattle.std.proofs.Common.{◌≡◌, ◌+◌, ◌<◌, [], sym, ap, subst, �
 use Rattle.spec.specs.Lists.{sum_of}
 use Rattle.spec.specs.Members.{All}
 use Rattle.bits.specs.Lowest.{places}
-use Rattle.slots.specs.Weigh.{open_weight, weigh_turn, weigh_most, weigh_end}
-use Rattle.nodebits.specs.Loops.{places_below, next_below}
+use Rattle.slots.specs.Weigh.{open_weight, weigh_most, weigh_end}
+use Rattle.nodebits.specs.Loops.{places_below}
 use Rattle.nodebits.proofs.weigh_word.Goals as goal
 
 pub loop-i-init : goal.loop-i-init
@@ -15,18 +15,10 @@ loop-i-init c =
     (λ j. places (g j).base 64 (g j).rest) ∙ (λ j. places (a.0 j) 64 (a.1 j)) in
     (tt, omega (arith, ap (sum_of (open_weight d.effective.now [])) e), subst (All (λ i. i < d.base + 64)) (sym e) (places_below d.base 64 d.x))
 
-pub bounds-effective-i : goal.bounds-effective-i
-bounds-effective-i c = omega (arith, (next_below c.loop-i.invariant.2 c.in-Some.ensures.steps).0)
-
 pub overflow_add-sum : goal.overflow_add-sum
 overflow_add-sum c =
     let d = c.args in
     omega (arith, c.from-sum.ensures, c.requires.1 c.in-Some.i, weigh_most d.effective.now [] d.base c.requires.1 d.x _ c.loop-i.sum (omega arith) c.loop-i.invariant.1)
-
-pub loop-i-preserved : goal.loop-i-preserved
-loop-i-preserved c =
-    let d = c.args in
-    (tt, weigh_turn d.effective.now [] d.base d.x _ _ c.loop-i.sum c.in-Some.i _ c.in-Some.ensures.steps c.from-sum.ensures c.loop-i.invariant.1, (next_below c.loop-i.invariant.2 c.in-Some.ensures.steps).1)
 
 pub returns : goal.returns
 returns c = let d = c.args in weigh_end d.effective.now [] d.base c.requires.1 d.x _ c.loop-i.sum (omega arith) c.in-None.ensures.steps.0 c.loop-i.invariant.1

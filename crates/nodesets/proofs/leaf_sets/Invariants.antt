@@ -4,4 +4,4 @@ use mathlib.Core.Path.{◌≡◌}
 use Rattle.nodesets.proofs.leaf_sets.Given as goal
 
 abbrev pub invariant-loop-i : goal.invariant-loop-i
-invariant-loop-i l = l.sets ≡ with_sets l.initial.sets l.w (leaf_has l.network.leg_counts.now l.network.legs.now) l.i
+invariant-loop-i l = l.sets ≡ with_sets l.initial.sets l.w (leaf_has l.counts l.legs) l.i

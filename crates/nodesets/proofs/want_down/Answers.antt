@@ -1,9 +1,9 @@
 use Rattle.std.proofs.Common.{◌≡◌, ℕ, ◌+◌, ◌-◌, ◌*◌, ◌≤◌, ◌<◌, length, refl, sym, ap, ◌∙◌, arith}
-use Rattle.std.proofs.lemmas.List.{length-reverse, length_push}
+use Rattle.std.proofs.lemmas.List.{length_push}
 use Rattle.std.proofs.lemmas.Iterator.Adapters.{YieldsList-from_rev_slice}
-use Rattle.std.proofs.lemmas.Iterator.Consumers.{YieldsList-turn, YieldsList-end}
+use Rattle.std.proofs.lemmas.Iterator.Consumers.{YieldsList-turn}
 use Rattle.slots.specs.Slots.{with_set_length}
-use Rattle.nodesets.specs.Turns.{slot_in, step_inner, step_left, step_right, downs_none, downs_next, downs_end}
+use Rattle.nodesets.specs.Turns.{slot_in, step_inner, step_left, step_right, downs_none, downs_next}
 use Rattle.laws.specs.FlatLaws.{left_of, right_of}
 use Rattle.nodesets.specs.Passes.{nodes, downs}
 use Rattle.nodesets.proofs.Back.{turned_back}
@@ -55,9 +55,3 @@ loop-node-preserved c =
       downs_next _ _ _ _ _ _ _ _ _ _ _ _ _ c.loop-node.invariant.1 (c.from-v.ensures ∙ t.1) c.left-l.ensures.0 c.right-r.ensures.0 c.combine_with.ensures c.combine_with-in-loop-node.ensures
           ∙ ap (λ (j : ℕ). downs c.args.w (left_of c.args.kids.now c.args.n) (right_of c.args.kids.now c.args.n) o c.args.sets.now c.args.outside.now j) (sym (length_push c.loop-node.yielded c.in-Some.field-0)),
     )
-
-pub returns : goal.returns
-returns c =
-    let o = c.args.order.now in
-    let t = YieldsList-end (YieldsList-from_rev_slice o cc) c.loop-node.yielded _ c.loop-node.yielded_by _ _ c.in-None.is c.next.ensures.steps in
-    downs_end _ _ _ _ _ _ _ _ (t.1 ∙ length-reverse o) c.loop-node.invariant.1

@@ -3,21 +3,13 @@ use Rattle.spec.specs.Tree.{step_order}
 use Rattle.spec.specs.Calls.{flag_at}
 use Rattle.network.specs.Views.{net_in, in_facts, in_leaves}
 use Rattle.passes.specs.Sorted.{sorted}
-use Rattle.passes.specs.Nodes.{nodes_low, right_at, order_at, pass_made}
+use Rattle.passes.specs.Nodes.{nodes_low, order_at, pass_made}
 use lib.Seq.{length-take-le}
 use lib.ListN.{take, length}
 use native.Mathlib.Omega.{arith}
 use Prim.Native.Nat.{ℕ, ◌≤◌}
 use mathlib.Core.Path.{◌≡◌, sym, ap, ◌∙◌}
 use Rattle.passes.proofs.pass.Goals as goal
-
-pub order_nodes-c-requires : goal.order_nodes-c-requires
-order_nodes-c-requires c = let a = c.args in let f = in_facts a.network.now a.network.now.holds in (
-  omega (arith, f.few_leaves, in_leaves a.network.now, c.leaf_count.ensures),
-  right_at c.leaf_count.result (sym c.leaf_count.ensures) c.requires.standing,
-  omega (arith, c.requires.ready.1.for_words),
-  omega (arith, f.few_leaves, in_leaves a.network.now, c.leaf_count.ensures),
-)
 
 pub visit_all-requires-clause-nodes : goal.visit_all-requires-clause-nodes
 visit_all-requires-clause-nodes c = let a = c.args in let N = net_in a.network.now in let f = in_facts a.network.now a.network.now.holds in let q = c.order_nodes-c in let nodes = q.new.nodes in

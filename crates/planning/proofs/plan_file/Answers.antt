@@ -1,5 +1,5 @@
 use borrow.Author.Rules.{rules}
-use Rattle.std.proofs.Common.{◌≡◌, sym, refl, subst, replicate, Err, Ok, arith, Result, ℕ}
+use Rattle.std.proofs.Common.{◌≡◌, sym, refl, subst, replicate, Err, arith, Result, ℕ}
 use Rattle.spec.specs.declared.Refusal.{Refusal}
 use Rattle.spec.specs.Program.{Printed}
 use Rattle.spec.specs.Output.{program_on}

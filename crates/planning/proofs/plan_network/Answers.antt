@@ -21,9 +21,3 @@ returns-in_err-counts c =
 
 pub slice-requires : goal.slice-requires
 slice-requires c = (c.requires.0, (c.improve.ensures.goes c.in_ok-counts.was).0, c.requires.1)
-
-pub returns : goal.returns
-returns c =
-    let a = c.args in
-    let z : c.start.result ≡ Ok tt = search rules in
-    answers_as (c.start.ensures.goes z (ask_handed a.given.ask a.flags.now)) (answers_as (c.improve.ensures.goes c.in_ok-counts.was).1 c.slice.ensures)

@@ -1,4 +1,4 @@
-use Rattle.std.proofs.Common.{◌≡◌, ◌∙◌, ◌*◌, sym, subst, arith, ℕ, take, length}
+use Rattle.std.proofs.Common.{◌≡◌, ◌∙◌, ◌*◌, sym, subst, arith, ℕ, take}
 use Rattle.planning.specs.Stages.{given_tree, found_ready, found_flags}
 use Rattle.planning.specs.Printing.{Tells, few_counts}
 use Rattle.netfile.specs.Writer.{ask_handed}

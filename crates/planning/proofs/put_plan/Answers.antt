@@ -1,5 +1,4 @@
-use borrow.Author.Rules.{rules}
-use Rattle.std.proofs.Common.{◌≡◌, sym, refl, Err, Ok, arith}
+use Rattle.std.proofs.Common.{refl, arith}
 use Rattle.planning.specs.Printing.{few_counts, priced_not_refused, text_put, tells_plan}
 use Rattle.planning.proofs.put_plan.Goals as goal
 

@@ -1,25 +1,11 @@
-use borrow.Author.Rules.{rules}
-use Rattle.std.proofs.Common.{◌≡◌, sym, subst, Err, Ok, arith, Result, ℕ}
-use Rattle.spec.specs.declared.Refusal.{Refusal}
-use Rattle.spec.specs.Program.{program}
-use Rattle.planning.specs.Writing.{plan_refused, printable, plan_written}
+use Rattle.std.proofs.Common.{sym, arith}
+use Rattle.planning.specs.Writing.{printable, plan_written}
 use Rattle.planning.specs.Stages.{given_tree, answers_at}
-use Rattle.planning.specs.Printing.{Tells, index_count_lem}
+use Rattle.planning.specs.Printing.{index_count_lem}
 use Rattle.netfile.specs.Writer.{ask_handed}
 use Rattle.network.specs.Record.{net_of}
 use lib.Seq.{length-take-le}
 use Rattle.planning.proofs.put_planned.Goals as goal
-
-pub returns-in_err-counts : goal.returns-in_err-counts
-returns-in_err-counts c =
-    let a = c.args in
-    let N = net_of a.network.now in
-    let t = given_tree a.given.tree a.tree.now in
-    let k = ask_handed a.given.ask a.flags.now in
-    let r = c.in_err-counts.field-0.0 in
-    let e : c.from_residual.result ≡ Err r = search rules in
-    subst (λ (x : Result ℕ Refusal). Tells (program N t k) a.out.now a.out.now x) (sym e)
-    (plan_refused N t k _ _ a.out.now (answers_at c.in_err-counts.was c.plan_network.ensures))
 
 pub slice_bounds-put_plan-end : goal.slice_bounds-put_plan-end
 slice_bounds-put_plan-end c = omega (arith, index_count_lem c.args.network.now, c.requires.0.room)

@@ -1,5 +1,5 @@
 use borrow.Author.Rules.{rules}
-use Rattle.std.proofs.Common.{◌≡◌, ◌∙◌, sym, refl, ap, true, Result, Err, Ok, length, ℕ, arith}
+use Rattle.std.proofs.Common.{◌≡◌, ◌∙◌, sym, refl, ap, true, Result, Err, length, ℕ, arith}
 use Rattle.spec.specs.declared.Refusal.{Refusal}
 use Rattle.spec.specs.Calls.{slice_call, sliced_tree, sliced_flags}
 use Rattle.spec.specs.Slicing.{Plan}

@@ -1,4 +1,4 @@
-use Rattle.pricing.specs.Sums.{part_length, part_at, sum_none, sum_next, beyond_at, beyond_step, exact_at}
+use Rattle.pricing.specs.Sums.{part_length, part_at, sum_none, sum_next, beyond_at, beyond_step}
 use native.Mathlib.Omega.{arith}
 use mathlib.Core.Path.{refl}
 use Prim.Native.Nat.{◌+◌, ◌<◌}
@@ -27,8 +27,3 @@ loop-bits-preserved c =
     let k = c.loop-bits.bits-index in
     let b : k < d.c = omega (arith, part_length d.works.now d.n d.c c.requires) in
     (sum_next d.works.now d.n k _ _ c.loop-bits.invariant.0 (part_at d.works.now d.n d.c k _ b refl) c.if-bits-ge53.false, c.if-sum-ge9007199254740992.false)
-
-pub returns : goal.returns
-returns c =
-    let d = c.args in
-    exact_at d.works.now d.n c.loop-bits.bits-index d.c _ (omega (arith, part_length d.works.now d.n d.c c.requires)) c.loop-bits.invariant.0 c.loop-bits.invariant.1

@@ -1,5 +1,5 @@
 use Rattle.std.proofs.Common.{rules, arith}
-use Rattle.queue.specs.Enters.{one_more, all_of}
+use Rattle.queue.specs.Enters.{one_more}
 use Rattle.queue.proofs.enter_all.Goals as goal
 
 pub loop-v-preserved : goal.loop-v-preserved
@@ -11,9 +11,3 @@ loop-v-preserved c =
       search rules,
       one_more a.graph.now.words.now a.graph.now.place a.graph.now.weights.now l.v _ _ _ l.invariant.3 c.enter.ensures,
     )
-
-pub returns : goal.returns
-returns c =
-    let a = c.args in
-    let l = c.loop-v in
-    all_of a.graph.now.words.now a.graph.now.place a.graph.now.weights.now l.v a.graph.now.place.vertex_count _ _ (omega (arith, l.invariant.1)) l.invariant.3

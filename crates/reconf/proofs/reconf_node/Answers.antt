@@ -1,5 +1,4 @@
 use Rattle.spec.specs.Memory.{filled}
-use Rattle.reconf.specs.Again.{visitable}
 use Rattle.reconf.specs.Settled.{word_room, members_few, taken_is, old_small, left_few, left_many, small, stays_searched, rebuilds}
 use Rattle.frontier.specs.Opens.{freed}
 use Rattle.laws.specs.ArrayRebuild.{build_array}
@@ -18,46 +17,46 @@ use Rattle.reconf.proofs.reconf_node.Goals as goal
 pub returns-then-members-lt3 : goal.returns-then-members-lt3
 unfolding filled
 returns-then-members-lt3 c = let a = c.args in let f = c.of-frontier.result in let M = c.members-members.result.now in
-    left_few (visitable a.network.now a.network.now.holds c.leaf_count-n.result c.leaf_count-n.ensures a.search.now.flags.now a.kids.now a.list.now.sets.now a.list.now.sizes.now a.list.now.works.now c.requires.standing) a.v (omega (arith, c.requires.node, c.leaf_count-n.ensures)) a.search.now.k (filled 12 0) (filled 12 0) f.members f.opened f.count (omega (arith, a.search.now.clamped.0)) (omega (arith, a.search.now.clamped.1)) (omega (arith, a.search.now.clamped.1)) c.of-frontier.ensures M (take (f.count - 1) f.opened) c.members-members.ensures refl a.search.now.limit c.if-members-lt3.true
+    λ N h. left_few h a.v c.requires.node a.search.now.k a.search.now.clamped f c.of-frontier.ensures M (take (f.count - 1) f.opened) c.members-members.ensures refl a.search.now.limit c.if-members-lt3.true
 
 pub returns-then-c-gt128 : goal.returns-then-c-gt128
 unfolding filled
 returns-then-c-gt128 c = let a = c.args in let f = c.of-frontier.result in let M = c.members-members.result.now in let l = c.local_list-c in
-    left_many (visitable a.network.now a.network.now.holds c.leaf_count-n.result c.leaf_count-n.ensures a.search.now.flags.now a.kids.now a.list.now.sets.now a.list.now.sizes.now a.list.now.works.now c.requires.standing) a.v (omega (arith, c.requires.node, c.leaf_count-n.ensures)) a.search.now.k (filled 12 0) (filled 12 0) f.members f.opened f.count (omega (arith, a.search.now.clamped.0)) (omega (arith, a.search.now.clamped.1)) (omega (arith, a.search.now.clamped.1)) c.of-frontier.ensures M (take (f.count - 1) f.opened) c.members-members.ensures refl a.search.now.limit l.result l.ensures.0 c.if-c-gt128.true
+    λ N h. left_many h a.v c.requires.node a.search.now.k a.search.now.clamped f c.of-frontier.ensures M (take (f.count - 1) f.opened) c.members-members.ensures refl a.search.now.limit l.result l.ensures.0 c.if-c-gt128.true
 
 pub search_region-found-requires-clause-room : goal.search_region-found-requires-clause-room
 unfolding filled
 search_region-found-requires-clause-room c = let a = c.args in let f = c.of-frontier.result in let M = c.members-members.result.now in let l = c.local_list-c in
-    let few = members_few (visitable a.network.now a.network.now.holds c.leaf_count-n.result c.leaf_count-n.ensures a.search.now.flags.now a.kids.now a.list.now.sets.now a.list.now.sizes.now a.list.now.works.now c.requires.standing) a.v (omega (arith, c.requires.node, c.leaf_count-n.ensures)) a.search.now.k (filled 12 0) (filled 12 0) f.members f.opened f.count (omega (arith, a.search.now.clamped.0)) (omega (arith, a.search.now.clamped.1)) (omega (arith, a.search.now.clamped.1)) c.of-frontier.ensures M (take (f.count - 1) f.opened) c.members-members.ensures refl in let long = taken_is (visitable a.network.now a.network.now.holds c.leaf_count-n.result c.leaf_count-n.ensures a.search.now.flags.now a.kids.now a.list.now.sets.now a.list.now.sizes.now a.list.now.works.now c.requires.standing) a.v (omega (arith, c.requires.node, c.leaf_count-n.ensures)) a.search.now.k (filled 12 0) (filled 12 0) f.members f.opened f.count (omega (arith, a.search.now.clamped.0)) (omega (arith, a.search.now.clamped.1)) (omega (arith, a.search.now.clamped.1)) c.of-frontier.ensures M (take (f.count - 1) f.opened) c.members-members.ensures refl in
+    let few = members_few c.requires.visitable.1 a.v c.requires.node a.search.now.k a.search.now.clamped f c.of-frontier.ensures M (take (f.count - 1) f.opened) c.members-members.ensures refl in let long = taken_is c.requires.visitable.1 a.v c.requires.node a.search.now.k a.search.now.clamped f c.of-frontier.ensures M (take (f.count - 1) f.opened) c.members-members.ensures refl in
     (omega (arith, c.if-members-lt3.false), omega (arith, few, long, a.search.now.clamped.1), word_room (length M) a.search.now.k _ (omega (arith, few, long)) (omega (arith, c.requires.words, l.auto.words)))
 
 pub search_region-found-requires-clause-light : goal.search_region-found-requires-clause-light
 unfolding filled
 search_region-found-requires-clause-light c = let a = c.args in let f = c.of-frontier.result in let M = c.members-members.result.now in let l = c.local_list-c in
-    small (visitable a.network.now a.network.now.holds c.leaf_count-n.result c.leaf_count-n.ensures a.search.now.flags.now a.kids.now a.list.now.sets.now a.list.now.sizes.now a.list.now.works.now c.requires.standing) a.v (omega (arith, c.requires.node, c.leaf_count-n.ensures)) a.search.now.k (filled 12 0) (filled 12 0) f.members f.opened f.count (omega (arith, a.search.now.clamped.0)) (omega (arith, a.search.now.clamped.1)) (omega (arith, a.search.now.clamped.1)) c.of-frontier.ensures M (take (f.count - 1) f.opened) c.members-members.ensures refl l.result (filled 256 0) l.new.local l.ensures.0 l.ensures.1 (omega arith)
+    small c.requires.visitable.1 a.v c.requires.node a.search.now.k a.search.now.clamped f c.of-frontier.ensures M (take (f.count - 1) f.opened) c.members-members.ensures refl l.result (filled 256 0) l.new.local l.ensures.0 l.ensures.1 (omega arith)
 
-pub old_cost-old-requires : goal.old_cost-old-requires
+pub opened_cost-old-requires : goal.opened_cost-old-requires
 unfolding filled
-old_cost-old-requires c = let a = c.args in let f = c.of-frontier.result in let M = c.members-members.result.now in
-    old_small (visitable a.network.now a.network.now.holds c.leaf_count-n.result c.leaf_count-n.ensures a.search.now.flags.now a.kids.now a.list.now.sets.now a.list.now.sizes.now a.list.now.works.now c.requires.standing) a.v (omega (arith, c.requires.node, c.leaf_count-n.ensures)) a.search.now.k (filled 12 0) (filled 12 0) f.members f.opened f.count (omega (arith, a.search.now.clamped.0)) (omega (arith, a.search.now.clamped.1)) (omega (arith, a.search.now.clamped.1)) c.of-frontier.ensures M c.opened-opened.result.now c.members-members.ensures c.opened-opened.ensures (omega (arith, f.few, c.of-frontier.type_inv))
+opened_cost-old-requires c = let a = c.args in let f = c.of-frontier.result in let M = c.members-members.result.now in
+    old_small c.requires.visitable.1 a.v c.requires.node a.search.now.k a.search.now.clamped f c.of-frontier.ensures M c.opened-opened.result.now c.members-members.ensures c.opened-opened.ensures (omega (arith, f.few, c.of-frontier.type_inv))
 
 pub accepts-requires-clause-old : goal.accepts-requires-clause-old
 unfolding filled
 accepts-requires-clause-old c = let a = c.args in let f = c.of-frontier.result in let M = c.members-members.result.now in
-    omega (arith, c.old_cost-old.ensures, old_small (visitable a.network.now a.network.now.holds c.leaf_count-n.result c.leaf_count-n.ensures a.search.now.flags.now a.kids.now a.list.now.sets.now a.list.now.sizes.now a.list.now.works.now c.requires.standing) a.v (omega (arith, c.requires.node, c.leaf_count-n.ensures)) a.search.now.k (filled 12 0) (filled 12 0) f.members f.opened f.count (omega (arith, a.search.now.clamped.0)) (omega (arith, a.search.now.clamped.1)) (omega (arith, a.search.now.clamped.1)) c.of-frontier.ensures M c.opened-opened.result.now c.members-members.ensures c.opened-opened.ensures (omega (arith, f.few, c.of-frontier.type_inv)))
+    omega (arith, c.opened_cost-old.ensures, old_small c.requires.visitable.1 a.v c.requires.node a.search.now.k a.search.now.clamped f c.of-frontier.ensures M c.opened-opened.result.now c.members-members.ensures c.opened-opened.ensures (omega (arith, f.few, c.of-frontier.type_inv)))
 
 pub returns-then-not-accepts : goal.returns-then-not-accepts
 unfolding filled
 returns-then-not-accepts c = let a = c.args in let f = c.of-frontier.result in let M = c.members-members.result.now in let l = c.local_list-c in let s = c.search_region-found in
-    stays_searched (visitable a.network.now a.network.now.holds c.leaf_count-n.result c.leaf_count-n.ensures a.search.now.flags.now a.kids.now a.list.now.sets.now a.list.now.sizes.now a.list.now.works.now c.requires.standing) a.v (omega (arith, c.requires.node, c.leaf_count-n.ensures)) a.search.now.k (filled 12 0) (filled 12 0) f.members f.opened f.count (omega (arith, a.search.now.clamped.0)) (omega (arith, a.search.now.clamped.1)) (omega (arith, a.search.now.clamped.1)) c.of-frontier.ensures M c.opened-opened.result.now c.members-members.ensures c.opened-opened.ensures l.result (filled 256 0) l.new.local l.ensures.0 l.ensures.1 (omega arith)
+    λ N h. stays_searched h a.v c.requires.node a.search.now.k a.search.now.clamped f c.of-frontier.ensures M c.opened-opened.result.now c.members-members.ensures c.opened-opened.ensures l.result (filled 256 0) l.new.local l.ensures.0 l.ensures.1 (omega arith)
     a.search.now.limit s.result.part.now s.result.cost s.result.tried (omega (arith, c.if-c-gt128.false)) (omega (arith, c.if-members-lt3.false)) s.ensures.searches (omega (arith, f.few, c.of-frontier.type_inv))
-    c.old_cost-old.result c.old_cost-old.ensures c.accepts.result c.accepts.ensures (not-true c.accepts.result (not_from_false _ c.if-not-accepts.true))
+    c.opened_cost-old.result c.opened_cost-old.ensures c.accepts.result c.accepts.ensures (not-true c.accepts.result (not_from_false _ c.if-not-accepts.true))
 
 pub returns : goal.returns
 unfolding filled
 returns c = let a = c.args in let f = c.of-frontier.result in let M = c.members-members.result.now in let l = c.local_list-c in let s = c.search_region-found in let b = c.build in let o : List ℕ = c.opened-opened.result.now in
-    rebuilds (visitable a.network.now a.network.now.holds c.leaf_count-n.result c.leaf_count-n.ensures a.search.now.flags.now a.kids.now a.list.now.sets.now a.list.now.sizes.now a.list.now.works.now c.requires.standing) a.v (omega (arith, c.requires.node, c.leaf_count-n.ensures)) a.search.now.k (filled 12 0) (filled 12 0) f.members f.opened f.count (omega (arith, a.search.now.clamped.0)) (omega (arith, a.search.now.clamped.1)) (omega (arith, a.search.now.clamped.1)) c.of-frontier.ensures M c.opened-opened.result.now c.members-members.ensures c.opened-opened.ensures l.result (filled 256 0) l.new.local l.ensures.0 l.ensures.1 (omega arith)
+    λ N h. rebuilds h a.v c.requires.node a.search.now.k a.search.now.clamped f c.of-frontier.ensures M c.opened-opened.result.now c.members-members.ensures c.opened-opened.ensures l.result (filled 256 0) l.new.local l.ensures.0 l.ensures.1 (omega arith)
     a.search.now.limit s.result.part.now s.result.cost s.result.tried (omega (arith, c.if-c-gt128.false)) (omega (arith, c.if-members-lt3.false)) s.ensures.searches (omega (arith, f.few, c.of-frontier.type_inv))
-    c.old_cost-old.result c.old_cost-old.ensures c.accepts.result c.accepts.ensures (not-false c.accepts.result (not_from_true _ c.if-not-accepts.false))
+    c.opened_cost-old.result c.opened_cost-old.ensures c.accepts.result c.accepts.ensures (not-false c.accepts.result (not_from_true _ c.if-not-accepts.false))
     c.mask_count-all.result c.mask_count-all.ensures.0 b.new.kids b.new.free.nodes.now b.result b.new.free.left b.auto.kids
-    (b.ensures ∙ ap (λ (sl : List ℕ). build_array c.leaf_count-n.result M (region_of (split_at s.result.part.now) (c.mask_count-all.result - 1)) sl (pairs_of a.kids.now)) (λ i. freed (c.of.ensures.nodes i) (c.of.ensures.left i)))
+    (b.ensures.built ∙ ap (λ (sl : List ℕ). build_array a.n M (region_of (split_at s.result.part.now) (c.mask_count-all.result - 1)) sl (pairs_of a.kids.now)) (λ i. freed (c.of.ensures.nodes i) (c.of.ensures.left i)))

@@ -1,18 +1,11 @@
 use Rattle.spec.specs.declared.Refusal.TheVariants.{InvalidTree, InvalidFlags}
 use Rattle.spec.specs.Calls.{wrong_tree}
-use Rattle.network.specs.Views.{net_in, in_facts, in_leaves}
+use Rattle.network.specs.Views.{net_in}
 use Rattle.cost.specs.Checks.{tree_wrong, tree_right}
 use Rattle.reconfigure.specs.Checks.{rest_tree, rest_flags, rest_last, answered_refused, answered_as}
-use native.Mathlib.Omega.{arith}
-use Prim.Native.Nat.{ℕ}
-use mathlib.Core.Bool.{false}
-use mathlib.Core.Path.{◌≡◌, sym, subst, ◌∙◌}
+use mathlib.Core.Path.{sym, ◌∙◌}
 use Rattle.std.proofs.lemmas.Bool.{not_from_true, not_from_false}
 use Rattle.reconfigure.proofs.improve_tree.Goals as goal
-
-pub is_tree-requires : goal.is_tree-requires
-is_tree-requires c = let n = c.args.network.now in
-    (omega (arith, c.leaf_count.ensures, in_leaves n, (in_facts n n.holds).few_leaves), omega (arith, c.requires.words))
 
 pub returns-then-not-is_tree : goal.returns-then-not-is_tree
 returns-then-not-is_tree c = let a = c.args in let N = net_in a.network.now in
@@ -22,11 +15,6 @@ pub returns-then-wrong_flags : goal.returns-then-wrong_flags
 returns-then-wrong_flags c = let a = c.args in let N = net_in a.network.now in
     answered_refused InvalidFlags (rest_flags N a.search.now.k a.most a.search.now.limit a.search.now.flags.now a.kids.now c.leaf_count.result c.index_count.result (sym c.leaf_count.ensures) (sym c.index_count.ensures)
     (tree_right c.is_tree.result (wrong_tree c.leaf_count.result a.kids.now) c.is_tree.ensures (not_from_true _ c.if-not-is_tree.false)) (sym c.wrong_flags.ensures ∙ c.if-wrong_flags.true))
-
-pub improve_valid-requires-clause-right : goal.improve_valid-requires-clause-right
-improve_valid-requires-clause-right c = let a = c.args in
-    subst (λ (x : ℕ). wrong_tree x a.kids.now ≡ false) c.leaf_count.ensures
-    (tree_right c.is_tree.result (wrong_tree c.leaf_count.result a.kids.now) c.is_tree.ensures (not_from_true _ c.if-not-is_tree.false))
 
 pub returns : goal.returns
 returns c = let a = c.args in let N = net_in a.network.now in

@@ -3,7 +3,6 @@ use Rattle.spec.specs.Calls.{wrong_tree}
 use Rattle.network.specs.Views.{net_in}
 use Rattle.reconfigure.specs.Improves.{answered_done, beyond_is, standing_start}
 use Rattle.reconfigure.specs.Checks.{last_beyond, last_dangling, last_done, answered_refused}
-use native.Mathlib.Omega.{arith}
 use Prim.Native.Nat.{ℕ}
 use mathlib.Core.Bool.{false}
 use mathlib.Core.Path.{◌≡◌, sym, subst, ◌∙◌}
@@ -21,10 +20,6 @@ returns-then-is_dangling c = let a = c.args in let N = net_in a.network.now in l
     let is = beyond_is n (sym c.leaf_count.ensures) right c.price.ensures.held in
     let off = sym is ∙ sym c.is_total_beyond.ensures ∙ c.if-is_total_beyond.false in
     answered_refused DanglingIndex (last_dangling N a.search.now.k a.most a.search.now.limit a.search.now.flags.now a.kids.now off (sym c.is_dangling.ensures ∙ c.if-is_dangling.true))
-
-pub improve-requires-clause-ready : goal.improve-requires-clause-ready
-improve-requires-clause-ready c = let l = c.price.ensures.long in
-    (sym c.is_dangling.ensures ∙ c.if-is_dangling.false, record { for_words = omega (arith, c.requires.words, c.price.auto.words); for_sets = omega (arith, l.0); for_sizes = omega (arith, l.1); for_works = omega (arith, l.2) })
 
 pub improve-requires-clause-standing : goal.improve-requires-clause-standing
 improve-requires-clause-standing c = let a = c.args in let N = net_in a.network.now in let n : ℕ = c.leaf_count.result in

@@ -1,7 +1,7 @@
 use Rattle.std.proofs.Common.{arith, ◌∙◌, ◌+◌, true, false}
 use Rattle.partition.specs.Layout.{place_of}
 use Rattle.moves.specs.Kept.{site_kept}
-use Rattle.refine.specs.Passes.{refined_as, passes_next, passes_as, passes_stop, passes_end}
+use Rattle.refine.specs.Passes.{refined_as, passes_next, passes_as, passes_stop}
 use Rattle.refine.proofs.all_passes.Goals as goal
 
 pub one_pass-requires : goal.one_pass-requires
@@ -39,11 +39,3 @@ loop-k-preserved c =
           (passes_next g.net_weights.now g.vertex_weights.now g.nets g.vertices g.sides g.net_count a.most_weight a.most a.split.now.words.now x l.split.words.now s.words.now
           l.split.part.now l.split.loads l.draws _ l.k c.requires.0 c.loop-k-test.true l.invariant.2 e.leads),
     )
-
-pub returns-clause-leads : goal.returns-clause-leads
-returns-clause-leads c =
-    let a = c.args in
-    let g = a.layout.now in
-    let l = c.loop-k in
-    passes_end g.net_weights.now g.vertex_weights.now g.nets g.vertices g.sides g.net_count a.most_weight a.most a.split.now.words.now
-    (refined_as a.split.now.part.now a.split.now.loads true a.draws.now) l.split.words.now (refined_as l.split.part.now l.split.loads true l.draws) l.k (omega arith) l.invariant.2

@@ -14,9 +14,9 @@ start_pass-requires c =
     let f = c.requires.0.mesh.few.1 in
     (front_filled (length c.args.layout.now.vertex_weights.now) 128 no_entry (omega (arith, f)), c.requires.0, c.requires.1)
 
-pub run_pass-requires : goal.run_pass-requires
+pub run_on-requires : goal.run_on-requires
 unfolding of_bits
-run_pass-requires c =
+run_on-requires c =
     let a = c.args in
     let g = a.layout.now in
     let f = c.requires.0.mesh.few.1 in
@@ -31,7 +31,7 @@ returns-clause-leads c =
     let g = a.layout.now in
     let f = c.requires.0.mesh.few.1 in
     let s = c.start_pass in
-    let p = c.run_pass in
+    let p = c.run_on in
     pass_leads g.net_weights.now g.vertex_weights.now g.nets g.vertices g.sides g.net_count a.most_weight a.split.now.words.now _ _ _ a.split.now.part.now _ _ _
     a.split.now.loads _ _ _ _ _ _ _ _ _ a.draws.now s.new.draws (run_in p.new.pass p.new.draws) _ c.requires.0 (omega (arith, f)) s.ensures.sides
     (starts_in a.split.now.words.now _ g.net_weights.now g.vertex_weights.now (place_of g) _ _ _ _ _ s.ensures.starts

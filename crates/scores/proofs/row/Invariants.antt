@@ -1,8 +1,9 @@
 use Rattle.tables.specs.Lists.{pair_code}
 use Rattle.scores.specs.Scores.{row_of}
+use Prim.Native.Nat.{◌≤◌}
 use mathlib.Core.Path.{◌≡◌}
 use Rattle.scores.proofs.row.Given as goal
 
-abbrev pub invariant-loop-x : goal.invariant-loop-x
-invariant-loop-x l =
-    pair_code l.best ≡ row_of l.tables.sets.now 4 l.scoring.weights.now l.tables.sizes l.scoring.start l.tables.live.items l.x-index l.y
+abbrev pub invariant-loop-i : goal.invariant-loop-i
+invariant-loop-i g l =
+    (l.i ≤ l.k) × (pair_code l.best ≡ row_of l.sets g.row.W l.scoring.weights.now l.sizes l.scoring.start l.live l.i l.y)

@@ -9,11 +9,6 @@ use Rattle.network.specs.Views.{net_in}
 use Rattle.slicetree.specs.Answers.{same_tree, check_wrong, check_beyond, check_as_is, check_dangling, check_closed}
 use Rattle.slicetree.proofs.check.Goals as goal
 
-pub is_beyond-requires-clause-right : goal.is_beyond-requires-clause-right
-is_beyond-requires-clause-right c =
-    let t = c.in_ok-tree.tree in
-    subst (λ (k : ℕ). wrong_tree k t.kids.now ≡ false) (c.in_ok-tree.ensures.ok.1 ∙ c.leaf_count.ensures) t.valid
-
 pub returns-in_err-tree : goal.returns-in_err-tree
 returns-in_err-tree c =
     let a = c.args in

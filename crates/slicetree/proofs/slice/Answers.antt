@@ -1,8 +1,7 @@
 use borrow.Author.Rules.{rules}
-use Rattle.std.proofs.Common.{◌≡◌, ◌∙◌, subst, Err}
-use Rattle.spec.specs.Network.{Network}
+use Rattle.std.proofs.Common.{◌≡◌, ◌∙◌, Err}
 use Rattle.network.specs.Record.{net_of}
-use Rattle.slicetree.specs.Answers.{Slices, slices_refused}
+use Rattle.slicetree.specs.Answers.{slices_refused}
 use Rattle.slicetree.proofs.slice.Goals as goal
 
 pub returns-in_err-network-clause-answer : goal.returns-in_err-network-clause-answer
@@ -26,23 +25,3 @@ pub returns-in_err-network-clause-workspace : goal.returns-in_err-network-clause
 returns-in_err-network-clause-workspace c =
     let a = c.args in
     (slices_refused (net_of a.network.now) a.improving a.target a.tree.now a.flags.now a.ws.now c.in_err-network.field-0.0 c.in_err-network.ensures.err).workspace
-
-pub returns-clause-answer : goal.returns-clause-answer
-returns-clause-answer c =
-    let a = c.args in
-    (subst (λ (M : Network). Slices M a.improving a.target a.tree.now a.flags.now a.ws.now c.slice_of.new.tree c.slice_of.new.flags c.slice_of.new.ws c.slice_of.result) c.in_ok-network.ensures.ok c.slice_of.ensures).answer
-
-pub returns-clause-tree : goal.returns-clause-tree
-returns-clause-tree c =
-    let a = c.args in
-    (subst (λ (M : Network). Slices M a.improving a.target a.tree.now a.flags.now a.ws.now c.slice_of.new.tree c.slice_of.new.flags c.slice_of.new.ws c.slice_of.result) c.in_ok-network.ensures.ok c.slice_of.ensures).tree
-
-pub returns-clause-sliced : goal.returns-clause-sliced
-returns-clause-sliced c =
-    let a = c.args in
-    (subst (λ (M : Network). Slices M a.improving a.target a.tree.now a.flags.now a.ws.now c.slice_of.new.tree c.slice_of.new.flags c.slice_of.new.ws c.slice_of.result) c.in_ok-network.ensures.ok c.slice_of.ensures).flags_are
-
-pub returns-clause-workspace : goal.returns-clause-workspace
-returns-clause-workspace c =
-    let a = c.args in
-    (subst (λ (M : Network). Slices M a.improving a.target a.tree.now a.flags.now a.ws.now c.slice_of.new.tree c.slice_of.new.flags c.slice_of.new.ws c.slice_of.result) c.in_ok-network.ensures.ok c.slice_of.ensures).workspace

@@ -1,5 +1,5 @@
 use borrow.Author.Rules.{rules}
-use Rattle.std.proofs.Common.{◌≡◌, ◌≤◌, ◌∙◌, refl, ap, length, take, length-take-le, arith}
+use Rattle.std.proofs.Common.{◌≡◌, ◌≤◌, ◌∙◌, refl, ap, length, take, arith}
 use Rattle.spec.specs.Memory.{cleared}
 use Rattle.walk.specs.Entry.{lent_cleared}
 use Rattle.network.specs.Views.{net_in, in_indices}
@@ -19,9 +19,6 @@ returns-then-flags-network c =
     let n = a.network.now in
     slices_accepted (net_in n) a.improving a.target a.tree.now a.flags.now a.ws.now n.holds.passed
     (few_flags (net_in n) a.improving a.target a.tree.now a.flags.now a.ws.now (length n.weights.now) (in_indices n) (omega (arith, c.stated-words.ensures, c.if-ws-words.false)) (omega arith))
-
-pub slice_in-answer-requires : goal.slice_in-answer-requires
-slice_in-answer-requires c = omega (arith, c.stated-words.ensures, length-take-le c.stated-words.result c.args.ws.now c.if-ws-words.false)
 
 pub returns : goal.returns
 returns c =

@@ -1,23 +1,12 @@
-use Rattle.slicing.specs.Turns.{Slicing, slicing_next, slicing_stops, slicing_ends}
-use borrow.Author.Tests.{not-true, not-false}
+use Rattle.slicing.specs.Turns.{Slicing, slicing_next, slicing_ends}
+use borrow.Author.Tests.{not-false}
 use Rattle.network.specs.Views.{net_in, in_indices}
 use Rattle.spec.specs.Network.{index_count}
 use Prim.Native.Nat.{ℕ, suc, ◌+◌, ◌-◌}
 use native.Mathlib.Omega.{arith}
 use mathlib.Core.Path.{◌≡◌, subst}
-use Rattle.std.proofs.lemmas.Bool.{not_from_true, not_from_false}
+use Rattle.std.proofs.lemmas.Bool.{not_from_true}
 use Rattle.slicing.proofs.slice.Goals as goal
-
-pub turn-requires-clause-within : goal.turn-requires-clause-within
-turn-requires-clause-within c = c.loop.invariant.1.within
-
-pub returns-then-not-turn : goal.returns-then-not-turn
-returns-then-not-turn c =
-    let a = c.args in
-    let l = c.loop in
-    let N = net_in a.network.now in
-    slicing_stops N a.target a.tree.now.kids.now a.flags.now (index_count N) (index_count N - l.counter) l.flags _ c.turn.result
-    (not-true c.turn.result (not_from_false _ c.if-not-turn.true)) c.turn.ensures l.invariant.1
 
 pub loop-preserved : goal.loop-preserved
 loop-preserved c =

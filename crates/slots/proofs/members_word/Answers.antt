@@ -2,11 +2,8 @@ use Rattle.std.proofs.Common.{◌≡◌, ◌∙◌, sym, ap, subst, arith, lengt
 use Rattle.std.proofs.lemmas.List.Edits.{sets}
 use Rattle.spec.specs.Members.{All}
 use Rattle.bits.specs.Lowest.{places}
-use Rattle.slots.specs.Rising.{put_next, put_most, put_end, places_below, first_below}
+use Rattle.slots.specs.Rising.{put_most, put_end, places_below}
 use Rattle.slots.proofs.members_word.Goals as goal
-
-pub overflow_cast-i : goal.overflow_cast-i
-overflow_cast-i c = omega (arith, (first_below 65536 _ _ _ c.in-Some.ensures.steps c.loop-i.invariant.2).0)
 
 pub loop-i-init : goal.loop-i-init
 loop-i-init c =
@@ -24,11 +21,6 @@ pub overflow_add-n : goal.overflow_add-n
 overflow_add-n c =
     let d = c.args in
     omega (arith, put_most d.out.now d.at d.base d.x c.loop-i.out c.loop-i.n _ (omega arith) c.loop-i.invariant.1, c.requires.1)
-
-pub loop-i-preserved : goal.loop-i-preserved
-loop-i-preserved c =
-    let d = c.args in
-    (tt, put_next d.out.now d.at d.base d.x c.loop-i.out _ c.loop-i.n c.in-Some.i _ _ c.in-Some.ensures.steps c.put.ensures c.loop-i.invariant.1, (first_below 65536 _ _ _ c.in-Some.ensures.steps c.loop-i.invariant.2).1)
 
 pub returns : goal.returns
 returns c = let d = c.args in put_end d.out.now d.at d.base d.x c.loop-i.out c.loop-i.n _ (omega arith) c.in-None.ensures.steps.0 c.loop-i.invariant.1

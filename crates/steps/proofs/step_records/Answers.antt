@@ -45,7 +45,7 @@ returns-in_err-prices-clause-records c =
     let few : step_places N ≤ 127 = omega (arith, ap leaf_count same, in_leaves n, (in_facts n n.holds).few_leaves) in
     let r = c.in_err-prices.field-0.0 in
     let e : c.from_residual-in_err-prices.result ≡ Err r = search rules in
-    let t : TreeCost N a.flags.now a.kids.now a.ws.now p.sets.now p.sizes.now p.works.now (replicate 635 0) c.cost_of.new.ws c.cost_of.new.list.sets.now c.cost_of.new.list.sizes.now c.cost_of.new.list.works.now c.cost_of.new.steps (Err r) = rw same at c.in_err-prices.ensures.cost in
+    let t : TreeCost N a.flags.now a.kids.now a.ws.now p.sets.now p.sizes.now p.works.now (replicate 635 0) c.price_accepted.new.ws c.price_accepted.new.list.sets.now c.price_accepted.new.list.sizes.now c.price_accepted.new.list.works.now c.price_accepted.new.steps (Err r) = rw same at c.in_err-prices.ensures.cost in
     rw e
     (records_refused N a.flags.now a.kids.now a.ws.now p.sets.now p.sizes.now p.works.now a.steps.now (replicate 635 0)
     (same_call N (length a.ws.now) (length p.sets.now) (length p.sizes.now) (length p.works.now) a.flags.now a.kids.now 635 (length a.steps.now * 5) (λ _. omega (arith, few)) (λ _. omega (arith, inner, c.if-steps-inner.false)))
@@ -60,7 +60,7 @@ returns-clause-records c =
     let n = c.in_ok-network.network in
     let inner : c.saturating_sub-inner.result ≡ step_places N = omega (arith, c.saturating_sub-inner.ensures, c.leaf_count.ensures, ap leaf_count same) in
     let few : step_places N ≤ 127 = omega (arith, ap leaf_count same, in_leaves n, (in_facts n n.holds).few_leaves) in
-    let t : TreeCost N a.flags.now a.kids.now a.ws.now p.sets.now p.sizes.now p.works.now (replicate 635 0) c.cost_of.new.ws c.cost_of.new.list.sets.now c.cost_of.new.list.sizes.now c.cost_of.new.list.works.now c.cost_of.new.steps (Ok c.in_ok-prices.prices) = rw same at c.in_ok-prices.ensures.cost in
+    let t : TreeCost N a.flags.now a.kids.now a.ws.now p.sets.now p.sizes.now p.works.now (replicate 635 0) c.price_accepted.new.ws c.price_accepted.new.list.sets.now c.price_accepted.new.list.sizes.now c.price_accepted.new.list.works.now c.price_accepted.new.steps (Ok c.in_ok-prices.prices) = rw same at c.in_ok-prices.ensures.cost in
     records_priced N a.flags.now a.kids.now a.ws.now p.sets.now p.sizes.now p.works.now a.steps.now (replicate 635 0)
     (same_call N (length a.ws.now) (length p.sets.now) (length p.sizes.now) (length p.works.now) a.flags.now a.kids.now 635 (length a.steps.now * 5) (λ _. omega (arith, few)) (λ _. omega (arith, inner, c.if-steps-inner.false)))
-    t (c.put_steps.ensures ∙ ap (λ k. over a.steps.now (steps_of c.cost_of.new.steps k)) inner)
+    t (c.put_steps.ensures ∙ ap (λ k. over a.steps.now (steps_of c.price_accepted.new.steps k)) inner)

@@ -8,4 +8,4 @@ use Rattle.subset.proofs.fill.Given as goal
 abbrev pub invariant-loop-s : goal.invariant-loop-s
 invariant-loop-s l =
     (1 ≤ l.s) × (l.tried ≤ l.s * 4096) × (length l.cost ≡ length l.tables.bits.now) × (length l.part ≡ length l.tables.bits.now)
-    × Filled (best_at l.cost) (split_at l.part) (work_at l.tables.kept.now l.tables.weights.now) (length l.tables.bits.now) l.limit l.s l.tried
+    × Filled (best_at l.cost) (split_at l.part) (work_at l.tables.kept.now l.tables.planes.weights.now) (length l.tables.bits.now) l.limit l.s l.tried

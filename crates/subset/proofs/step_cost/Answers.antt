@@ -10,11 +10,11 @@ use Rattle.subset.proofs.step_cost.Goals as goal
 
 pub returns-then-not-below : goal.returns-then-not-below
 returns-then-not-below c = let a = c.args in let t = a.tables.now in
-    not_below c.below.result _ _ _ _ (not_from_false _ c.if-not-below.true) c.below.ensures c.bits.ensures (work_left t.kept.now t.weights.now a.l a.r)
+    not_below c.below.result _ _ _ _ (not_from_false _ c.if-not-below.true) c.below.ensures c.bits.ensures (work_left t.kept.now t.planes.weights.now a.l a.r)
 
 pub returns-then-not-below-2 : goal.returns-then-not-below-2
 returns-then-not-below-2 c = let a = c.args in let t = a.tables.now in
-    not_below c.below-2.result _ _ _ _ (not_from_false _ c.if-not-below-2.true) c.below-2.ensures c.bits-2.ensures (work_right t.kept.now t.weights.now a.l a.r)
+    not_below c.below-2.result _ _ _ _ (not_from_false _ c.if-not-below-2.true) c.below-2.ensures c.bits-2.ensures (work_right t.kept.now t.planes.weights.now a.l a.r)
 
 pub overflow_shl-result : goal.overflow_shl-result
 overflow_shl-result c = let z = small_power c.work-work.result c.args.room (omega arith) (sym c.below-3.ensures ∙ c.if-below.true) in omega (arith, z)

@@ -11,9 +11,6 @@ loop-rest-init c = let a = c.args in let q = c.requires in (begins a.kids.now a.
 pub overflow_cast-out : goal.overflow_cast-out
 overflow_cast-out c = let a = c.args in let q = c.requires in let l = c.loop-rest in let m = c.loop-rest-test.true in let i = internal a.kids.now a.n q.0 q.2 a.out.now l.ws l.v l.p l.out l.rest l.invariant.0 m in omega (arith, i.0, i.1, q)
 
-pub bounds-out-rest : goal.bounds-out-rest
-bounds-out-rest c = let a = c.args in let q = c.requires in let l = c.loop-rest in let m = c.loop-rest-test.true in let d = deep a.kids.now a.n q.0 q.2 a.out.now l.ws l.v l.p l.out l.rest l.invariant.0 m in omega (arith, d, q, l.invariant.1, l.invariant.4)
-
 pub overflow_sub-j : goal.overflow_sub-j
 overflow_sub-j c = let a = c.args in let q = c.requires in let l = c.loop-rest in let m = c.loop-rest-test.true in let i = internal a.kids.now a.n q.0 q.2 a.out.now l.ws l.v l.p l.out l.rest l.invariant.0 m in omega (arith, i.0, i.1, q)
 

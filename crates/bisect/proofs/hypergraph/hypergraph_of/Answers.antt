@@ -8,4 +8,4 @@ use Rattle.bisect.proofs.hypergraph.hypergraph_of.Goals as goal
 
 pub returns : goal.returns
 unfolding of_bits
-returns c = let p = c.requires in let a = c.args in let n = a.network.now in λ N h. is_of N n.weights.now n.leg_counts.now n.legs.now a.leaves.now h a.words.now _ _ a.slots.nets a.slots.vertices _ c.mesh.result a.vw.now _ (p.0, p.1) p.2 p.4 p.5 c.put_leaves.ensures c.mesh.ensures (c.fill.ensures ∙ ap (filled (length a.vw.now)) one_whole)
+returns c = let p = c.requires in let a = c.args in λ N h. is_of N a.weights.now a.leg_counts.now a.legs.now a.leaves.now h a.words.now _ _ a.slots.nets a.slots.vertices _ c.mesh.result a.vw.now _ (p.0, p.1) p.2 p.4 p.5 c.put_leaves.ensures c.mesh.ensures (c.fill.ensures ∙ ap (filled (length a.vw.now)) one_whole)

@@ -17,6 +17,6 @@ loop-k-preserved c = let a = c.args in let l = c.loop-k in turns_next _ _ l.k l.
 pub returns : goal.returns
 unfolding leaf_put
 returns c =
-    let a = c.args in let n = a.network.now in
-    let e : c.loop-k.k ≡ get_or n.leg_counts.now a.l 0 = omega (arith, c.loop-k-test.false, c.loop-k.auto.k-end, c.from-k-end.ensures ∙ c.get_or.ensures) in
-    c.loop-k.invariant ∙ ap (entered 2 a.nets n.legs.now (a.l * 32) a.v a.words.now) e
+    let a = c.args in
+    let e : c.loop-k.k ≡ get_or a.leg_counts.now a.l 0 = omega (arith, c.loop-k-test.false, c.loop-k.auto.k-end, c.from-k-end.ensures ∙ c.get_or.ensures) in
+    c.loop-k.invariant ∙ ap (entered 2 a.nets a.legs.now (a.l * 32) a.v a.words.now) e

@@ -3,4 +3,4 @@ use Rattle.std.proofs.Common.{◌≡◌, ◌*◌}
 use Rattle.bisect.proofs.hypergraph.put_leaf.Given as goal
 
 abbrev pub invariant-loop-k : goal.invariant-loop-k
-invariant-loop-k l = l.words ≡ entered 2 l.nets l.network.legs.now (l.l * 32) l.v l.initial.words l.k
+invariant-loop-k l = l.words ≡ entered 2 l.nets l.legs (l.l * 32) l.v l.initial.words l.k

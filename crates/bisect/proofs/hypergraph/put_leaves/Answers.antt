@@ -8,8 +8,8 @@ pub loop-v-init : goal.loop-v-init
 loop-v-init c = sym (turns_none _ _)
 
 pub loop-v-preserved : goal.loop-v-preserved
-loop-v-preserved c = let a = c.args in let l = c.loop-v in let n = a.network.now in turns_next (leaf_put_at a.nets n.leg_counts.now n.legs.now a.leaves.now) _ l.v l.invariant (c.put_leaf.ensures ∙ ap (λ (u : ℕ). leaf_put a.nets n.leg_counts.now n.legs.now u l.v l.words) c.from.ensures)
+loop-v-preserved c = let a = c.args in let l = c.loop-v in turns_next (leaf_put_at a.nets a.leg_counts.now a.legs.now a.leaves.now) _ l.v l.invariant (c.put_leaf.ensures ∙ ap (λ (u : ℕ). leaf_put a.nets a.leg_counts.now a.legs.now u l.v l.words) c.from.ensures)
 
 pub returns : goal.returns
 unfolding raw
-returns c = let a = c.args in let l = c.loop-v in let n = a.network.now in turns_end (leaf_put_at a.nets n.leg_counts.now n.legs.now a.leaves.now) (emptied 2 a.nets a.words.now 256) (omega arith) (l.invariant ∙ ap (λ g. turns (leaf_put_at a.nets n.leg_counts.now n.legs.now a.leaves.now) g l.v) c.empty_all.ensures)
+returns c = let a = c.args in let l = c.loop-v in turns_end (leaf_put_at a.nets a.leg_counts.now a.legs.now a.leaves.now) (emptied 2 a.nets a.words.now 256) (omega arith) (l.invariant ∙ ap (λ g. turns (leaf_put_at a.nets a.leg_counts.now a.legs.now a.leaves.now) g l.v) c.empty_all.ensures)

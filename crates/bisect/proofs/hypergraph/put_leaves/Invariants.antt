@@ -4,4 +4,4 @@ use Rattle.std.proofs.Common.{◌≡◌}
 use Rattle.bisect.proofs.hypergraph.put_leaves.Given as goal
 
 abbrev pub invariant-loop-v : goal.invariant-loop-v
-invariant-loop-v l = l.words ≡ turns (leaf_put_at l.nets l.network.leg_counts.now l.network.legs.now l.leaves) l.initial.words l.v
+invariant-loop-v l = l.words ≡ turns (leaf_put_at l.nets l.leg_counts l.legs l.leaves) l.initial.words l.v

@@ -13,6 +13,3 @@ loop-u-preserved c =
           (o.rated ∙ ap (λ (u : ℕ). rated_open s.mates.now s.none s.vertex a.r u (ratings_of l.self)) c.from.ensures),
       omega (arith, o.few, l.invariant.2),
     )
-
-pub rate_open-requires : goal.rate_open-requires
-rate_open-requires c = let l = c.loop-u in (omega (arith, c.type_inv.pins l.u-index, c.from.ensures), omega (arith, l.invariant.0.3, l.invariant.2, c.requires, c.loop-u-test.true))

@@ -7,9 +7,6 @@ use Rattle.network.specs.Views.{net_in, in_facts, in_leaves}
 use Rattle.slicetree.specs.Once.{standing_of, once, limit_is}
 use Rattle.slicetree.proofs.choices.improve_once.Goals as goal
 
-pub improve-requires-clause-standing : goal.improve-requires-clause-standing
-improve-requires-clause-standing c = standing_of refl c.price.ensures.held c.requires.stands.right c.requires.stands.within.total
-
 pub returns : goal.returns
 returns c =
     let a = c.args in

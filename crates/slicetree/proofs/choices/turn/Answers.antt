@@ -1,12 +1,12 @@
-use borrow.Author.Tests.{not-true, not-false}
+use borrow.Author.Tests.{not-false}
 use Rattle.std.proofs.Common.{◌∙◌, sym, arith}
-use Rattle.std.proofs.lemmas.Bool.{not_from_true, not_from_false}
+use Rattle.std.proofs.lemmas.Bool.{not_from_true}
 use Rattle.spec.specs.Memory.{filled}
 use Rattle.spec.specs.Tree.{step_order}
 use Rattle.walk.specs.Order.{order_length}
 use Rattle.network.specs.Views.{in_facts, in_leaves}
 use Rattle.cost.specs.Checks.{order_front}
-use Rattle.slicetree.specs.Choices.{choice_none, choice_made, within_next}
+use Rattle.slicetree.specs.Choices.{choice_made, within_next}
 use Rattle.slicetree.proofs.choices.turn.Goals as goal
 
 pub turn-requires-clause-order : goal.turn-requires-clause-order
@@ -21,9 +21,6 @@ turn-requires-clause-order c =
 pub improve_once-requires-clause-stands : goal.improve_once-requires-clause-stands
 improve_once-requires-clause-stands c =
     record { right = c.requires.stands.right; within = within_next c.requires.stands c.turn.ensures (not-false c.turn.result (not_from_true _ c.if-not-turn.false)) }
-
-pub returns-then-not-turn : goal.returns-then-not-turn
-returns-then-not-turn c = choice_none c.requires.stands c.turn.ensures (not-true c.turn.result (not_from_false _ c.if-not-turn.true))
 
 pub returns : goal.returns
 returns c = choice_made c.requires.stands c.turn.ensures (not-false c.turn.result (not_from_true _ c.if-not-turn.false)) c.improve_once.ensures

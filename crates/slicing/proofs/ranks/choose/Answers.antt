@@ -5,13 +5,13 @@ use Rattle.slicing.specs.Whole.{steps_known, tables_known, touching_most, chosen
 use lib.ListN.{length}
 use Rattle.slicing.proofs.ranks.choose.Goals as goal
 
-pub add_works-requires-clause-known : goal.add_works-requires-clause-known
+pub add_works-requires : goal.add_works-requires
 unfolding filled
-add_works-requires-clause-known c = steps_known c.requires
+add_works-requires c = steps_known c.requires
 
-pub add_sizes-requires-clause-known : goal.add_sizes-requires-clause-known
+pub add_sizes-requires : goal.add_sizes-requires
 unfolding filled
-add_sizes-requires-clause-known c = tables_known c.requires
+add_sizes-requires c = tables_known c.requires
 
 pub best-requires : goal.best-requires
 unfolding filled

@@ -9,7 +9,7 @@ loop-j-init c = let s = c.args.self.now in
 
 pub put_member-requires : goal.put_member-requires
 put_member-requires c = let s = c.args.self.now in
-    (omega (arith, c.loop-j.invariant.written.put.past, kept_length (held s.sets.now s.width c.args.v) c.loop-j.j (omega arith)), omega arith)
+    omega (arith, c.loop-j.invariant.written.put.past, kept_length (held s.sets.now s.width c.args.v) c.loop-j.j (omega arith))
 
 pub loop-j-preserved : goal.loop-j-preserved
 loop-j-preserved c = let s = c.args.self.now in
