@@ -1,4 +1,4 @@
-use Rattle.slicing.specs.Turns.{Slicing, slicing_next, slicing_ends}
+use Rattle.slicing.specs.Turns.{Slicing, slicing_next}
 use borrow.Author.Tests.{not-false}
 use Rattle.spec.specs.Layout.{network_of}
 use Prim.Native.Nat.{ℕ, suc, ◌+◌, ◌-◌}
@@ -18,9 +18,3 @@ loop-preserved c =
           (not-false c.turn.result (not_from_true _ c.if-not-turn.false)) c.turn.ensures
           (subst (λ (x : ℕ). Slicing N a.target a.kids.now a.flags.now a.m x l.flags) e l.invariant.1),
     )
-
-pub returns : goal.returns
-returns c =
-    let a = c.args in
-    let l = c.loop in
-    slicing_ends (network_of a.m a.n a.o a.weights.now a.counts.now a.legs.now a.outputs.now) a.target a.kids.now a.flags.now a.m (a.m - l.counter) l.flags (omega arith) l.invariant.1

@@ -7,19 +7,7 @@ use Rattle.pricing.specs.Sums.{work_sum}
 use Rattle.spec.specs.Slicing.{within_target}
 use lib.ListN.{length}
 use mathlib.Core.Path.{refl, sym, ap, ◌∙◌}
-use native.Mathlib.Omega.{arith}
 use Rattle.slicing.proofs.turn.Goals as goal
-
-pub fill-requires : goal.fill-requires
-unfolding filled
-fill-requires c =
-    let r = c.requires.room in
-    record {
-      width = (omega arith, omega arith);
-      priceable = c.requires.priceable;
-      outside = r.for_outside;
-      room = record { for_sets = r.for_sets; for_sizes = r.for_sizes; for_works = r.for_works };
-    }
 
 pub widest-requires : goal.widest-requires
 unfolding filled
