@@ -90,9 +90,9 @@ impl<'a> PriceList<'a> {
         )
     }
 
-    // Prices the nodes of a tree of a network in lists of which the first places are in use, `m` weights, `n` leaves and `o` outputs.
+    /// Prices the nodes of a tree of a network in lists of which the first places are in use, `m` weights, `n` leaves and `o` outputs.
     // Stays: asks no more of its callers than lists that fit.
-    pub(crate) fn fill<const M: usize>(
+    pub fn fill<const M: usize>(
         &mut self,
         outside: &mut [u64],
         w: usize,

@@ -30,10 +30,7 @@ fn next_case<R: Read, W: Write>(input: &mut R, out: &mut W) -> io::Result<()> {
     price(out, &bytes[..n])
 }
 
-// An input that ends early goes on with zeros. A read or a write that fails ends the run, and is not told.
-// Stays: a program's `main` hands its own case to the one loop of `stored`.
+// Stays: where a program begins. What programs share stands in `stored::run_cases`; what is left names what this one runs.
 fn main(rt: HostRuntime) {
-    let mut input = stored::with_zeros(rt.reader());
-    let mut out = io::writer(&rt);
-    let _ = stored::each_case(&mut input, &mut out, next_case);
+    stored::run_cases(&rt, next_case);
 }

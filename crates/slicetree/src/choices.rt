@@ -67,7 +67,7 @@ fn turn(
         leaves: network.leaf_count(),
     };
     let c = tree.post_order(words, &mut order);
-    if !slicing::turn(words, flags, network, &tree, &order[..c], target) {
+    if !slicing::turn_of(words, flags, network, &tree, &order[..c], target) {
         return None;
     }
     Some(improve_once(network, kids, flags, target, words))

@@ -2,7 +2,7 @@
 use Rattle.std.specs.Prelude.{Bool, true, false, not, cond, ◌≡◌, List, ℕ, ◌*◌, ◌^◌, ◌≤◌, ◌<◌, length, get_or, Option}
 use Rattle.std.proofs.Common.{◌∙◌, ap, subst}
 use Rattle.spec.specs.Lists.{memb, range, sum_of}
-use Rattle.spec.specs.Layout.{firsts}
+use Rattle.spec.specs.Layout.{firsts, network_of}
 use Rattle.spec.specs.Network.{Network, leaf_count, index_count, weight}
 use Rattle.spec.specs.Tree.{pairs_of}
 use Rattle.spec.specs.Price.{list_at, size_at, work_at, listing, work}
@@ -16,8 +16,6 @@ use Rattle.nodesets.specs.Passes.{nodes}
 use Rattle.nodesets.specs.Steps.{Steps}
 use Rattle.nodesets.specs.Lists.{Ordered}
 use Rattle.slicing.specs.Nodes.{step_share, table_share}
-use Rattle.network.specs.Views.{net_in}
-use Rattle.network.specs.declared.accepted.Accepted.{Accepted}
 use Rattle.slicing.specs.declared.ranks.Rank.{Rank as Found}
 use Rattle.slicing.specs.Best.{best_of, candidate_in, rank_in}
 use Rattle.slicing.specs.Folds.{best_in, best_same, best_is}
@@ -49,12 +47,12 @@ pub record PricedTree (W : ℕ) (N : Network) (n : ℕ) (flag : ℕ → Bool) (k
 abbrev pub plan_with : (flags kids : List ℕ) (rebuilt tried : ℕ) → Plan
 plan_with flags kids rebuilt tried = record { tree = pairs_of kids; flag = flag_at flags; rebuilt = rebuilt; tried = tried }
 
--- where the lists have the network's price list, the choice is the definition's best of the candidates
-abbrev pub Chosen : (W : ℕ) (a : Accepted) (n : ℕ) (flags kids order sets sizes works : List ℕ) (target : ℕ) → Option Found → Type 0
-Chosen W a n flags kids order sets sizes works target r =
-    (rebuilt tried : ℕ)
-    → PricedTree W (net_in a) n (flag_at flags) kids order sets sizes works
-    → r ≡ best_in (net_in a) target (plan_with flags kids rebuilt tried) (candidates (net_in a) target (plan_with flags kids rebuilt tried))
+-- the choice is the definition's best of the candidates, whichever network's price list it is
+abbrev pub Chosen : (W m n o : ℕ) (weights outputs flags kids order sets sizes works : List ℕ) (target : ℕ) → Option Found → Type 0
+Chosen W m n o weights outputs flags kids order sets sizes works target r =
+    (counts rows : List ℕ) (rebuilt tried : ℕ)
+    → PricedTree W (network_of m n o weights counts rows outputs) n (flag_at flags) kids order sets sizes works
+    → r ≡ best_in (network_of m n o weights counts rows outputs) target (plan_with flags kids rebuilt tried) (candidates (network_of m n o weights counts rows outputs) target (plan_with flags kids rebuilt tried))
 
 -- ---- what the sums say ----
 

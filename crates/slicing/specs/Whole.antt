@@ -3,7 +3,7 @@ use Rattle.std.specs.Prelude.{cond, ◌≡◌, List, ℕ, ◌+◌, ◌*◌, ◌^
 use Rattle.std.proofs.Common.{sym, ◌∙◌, ap, arith}
 use Rattle.spec.specs.Lists.{memb, range, sum_of}
 use Rattle.spec.specs.Memory.{filled}
-use Rattle.spec.specs.Layout.{firsts}
+use Rattle.spec.specs.Layout.{firsts, network_of}
 use Rattle.spec.specs.Network.{index_count, weight}
 use Rattle.spec.specs.Calls.{flag_at}
 use Rattle.cells.specs.Cells.{filled_length, filled_all}
@@ -13,8 +13,6 @@ use Rattle.nodesets.specs.Passes.{nodes}
 use Rattle.slicing.specs.Sums.{Small, Summed, share_most}
 use Rattle.slicing.specs.Nodes.{StepsKnown, TablesKnown, step_share, table_share, sum_le}
 use Rattle.laws.specs.FlatLaws.{left_of, right_of}
-use Rattle.network.specs.declared.accepted.Accepted.{Accepted}
-use Rattle.network.specs.Views.{net_in}
 use Rattle.slicing.specs.declared.ranks.Rank.{Rank as Found}
 use Rattle.slicing.specs.Best.{best_of, candidate_in, rank_in}
 use Rattle.slicing.specs.Tables.{candidate_is}
@@ -64,31 +62,23 @@ module _ {W m n : ℕ} {weights kids order sets sizes works : List ℕ} {total :
             (λ v. share_most (2 ^ get_or works v 0) j (either sets W (left_of kids n v) (right_of kids n v)) 0 (W * 64)),
       )
 
-module _ {W n : ℕ} (a : Accepted) {kids order sets sizes works : List ℕ} {total : ℕ}
-    (k : Rankable W (length a.weights.now) n a.weights.now kids order sets sizes works total) where
-  abbrev m : ℕ
-  m = length a.weights.now
-
-  abbrev o : ℕ
-  o = length a.outputs.now
-
   -- THE CHOICE IS THE DEFINITION'S
-  pub chosen_is : (flags : List ℕ) (target : ℕ) (sliceable touch above : List ℕ) (r : Option Found)
-      → ((j : ℕ) → get_or sliceable j 0 ≡ cond (memb j (firsts o a.outputs.now)) 0 (open_weight (firsts m a.weights.now) flags j))
+  pub chosen_is : (o : ℕ) (outputs flags : List ℕ) (target : ℕ) (sliceable touch above : List ℕ) (r : Option Found)
+      → ((j : ℕ) → get_or sliceable j 0 ≡ cond (memb j (firsts o outputs)) 0 (open_weight (firsts m weights) flags j))
       → Summed (step_share W (left_of kids n) (right_of kids n) sets works) none order touch
       → Summed (table_share W target sets sizes) none (range (n + length order)) above
       → r ≡ best_of (candidate_in sliceable above) (rank_in total sliceable touch above) m
-      → Chosen W a n flags kids order sets sizes works target r
-  chosen_is flags target sliceable touch above r e s t f rebuilt tried q =
-      let N = net_in a in
+      → Chosen W m n o weights outputs flags kids order sets sizes works target r
+  chosen_is o outputs flags target sliceable touch above r e s t f counts rows rebuilt tried q =
+      let N = network_of m n o weights counts rows outputs in
       let p = plan_with flags kids rebuilt tried in
-      let c : index_count N ≡ m = layout_index_count m _ o a.weights.now a.leg_counts.now a.legs.now a.outputs.now in
+      let c : index_count N ≡ m = layout_index_count m n o weights counts rows outputs in
       let d = node_sums flags target rebuilt tried q in
       let low : (j : ℕ) → j < index_count N → j < W * 64 = λ j h. omega (arith, k.fits) in
       let w : (j : ℕ) → get_or sliceable j 0 ≡ cond (memb j N.outputs) 0 (cond (flag_at flags j) 0 (weight N j)) =
-      λ j. rw (layout_outputs m (length a.leg_counts.now) o a.weights.now a.leg_counts.now a.legs.now a.outputs.now, layout_weights m (length a.leg_counts.now) o a.weights.now a.leg_counts.now a.legs.now a.outputs.now) (e j) in
+      λ j. rw (layout_outputs m n o weights counts rows outputs, layout_weights m n o weights counts rows outputs) (e j) in
       let z : (j : ℕ) → get_or none j 0 ≡ 0 = λ j. filled_all {A = ℕ} 1024 j 0 in
-      let y : n + length order ≡ nodes n kids = omega (arith, nodes_are k) in
+      let y : n + length order ≡ nodes n kids = omega (arith, nodes_are) in
       f ∙ ap (best_of (candidate_in sliceable above) (rank_in total sliceable touch above)) (sym c)
       ∙ best_chosen {N = N} {target = target} {p = p} {total = total} {sliceable = sliceable} {works = touch} {sizes = above} (record {
         totals = sym k.total_is ∙ d.totals;

@@ -8,13 +8,9 @@ ghost use Rattle.slots.specs.Weigh.{Light, open_weight};
 ghost use Rattle.slicing.specs.Best.{rank_from, considered, best_of, candidate_in, rank_in};
 ghost use Rattle.slicing.specs.Promise.{Rankable, Chosen};
 
-// Stays: `network: &Accepted, flags: &[u8]`: the network is the caller's, and the flags are written between the turns of slicing.
-
 use crate::tallies;
-use network::Accepted;
 use pricing::list::PriceList;
 use std::cmp::Reverse;
-use walk::Tree;
 
 // Stays: three numbers of an index, whose derived order needs these fields in this order; no other type ranks by it.
 /// What ranks an index. The derived order is that in which indices are sliced: the lower cost first, then the larger size, then the lower index.
@@ -51,28 +47,36 @@ struct Merits<'a> {
     sizes: &'a [u64],
 }
 
-// Makes the weight of each output 0.
-// Stays: one line over `cells::put`; the like one of reconfigure promises counts, this one weights.
-fn clear_outputs(sliceable: &mut [u8], outputs: &[u16])
-    ensures { (j : ℕ) → get_or sliceable.new j 0 ≡ cond (memb j (firsts (length outputs.now) outputs.now)) 0 (get_or sliceable.old j 0) }
+// Makes the weight of each of the first `o` outputs 0.
+// Stays: by index, as `o` may be more than the list has: what is read past its end is 0. `strike` of reconfigure goes over a whole row, and reads no further.
+fn clear_outputs(sliceable: &mut [u8], o: usize, outputs: &[u16])
+    ensures { (j : ℕ) → get_or sliceable.new j 0 ≡ cond (memb j (firsts o outputs.now)) 0 (get_or sliceable.old j 0) }
 {
-    for &output in outputs {
+    for k in 0..o {
+        let output = cells::get_or(outputs, k, 0);
         cells::put(sliceable, usize::from(output), 0);
     }
 }
 
-// Writes the weights of the network's indices to `sliceable`, those of flagged indices and of outputs as 0, and 0 after them.
-fn sliceable_weights(sliceable: &mut [u8], network: &Accepted, flags: &[u8])
-    requires { length network.now.weights.now ≤ length sliceable.old }
-    ensures { (j : ℕ) → get_or sliceable.new j 0 ≡ cond (memb j (firsts (length network.now.outputs.now) network.now.outputs.now)) 0 (open_weight (firsts (length network.now.weights.now) network.now.weights.now) flags.now j) }
+// Writes the first `m` weights to `sliceable`, those of flagged indices and of the first `o` outputs as 0, and 0 after them.
+// Stays: asks no more of its callers than lists that fit.
+fn sliceable_weights(
+    sliceable: &mut [u8],
+    m: usize,
+    weights: &[u8],
+    flags: &[u8],
+    o: usize,
+    outputs: &[u16],
+)
+    requires { (m ≤ length weights.now) × (m ≤ length sliceable.old) }
+    ensures { (j : ℕ) → get_or sliceable.new j 0 ≡ cond (memb j (firsts o outputs.now)) 0 (open_weight (firsts m weights.now) flags.now j) }
 {
-    let weights = network.weights;
-    nodebits::effective_weights(sliceable, weights.len(), weights, flags);
-    clear_outputs(sliceable, network.outputs);
+    nodebits::effective_weights(sliceable, m, weights, flags);
+    clear_outputs(sliceable, o, outputs);
 }
 
 // The total over all settings of an index of the given weight, once it is sliced: `touching` is the work of the steps whose children list it.
-// Stays: the total once an index is sliced, no conversion.
+// Stays: the `cost` of a rank, by name; three numbers go in, and none of them is the value of another type.
 fn cost_of(total: u64, touching: u64, weight: usize) -> u64
     requires { (touching ≤ total) × (total < 9007199254740992) × (weight ≤ 8) }
     ensures { result ≡ 2 ^ weight * (total - touching) + touching }
@@ -124,32 +128,43 @@ impl<'a> Merits<'a> {
     }
 }
 
-// The index that is sliced next, of a tree that is priced: `total` is its exact total.
-// Stays: the price list is the turn's, network, flags and tree the caller's; memory is fixed, so the lists by index are arrays here.
+// The index that is sliced next, of a tree that is priced with sets of `w` words: `total` is its exact total.
+// Stays: asks no more of its callers than lists that fit; memory is fixed, so the lists by index are arrays here.
 pub fn choose(
     list: &PriceList,
-    network: &Accepted,
+    w: usize,
+    m: usize,
+    n: usize,
+    o: usize,
+    weights: &[u8],
+    outputs: &[u16],
     flags: &[u8],
-    tree: &Tree,
+    kids: &[u16],
     order: &[u16],
     total: u64,
     target: u16,
 ) -> Option<Rank>
-    requires { Rankable 4 (length network.now.weights.now) tree.now.leaves network.now.weights.now tree.now.kids.now order.now list.now.sets.now list.now.sizes.now list.now.works.now total }
-    ensures { Chosen 4 network.now tree.now.leaves flags.now tree.now.kids.now order.now list.now.sets.now list.now.sizes.now list.now.works.now target result }
+    requires { Rankable w m n weights.now kids.now order.now list.now.sets.now list.now.sizes.now list.now.works.now total }
+    ensures { Chosen w m n o weights.now outputs.now flags.now kids.now order.now list.now.sets.now list.now.sizes.now list.now.works.now target result }
 {
     let mut sliceable = [0u8; 1024];
     let mut touching = [0u64; 1024];
     let mut sizes = [0u64; 1024];
-    sliceable_weights(&mut sliceable, network, flags);
-    tallies::add_works(&mut touching, list, 4, tree, order);
-    let m = tree.leaves + order.len();
-    tallies::add_sizes(&mut sizes, list.sets, list.sizes, 4, m, target);
+    sliceable_weights(&mut sliceable, m, weights, flags, o, outputs);
+    tallies::add_works(&mut touching, list, w, n, kids, order);
+    tallies::add_sizes(
+        &mut sizes,
+        list.sets,
+        list.sizes,
+        w,
+        n + order.len(),
+        target,
+    );
     let merits = Merits {
         total,
         sliceable: &sliceable,
         touching: &touching,
         sizes: &sizes,
     };
-    merits.best(network.weights.len())
+    merits.best(m)
 }

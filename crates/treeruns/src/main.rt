@@ -64,10 +64,7 @@ fn next_case<R: Read, W: Write>(input: &mut R, out: &mut W) -> io::Result<()> {
     run(out, &network, &tree[..places], &other[..others])
 }
 
-// An input that ends early goes on with zeros. A read or a write that fails ends the run, and is not told.
-// Stays: each program begins so, with its own case.
+// Stays: where a program begins. What programs share stands in `stored::run_cases`; what is left names what this one runs.
 fn main(rt: HostRuntime) {
-    let mut input = stored::with_zeros(rt.reader());
-    let mut out = io::writer(&rt);
-    let _ = stored::each_case(&mut input, &mut out, next_case);
+    stored::run_cases(&rt, next_case);
 }
