@@ -20,7 +20,7 @@ use matching::Graph;
 use partition::{Layout, Place};
 
 // What `v` weighs with its mate.
-// Stays: no conversion: two reads and a sum.
+// Stays: it reads the weights of a vertex and of its mate and adds them, and makes no value of another type.
 fn weight_of(vw: &[f64], mates: &[u16], v: usize) -> f64
     ensures { result ≡ weight_in mates.now vw.now v }
 {
@@ -64,8 +64,7 @@ fn join_all(vw: &[f64], mates: &[u16], places: &mut [u16], coarse: &mut [f64]) -
     ensures { (joined_of places.new coarse.new result ≡ joined vw.now mates.now (joined_of places.old coarse.old 0) (length vw.now)) × (result ≤ length vw.now) }
 {
     let mut c: usize = 0;
-    // Stays: the turn reads the weights at the mate too, and the definition folds over numbers.
-    for v in 0..vw.len() {
+    for (v, _) in vw.iter().enumerate() {
         c = join(vw, mates, places, coarse, v, c);
     }
     c
@@ -112,7 +111,7 @@ fn map_nets(graph: &mut [u64], nets: usize, coarse: usize, m: usize, places: &[u
 
 /// How many nets and vertices a hypergraph has.
 #[derive(Clone, Copy)]
-// Stays: no twin of `Slots`: these are counts, those are places, and neither may stand for the other.
+// Stays: these are counts, and those of `Slots` are places, so neither may stand for the other.
 pub struct Size {
     pub nets: usize,
     pub vertices: usize,
@@ -120,14 +119,14 @@ pub struct Size {
 
 /// The slots in lent words at which the nets and the vertices of a hypergraph begin.
 #[derive(Clone, Copy)]
-// Stays: no twin of `Size`: these are places, those are counts, and neither may stand for the other.
+// Stays: these are places, and those of `Size` are counts, so neither may stand for the other.
 pub struct Slots {
     pub nets: usize,
     pub vertices: usize,
 }
 
 // The coarser hypergraph of a matching, in slots of its own, with `weights2` and `vw2`, and the coarse vertex of each vertex in `places`.
-// Stays: what is lent here is lent for this call alone, read or written, by callers that hold it apart; a struct of it would be made at the one call.
+// Stays: the layout and the matching are read, the words and three lists of the coarser level written; the one caller has them as parameters of its own.
 fn level(
     words: &mut [u64],
     layout: &Layout,
@@ -169,7 +168,8 @@ fn is_worthwhile(n: usize, left: usize) -> bool
 }
 
 /// A coarser hypergraph, by a matching in a drawn order, in slots of its own, with `weights2` and `vw2`, and the coarse vertex of each vertex in `places`. The
-/// list `mates` is for the matching. Returns how many nets and vertices the coarser hypergraph has, as an error where too many vertices are left.
+/// list `mates` is for the matching. Returns how many nets and vertices the coarser hypergraph has: `Ok` where it is
+/// worthwhile, and `Err` where more than 95 of 100 vertices are left. The size in `Err` is as good as that in `Ok`: the hypergraph is laid in both.
 // Stays: asks no more of its callers than lists that fit.
 pub fn try_coarsen(
     words: &mut [u64],
@@ -210,7 +210,7 @@ pub fn coarsen(
     places: &mut [u16],
     mates: &mut [u16],
 ) -> Option<Size>
-    requires { (layout.now.nets < 32768) × (layout.now.vertices < 32768) × (0 < length layout.now.vertex_weights.now) × Meshed words.old layout.now.nets layout.now.vertices layout.now.net_count (length layout.now.vertex_weights.now) × (length mates.old ≡ length layout.now.vertex_weights.now) × Within words.old layout.now.nets layout.now.net_count (length layout.now.vertex_weights.now) × (length layout.now.vertex_weights.now ≤ length places.old) × (length layout.now.vertex_weights.now ≤ length vw2.old) × (layout.now.net_count ≤ length weights2.old) × (layout.now.nets + 256 ≤ slots.nets) × (slots.nets + 256 ≤ slots.vertices * 2) × ((slots.vertices + 128) * 4 ≤ length words.old) × (slots.nets < 32768) × (slots.vertices < 32768) }
+    requires { HasRoom words.old layout.now slots weights2.old vw2.old places.old mates.old }
     ensures { ByTry (λ found m n. Made words.old layout.now.nets layout.now.net_weights.now layout.now.net_count layout.now.vertex_weights.now limit draws.old draws.new mates.new slots.nets slots.vertices words.new weights2.new vw2.new places.new found m n) result }
 {
     try_coarsen(

@@ -19,7 +19,7 @@ use matching::Graph;
 
 /// The strongest connection so far, and its vertex, if one was found.
 #[derive(Clone, Copy)]
-// Stays: no twin of a growth: what is compared here is a connection, and no weight.
+// Stays: what is compared here is a connection, and in a growth the weight of a side is summed, so neither may stand for the other.
 pub struct Candidate {
     pub link: f64,
     pub vertex: Option<usize>,
@@ -56,8 +56,7 @@ pub fn strongest(part: &[u8], links: &[f64], draws: &mut Draws) -> Candidate
         link: -1.0,
         vertex: None,
     };
-    // Stays: `offer` reads two lists by the number of a vertex, and it is that number that is kept.
-    for u in 0..links.len() {
+    for (u, _) in links.iter().enumerate() {
         best = offer(part, links, draws, u, best);
     }
     best
@@ -111,14 +110,15 @@ pub fn link_nets(words: &[u64], nets: usize, weights: &[u8], links: &mut [f64], 
 
 /// A growth: the weight of side 1, and the next vertex to come to it, if there is one.
 #[derive(Clone, Copy)]
-// Stays: no twin of a candidate: the weight of a side, and no connection.
+// Stays: the weight of a side, and in a candidate a connection, so neither may stand for the other.
 pub struct Growth {
     pub weight: f64,
     pub next: Option<usize>,
 }
 
 // Vertex `v` comes to side 1, which weighed `former`. Growth ends at `goal`, half of the weight.
-// Stays: what is lent here is lent for this call alone, read or written, by callers that hold it apart; a struct of it would be made at the one call.
+// Stays: the same graph, goal, draws, partition and links go through each step of a growth; but the caller lends its graph, draws and partition apart, and the links live
+// in `grown` alone, so a struct of the five would be one more type with a lifetime whose loans every step must promise to keep.
 fn grow(
     graph: &Graph,
     goal: f64,

@@ -43,7 +43,7 @@ pub fn share<const W: usize>(sets: &[u64], x: usize, y: usize) -> bool
 }
 
 /// What two or more tables hold, and what three or more hold, in a word of their sets.
-// Stays: no twin: two words of sets.
+// Stays: each is a word of a set of indices, and no count of the tables that hold them.
 #[derive(Clone, Copy)]
 struct Holders {
     two: u64,

@@ -1,16 +1,20 @@
 #![tactic(auto)]
 // Vertices matched in pairs along heavy nets, in a drawn order.
-ghost use Rattle.std.specs.Prelude.{◌≡◌, None, ◌-◌, ◌<◌, ◌≤◌, length};
+ghost use Rattle.std.specs.Prelude.{◌≡◌, None, ◌+◌, ◌-◌, ◌<◌, ◌≤◌, length};
 ghost use Rattle.spec.specs.Lists.{range};
 ghost use Rattle.spec.specs.Floats.{zero_float};
 ghost use Rattle.spec.specs.Draws.{drawn};
 ghost use Rattle.spec.specs.Hypergraph.{fold_over};
 ghost use Rattle.spec.specs.Coarsen.{shuffled, matched, matching};
+ghost use Rattle.slots.specs.Rising.{rising_of};
+ghost use Rattle.ratings.specs.Lists.{ratings_of, IsSameLoan};
+ghost use Rattle.ratings.specs.Rated.{rated_nets};
 ghost use Rattle.matching.specs.Order.{drawn_swap, Below};
 ghost use Rattle.matching.specs.Graphs.{graph_of};
 ghost use Rattle.matching.specs.Choices.{choice_of, looked, mated_in};
 
 // Stays: `limit: f64, draws: &mut Draws`: a number that stays and draws that go on; nothing else is made of the two.
+// Stays: `v < length graph.now.layout.vertex_weights.now`: a bound of a number that names a vertex; a type of its own would be unwrapped at each use.
 // Stays: `v < 65536`: a bound of a number, so that it fits a place of the list; a type of its own would be unwrapped at each use.
 
 mod graph;
@@ -54,7 +58,7 @@ fn shuffle(order: &mut [u16], draws: &mut Draws)
 
 /// The best mate so far, if one was found, with its rating.
 #[derive(Clone, Copy)]
-// Stays: no twin of a growth's candidate: the mate is a number as the lists hold it, and the names say what is compared.
+// Stays: the mate is a number as the lists hold it and its rating is compared, where a growth compares connections of places.
 pub struct Best {
     pub rating: f64,
     pub mate: Option<u16>,
@@ -125,6 +129,29 @@ fn pair(mates: &mut [u16], v: usize, mate: Option<u16>)
     }
 }
 
+// Rates the vertices that `v` may be matched with, along its nets.
+fn rate(graph: &Graph, mates: &[u16], ratings: &mut Ratings, v: usize)
+    requires { (v < length graph.now.layout.vertex_weights.now) × (ratings.old.count + 16384 ≤ length ratings.old.touched.now) }
+    ensures lent { IsSameLoan ratings.old ratings.new }
+    ensures rated { ratings_of ratings.new ≡ rated_nets graph.now.words.now graph.now.layout.nets graph.now.layout.net_weights.now mates.now (length graph.now.layout.vertex_weights.now) v (rising_of graph.now.words.now 4 (graph.now.layout.vertices + v)) (ratings_of ratings.old) }
+    ensures few { ratings.new.count ≤ ratings.old.count + 16384 }
+{
+    let mut list = [0u16; 256];
+    let len = slots::members(graph.words, 4, graph.layout.vertices + v, &mut list, 0);
+    let single = Single {
+        vertex: v,
+        mates,
+        none: graph.layout.vertex_weights.len(),
+    };
+    ratings.rate_nets(
+        graph.words,
+        graph.layout.nets,
+        graph.layout.net_weights,
+        &single,
+        &list[..len],
+    );
+}
+
 // `v` is matched, unless it has a mate already: the number of vertices stands for none. The list is for the vertices rated.
 fn match_vertex(
     graph: &Graph,
@@ -140,26 +167,12 @@ fn match_vertex(
     let n = graph.layout.vertex_weights.len();
     if usize::from(cells::get_or(mates, v, 0)) == n {
         let mut floats = [0.0f64; 128];
-        let rating = &mut floats[..n];
-        let mut list = [0u16; 256];
-        let len = slots::members(graph.words, 4, graph.layout.vertices + v, &mut list, 0);
-        let single = Single {
-            vertex: v,
-            mates,
-            none: n,
-        };
         let mut ratings = Ratings {
-            rating,
+            rating: &mut floats[..n],
             touched,
             count: 0,
         };
-        ratings.rate_nets(
-            graph.words,
-            graph.layout.nets,
-            graph.layout.net_weights,
-            &single,
-            &list[..len],
-        );
+        rate(graph, mates, &mut ratings, v);
         let Ratings {
             rating,
             touched,

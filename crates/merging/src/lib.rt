@@ -46,6 +46,7 @@ pub fn put_node(kids: &mut [u16], count: usize, l: u16, r: u16)
 }
 
 /// The numbers of two tables that make one.
+// Stays: two node numbers on their way into the stored tree; a subtree's children elsewhere are places or sets, and neither may stand for these.
 #[derive(Clone, Copy)]
 struct Children {
     left: u16,
@@ -99,7 +100,7 @@ fn scan<const W: usize>(
 {
     live::mark_holders(tables);
     rows::renew_all(tables, scoring);
-    rows::least(&*tables, scoring)
+    rows::least(&*tables, scoring.start)
 }
 
 /// Merges the least pair of the live tables and its like until none share an index, and returns how many merges there were; refused where a
@@ -118,7 +119,7 @@ pub fn connect<const W: usize>(
     ensures why { IfErr result (λ r. r ≡ TableTooWide) }
     ensures connected { (G : Given) (S : Ghost) → Start G S (lists_in tables.old) W n scoring.now.start count scoring.now.weights.now (kids_behind S kids.old) → Connected G S (kids_behind S kids.old) tables.new.nodes tables.new.sizes tables.new.live.items (kids_behind S kids.new) result }
 {
-    // More tables than greedy ever starts with: their nodes have no slots, and nothing is merged.
+    // More tables than greedy ever starts with: `Start` cannot hold, since the slots of their nodes would run past the last one, so nothing is merged.
     if MAX_TABLES < scoring.start {
         return Ok(0);
     }

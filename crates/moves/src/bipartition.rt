@@ -1,12 +1,11 @@
-ghost use Rattle.std.specs.Prelude.{◌≡◌, ◌+◌, ◌-◌, ◌*◌, ◌<◌, ◌≤◌, length};
+ghost use Rattle.std.specs.Prelude.{◌+◌, ◌-◌, ◌*◌, ◌<◌, ◌≤◌, length};
 ghost use Rattle.fm.specs.Again.{Under};
-ghost use Rattle.moves.specs.Split.{Split, Moved};
-ghost use Rattle.moves.specs.Sums.{Fits};
+ghost use Rattle.moves.specs.Split.{Split};
 ghost use Rattle.moves.specs.Rolled.{Rolled};
 ghost use Rattle.moves.specs.Loans.{IsSameLoan, sides_at};
 
 // Stays: `IsSameLoan self.old self.new`: that the lists that come back are those that were lent is a fact of a call; no invariant of the struct can say it.
-// Stays: `layout.now.sides < 32766`, `length layout.now.vertex_weights.now ≤ 128`, `v < length layout.now.vertex_weights.now`: bounds of numbers, so that a place fits a machine word; a
+// Stays: `layout.now.sides < 32766`, `length layout.now.vertex_weights.now ≤ 128`: bounds of numbers, so that a place fits a machine word; a
 // layout is also made where there is no partition yet, so they are none of its own.
 
 use crate::pass::Pass;
@@ -22,35 +21,6 @@ pub struct Bipartition<'a> {
 }
 
 impl<'a> Bipartition<'a> {
-    /// Vertex `v` goes to the other side: in the list, in the slots of the sides, and in their weights.
-    pub fn move_vertex(&mut self, layout: &Layout, v: usize)
-        requires { (layout.now.sides < 32766) × (v < length layout.now.vertex_weights.now) × (length layout.now.vertex_weights.now ≤ 128) × (layout.now.sides * 2 + 6 ≤ length self.old.words.now) × Split self.old.words.now layout.now.sides (length layout.now.vertex_weights.now) self.old.part.now }
-        ensures lent { IsSameLoan self.old self.new }
-        ensures moved { Moved self.old.words.now self.new.words.now layout.now.sides layout.now.vertex_weights.now v (sides_at self.old) (sides_at self.new) }
-    {
-        crate::move_vertex(
-            self.words,
-            layout.sides,
-            layout.vertex_weights,
-            self.part,
-            &mut self.loads,
-            v,
-        );
-    }
-
-    /// Can the other side take vertex `v`, if no side may weigh more than `most_weight`.
-    pub fn fits(&self, layout: &Layout, most_weight: f64, v: usize) -> bool
-        ensures { Fits layout.now.vertex_weights.now most_weight v (sides_at self.now) result }
-    {
-        crate::fits(
-            self.part,
-            &self.loads,
-            layout.vertex_weights,
-            most_weight,
-            v,
-        )
-    }
-
     /// Takes back the moves after the largest sum, the last one first.
     pub fn roll_back(&mut self, layout: &Layout, pass: &Pass)
         requires { (layout.now.sides < 32766) × (length layout.now.vertex_weights.now ≤ 128) × (layout.now.sides * 2 + 6 ≤ length self.old.words.now) × Split self.old.words.now layout.now.sides (length layout.now.vertex_weights.now) self.old.part.now × Under (length layout.now.vertex_weights.now) pass.now.count pass.now.moves }

@@ -1,7 +1,7 @@
-ghost use Rattle.std.specs.Prelude.{◌≡◌, ◌+◌, ◌-◌, ◌/◌, ◌<◌, ◌≤◌, ltb, set};
+ghost use Rattle.std.specs.Prelude.{◌≡◌, ◌+◌, ◌-◌, ◌/◌, ◌<◌, ◌≤◌, ltb};
 ghost use Rattle.moves.specs.Sums.{Counted};
 
-// Stays: `n ≤ 128`, `v < 65536`: bounds of numbers, so that they fit their places; a type of its own would be unwrapped at each use.
+// Stays: `n ≤ 128`: a bound of a number, so that the sum fits a machine word; a type of its own would be unwrapped at each use.
 
 /// A pass: the vertices that were moved and how many they are, the sum of their gains, the largest sum, after how many moves it was reached, and whether the pass is
 /// over.
@@ -17,19 +17,7 @@ pub struct Pass {
 }
 
 impl Pass {
-    /// Counts the move of vertex `v`, which was taken with this key.
-    pub fn count_move(&mut self, v: usize, key: f64)
-        requires { (self.old.count < 65536) × (v < 65536) }
-        ensures moves { self.new.moves ≡ set self.old.moves self.old.count v }
-        ensures count { self.new.count ≡ self.old.count + 1 }
-        ensures sums { Counted self.old.count self.old.sum self.old.best self.old.peak key self.new.sum self.new.best self.new.peak }
-    {
-        // Stays: the number fits by what is known here; `try_from` would add a failure that never comes.
-        cells::put(&mut self.moves, self.count, v as u16);
-        self.counted(key);
-    }
-
-    /// Counts a move of whichever vertex, which was taken with this key.
+    /// Counts a move of a vertex that was taken with this key; the vertex itself is put into the list by the caller.
     pub fn counted(&mut self, key: f64)
         requires { self.old.count < 65536 }
         ensures moves { self.new.moves ≡ self.old.moves }

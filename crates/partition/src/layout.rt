@@ -28,7 +28,7 @@ impl<'a> Layout<'a> {
 
     /// Where the hypergraph and the partition lie.
     #[inline]
-    // Stays: no twin: it names the fields of a `Place`.
+    // Stays: a `Place` is what is left of a layout without its lists; a `From` would be called by the name of the type in place of what it gives.
     pub fn place(&self) -> Place
         ensures { result ≡ place_of self.now }
     {

@@ -1,7 +1,7 @@
 /// Where a hypergraph and a partition of its vertices lie in lent words. The pins of net `e` are the members of slot `nets + e`, of two words; the nets of vertex
 /// `v` are the members of slot `vertices + v`, of four words; the sides are the sets of slots `sides` and `sides + 1`, of two words.
 #[derive(Clone, Copy)]
-// Stays: no twin of a step of a tree: it says where a hypergraph lies.
+// Stays: it says where the slots of a hypergraph begin, and how many they are; no other five numbers have this meaning.
 pub struct Place {
     pub nets: usize,
     pub vertices: usize,

@@ -20,7 +20,7 @@ mod entries;
 pub use entries::Entry;
 
 /// A gain and a little noise.
-// Stays: no conversion: a sum that the definition names.
+// Stays: a sum of a gain and of noise, under the name that its definition has.
 pub fn key_of(gain: f64, unit: f64) -> f64
     ensures { result ≡ key_of gain unit }
 {

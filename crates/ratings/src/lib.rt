@@ -30,7 +30,7 @@ pub struct Ratings<'a> {
 }
 
 // What a net of weight `w` and `pins` pins is rated: its weight over the number of the other pins.
-// Stays: no conversion: a quotient that the definition names.
+// Stays: a quotient of a weight and a number of pins, which the definition has as `share`.
 fn rate_of(w: u8, pins: usize) -> f64
     requires { pins ≤ 64 }
     ensures { result ≡ share w pins }

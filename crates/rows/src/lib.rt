@@ -36,6 +36,7 @@ fn still<const W: usize>(tables: &Tables<W>, row: Row) -> bool
 }
 
 /// What was found, as a row.
+// Stays: a `From` would stand in `tables`, beside `Row`, which knows nothing of how a scan answers, for this one call.
 fn known(found: Result<Option<Partner>, Refusal>) -> Row
     ensures { code result ≡ least_code found }
 {
@@ -46,7 +47,7 @@ fn known(found: Result<Option<Partner>, Refusal>) -> Row
 }
 
 /// The row of slot `y`: its least pair with the first `k` live tables.
-// Stays: no search by hand: the scan of `scores`, over the tables' lists.
+// Stays: it finds a least pair by the scan of `scores`, which is given the tables' lists; the pairs themselves stand in no list.
 fn find<const W: usize>(tables: &Tables<W>, scoring: &Scoring, k: usize, y: usize) -> Row
     requires { y < 1048576 }
     ensures { code result ≡ row_of tables.now.sets.now W scoring.now.weights.now tables.now.sizes scoring.now.start tables.now.live.items k y }
@@ -83,7 +84,8 @@ pub fn renew_all<const W: usize>(tables: &mut Tables<W>, scoring: &Scoring)
 }
 
 /// Of the least pair so far and one more, the one that comes first.
-// Stays: the order is that of scores, which are made from the sizes, so the values themselves have none.
+// Stays: the order is that of scores, which are made from the sizes, so the values themselves have none. In `scores` the table of both pairs is known;
+// here each choice brings its own, and one function for both would take the two scores beside the two values.
 fn sooner(sizes: &[u16], start: usize, best: Option<Choice>, next: Choice) -> Choice
     ensures { result ≡ sooner_of sizes.now start best next }
 {
@@ -99,14 +101,14 @@ fn sooner(sizes: &[u16], start: usize, best: Option<Choice>, next: Choice) -> Ch
 }
 
 /// The least pair so far, when that of `y` is looked at too; refused where it is too wide.
-// Stays: no order of two values: it looks at one more row, and may refuse.
+// Stays: a step of the walk over the live tables: it reads the row of a slot, and may refuse, which an order of two values does not.
 fn better<const W: usize>(
     tables: &Tables<W>,
-    scoring: &Scoring,
+    start: usize,
     best: Option<Choice>,
     y: u8,
 ) -> Result<Option<Choice>, Refusal>
-    ensures least { Named (coded tables.now.rows) best → chosen_code result ≡ bettered_found tables.now.sizes scoring.now.start (coded tables.now.rows) (choice_code best) y }
+    ensures least { Named (coded tables.now.rows) best → chosen_code result ≡ bettered_found tables.now.sizes start (coded tables.now.rows) (choice_code best) y }
     ensures named { Named (coded tables.now.rows) best → NamedIn (coded tables.now.rows) result }
     ensures why { IfErr result (λ r. r ≡ TableTooWide) }
 {
@@ -115,7 +117,7 @@ fn better<const W: usize>(
         Row::TooWide => Err(Refusal::TableTooWide),
         Row::Found(Some(pair)) => {
             let next = Choice { table: y, pair };
-            Ok(Some(sooner(&tables.sizes, scoring.start, best, next)))
+            Ok(Some(sooner(&tables.sizes, start, best, next)))
         }
         Row::Found(None) => Ok(best),
         Row::Gone => Ok(best),
@@ -123,20 +125,17 @@ fn better<const W: usize>(
     }
 }
 
-/// The least pair of all live tables, none where no two share an index; refused where a pair is too wide.
-pub fn least<const W: usize>(
-    tables: &Tables<W>,
-    scoring: &Scoring,
-) -> Result<Option<Choice>, Refusal>
-    ensures least { chosen_code result ≡ least_found tables.now.sizes scoring.now.start (coded tables.now.rows) tables.now.live.items (length tables.now.live.items) }
+/// The least pair of all live tables, the first `start` slots the start's, none where no two share an index; refused where a pair is too wide.
+pub fn least<const W: usize>(tables: &Tables<W>, start: usize) -> Result<Option<Choice>, Refusal>
+    ensures least { chosen_code result ≡ least_found tables.now.sizes start (coded tables.now.rows) tables.now.live.items (length tables.now.live.items) }
     ensures of_all { ((k : ℕ) → k < length tables.now.live.items → unfound (get_or (coded tables.now.rows) (get_or tables.now.live.items k 0) 0) ≡ false)
-        → chosen_code result ≡ least_of tables.now.sizes scoring.now.start (coded tables.now.rows) tables.now.live.items (length tables.now.live.items) }
+        → chosen_code result ≡ least_of tables.now.sizes start (coded tables.now.rows) tables.now.live.items (length tables.now.live.items) }
     ensures named { NamedIn (coded tables.now.rows) result }
     ensures why { IfErr result (λ r. r ≡ TableTooWide) }
 {
     let mut best = None;
     for &y in tables.live.as_slice() {
-        best = better(tables, scoring, best, y)?;
+        best = better(tables, start, best, y)?;
     }
     Ok(best)
 }

@@ -15,7 +15,7 @@ use tables::partner::Partner;
 use tables::scoring::Scoring;
 
 /// 2 to the power `bits`, and 0 above 40.
-// Stays: no twin: the other function of this name takes no number above 52, and has no 0 for one.
+// Stays: it is 0 above 40, where a pair is refused; the power of costs goes to 52, and asks its callers for no more.
 fn exp2(bits: usize) -> u64
     ensures { (result ≡ power bits) × (result ≤ 2 ^ 40) }
 {
@@ -32,7 +32,8 @@ fn takes(sizes: &[u16], x: usize, y: usize) -> u64
 }
 
 /// Of two slots, the lower first, the one that goes first in their pair: `start` slots are the start's.
-// Stays: no search, and no twin: a rule of greedy's order, which a function of the same shape elsewhere does not state.
+// Stays: two tables of the start go in the order of their slots, and else the later one, which was made, goes first: a rule of greedy's order, stated for
+// each of the two places of a pair. A function that returns both would make a pair that each caller takes apart.
 pub fn first(start: usize, x: usize, y: usize) -> usize
     ensures { result ≡ first_of start x y }
 {
@@ -66,7 +67,8 @@ fn too_wide(sizes: &[u16], x: usize, y: usize) -> bool
 }
 
 /// Of the least pair of `y` so far and one more, the one that comes first.
-// Stays: the order is that of scores, which are made from the sizes, so the values themselves have none.
+// Stays: the order is that of scores, which are made from the sizes, so the values themselves have none. Both pairs are of the table `y`; in `rows` each
+// choice brings its own, and one function for both would take the two scores beside the two values.
 fn lesser(sizes: &[u16], start: usize, y: usize, best: Option<Partner>, pair: Partner) -> Partner
     ensures { pair_code (Some result) ≡ lesser_of sizes.now start y (pair_code best) pair.other pair.bits }
 {

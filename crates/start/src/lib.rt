@@ -100,7 +100,7 @@ pub fn weigh_all<const W: usize>(sizes: &mut [u16], sets: &[u64], weights: &[u8]
     requires { (W ≤ 16) × (n < 1048576) × Light weights.now }
     ensures { sizes.new ≡ with_sizes sets.now W weights.now sizes.old n }
 {
-    // Stays: the promise is total where `sizes` is shorter than `n`, and the number is itself the slot that is weighed.
+    // Stays: the number is the slot that is weighed as well as a place; the same walk by `take` was tried in `count_up`, and its proof did not close.
     for i in 0..n {
         let bits = slots::weigh(sets, W, i, i, weights, &weights[..0]);
         // Stays: the number fits by what is known here; `try_from` would add a failure that never comes.
@@ -109,12 +109,12 @@ pub fn weigh_all<const W: usize>(sizes: &mut [u16], sets: &[u64], weights: &[u8]
 }
 
 /// Puts 0, 1, .. at the first `n` places.
-// Stays: `fill_with` would count by hand in its closure, and the promise is for the first `n` places alone.
+// Stays: `fill_with` would count by hand in its closure. The one of `matching` fills its whole list, and is a private step of a crate that stands on no part of greedy.
 pub fn count_up(list: &mut [u16], n: usize)
     requires { n < 65536 }
     ensures { list.new ≡ put_all (λ i. i) list.old n }
 {
-    // Stays: the promise is total where the list is shorter than `n`; a list of the first `n` places would need the test beside it.
+    // Stays: tried as `list.iter_mut().take(n).enumerate()`: the proof of the promise did not close, since behind `take` the places are known by what was yielded.
     for i in 0..n {
         // Stays: the number fits by what is known here; `try_from` would add a failure that never comes.
         cells::put(list, i, i as u16);

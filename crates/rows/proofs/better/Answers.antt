@@ -16,7 +16,7 @@ returns-in-TooWide-clause-least g c =
     let small : d.y < 256 = search rules in
     let e : get_or t.rows c.from.result c.index-tables-from.result ≡ TooWide = search rules in
     let z : get_or (coded t.rows) d.y 0 ≡ 257 = sym (row_at t.rows t.slots d.y small c.index-tables-from.result) ∙ ap (λ (i : ℕ). code (get_or t.rows i c.index-tables-from.result)) (sym c.from.ensures) ∙ ap code e in
-    λ named. takes_wide t.sizes d.scoring.now.start (coded t.rows) d.best d.y z
+    λ named. takes_wide t.sizes d.start (coded t.rows) d.best d.y z
 
 pub returns-in-Found-Some-clause-least : goal.returns-in-Found-Some-clause-least
 returns-in-Found-Some-clause-least g c =
@@ -26,7 +26,7 @@ returns-in-Found-Some-clause-least g c =
     let p = c.in-Found-Some.pair in
     let e : get_or t.rows c.from.result c.index-tables-from.result ≡ Found (Some p) = search rules in
     let z : get_or (coded t.rows) d.y 0 ≡ p.bits * 512 + p.other = sym (row_at t.rows t.slots d.y small c.index-tables-from.result) ∙ ap (λ (i : ℕ). code (get_or t.rows i c.index-tables-from.result)) (sym c.from.ensures) ∙ ap code e in
-    λ named. ap (λ (b : Choice). b.table) c.sooner.ensures ∙ takes_pair t.sizes d.scoring.now.start (coded t.rows) _ z d.best named
+    λ named. ap (λ (b : Choice). b.table) c.sooner.ensures ∙ takes_pair t.sizes d.start (coded t.rows) _ z d.best named
 
 pub returns-in-Found-None-clause-least : goal.returns-in-Found-None-clause-least
 returns-in-Found-None-clause-least g c =
@@ -35,7 +35,7 @@ returns-in-Found-None-clause-least g c =
     let small : d.y < 256 = search rules in
     let e : get_or t.rows c.from.result c.index-tables-from.result ≡ Found None = search rules in
     let z : get_or (coded t.rows) d.y 0 ≡ 256 = sym (row_at t.rows t.slots d.y small c.index-tables-from.result) ∙ ap (λ (i : ℕ). code (get_or t.rows i c.index-tables-from.result)) (sym c.from.ensures) ∙ ap code e in
-    λ named. takes_none t.sizes d.scoring.now.start (coded t.rows) d.best d.y z
+    λ named. takes_none t.sizes d.start (coded t.rows) d.best d.y z
 
 pub returns-in-Gone-clause-least : goal.returns-in-Gone-clause-least
 returns-in-Gone-clause-least g c =
@@ -44,7 +44,7 @@ returns-in-Gone-clause-least g c =
     let small : d.y < 256 = search rules in
     let e : get_or t.rows c.from.result c.index-tables-from.result ≡ Gone = search rules in
     let z : get_or (coded t.rows) d.y 0 ≡ 259 = sym (row_at t.rows t.slots d.y small c.index-tables-from.result) ∙ ap (λ (i : ℕ). code (get_or t.rows i c.index-tables-from.result)) (sym c.from.ensures) ∙ ap code e in
-    λ named. takes_passed t.sizes d.scoring.now.start (coded t.rows) d.best d.y (ap unfound z)
+    λ named. takes_passed t.sizes d.start (coded t.rows) d.best d.y (ap unfound z)
 
 pub returns-in-Stale-clause-least : goal.returns-in-Stale-clause-least
 returns-in-Stale-clause-least g c =
@@ -53,7 +53,7 @@ returns-in-Stale-clause-least g c =
     let small : d.y < 256 = search rules in
     let e : get_or t.rows c.from.result c.index-tables-from.result ≡ Stale = search rules in
     let z : get_or (coded t.rows) d.y 0 ≡ 258 = sym (row_at t.rows t.slots d.y small c.index-tables-from.result) ∙ ap (λ (i : ℕ). code (get_or t.rows i c.index-tables-from.result)) (sym c.from.ensures) ∙ ap code e in
-    λ named. takes_passed t.sizes d.scoring.now.start (coded t.rows) d.best d.y (ap unfound z)
+    λ named. takes_passed t.sizes d.start (coded t.rows) d.best d.y (ap unfound z)
 
 pub returns-in-Found-Some-clause-named : goal.returns-in-Found-Some-clause-named
 returns-in-Found-Some-clause-named g c =
@@ -63,4 +63,4 @@ returns-in-Found-Some-clause-named g c =
     let p = c.in-Found-Some.pair in
     let e : get_or t.rows c.from.result c.index-tables-from.result ≡ Found (Some p) = search rules in
     let z : get_or (coded t.rows) d.y 0 ≡ p.bits * 512 + p.other = sym (row_at t.rows t.slots d.y small c.index-tables-from.result) ∙ ap (λ (i : ℕ). code (get_or t.rows i c.index-tables-from.result)) (sym c.from.ensures) ∙ ap code e in
-    λ named. subst (λ (b : Choice). get_or (coded t.rows) b.table 0 ≡ b.pair.bits * 512 + b.pair.other) (sym c.sooner.ensures) (takes_named t.sizes d.scoring.now.start (coded t.rows) d.best named _ z)
+    λ named. subst (λ (b : Choice). get_or (coded t.rows) b.table 0 ≡ b.pair.bits * 512 + b.pair.other) (sym c.sooner.ensures) (takes_named t.sizes d.start (coded t.rows) d.best named _ z)

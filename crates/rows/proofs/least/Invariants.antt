@@ -6,4 +6,4 @@ use Rattle.rows.proofs.least.Given as goal
 
 abbrev pub invariant-loop-y : goal.invariant-loop-y
 invariant-loop-y g l =
-    (choice_code l.best ≡ least_found l.tables.sizes l.scoring.start (coded l.tables.rows) l.tables.live.items l.y-index) × Named (coded l.tables.rows) l.best
+    (choice_code l.best ≡ least_found l.tables.sizes l.start (coded l.tables.rows) l.tables.live.items l.y-index) × Named (coded l.tables.rows) l.best
