@@ -41,6 +41,7 @@ fn step_at(numbers: &[u16], i: usize) -> Step
 }
 
 /// Puts the first `count` steps of a listing of five numbers a step into the lent records, as far as they go; the other records stay.
+// Stays: `count` is how many steps are wanted, no length of a list: the listing may have more numbers or fewer, and reads as 0 past its end.
 pub fn put_steps(steps: &mut [Step], numbers: &[u16], count: usize)
     ensures { steps.new ≡ over steps.old (steps_of numbers.now count) }
 {
