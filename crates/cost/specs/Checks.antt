@@ -23,8 +23,6 @@ use Rattle.network.specs.Codes.{Facts, positive}
 use Rattle.nodesets.specs.Lists.{Ordered, ordered_steps}
 use Rattle.walk.specs.Wrong.{not_wrong}
 use Rattle.walk.specs.Entry.{first_some, by_network, past_network, past_length, holds_first, passes_first}
-use Rattle.pricing.specs.declared.list.PriceList.{PriceList}
-use Rattle.pricing.specs.Lists.{HasRoom}
 use Rattle.pricing.specs.Promise.{Priceable, Room, Pricing}
 use Rattle.spec.specs.declared.Prices.{Prices}
 use Rattle.cost.specs.Answers.{room, Answered, TreeCost, too_few, wrong_flags, rest_call}
@@ -226,16 +224,6 @@ enough few l e o =
       for_sizes = omega (arith, l.for_sizes, s.numbers);
       for_works = omega (arith, l.for_works, s.numbers);
       for_steps = omega (arith, l.for_steps, s.steps);
-    }
-
--- where the lists are long enough for an accepted network, they have room for its price list
-pub list_room : (N : Network) (n words steps : ℕ) (p : PriceList) → n ≡ leaf_count N
-    → LongEnough n words (length p.sets.now) (length p.sizes.now) (length p.works.now) steps → HasRoom 4 (node_places N) p
-list_room N n words steps p leaves l =
-    record {
-      for_sets = rw (← leaves) l.for_sets;
-      for_sizes = rw (← leaves) l.for_sizes;
-      for_works = rw (← leaves) l.for_works;
     }
 
 -- the front of a list that the step order was written to

@@ -49,9 +49,7 @@ pub fn put_each(out: &mut [u8], at: usize, list: &[u16])
     requires { (at ≤ 65536) × (length list.now ≤ 65536) }
     ensures { out.new ≡ placed out.old at (two_each list.now) }
 {
-    let mut next = at;
-    for &x in list {
-        put_two(out, next, x);
-        next += 2;
+    for (k, &x) in list.iter().enumerate() {
+        put_two(out, at + k * 2, x);
     }
 }

@@ -1,4 +1,4 @@
--- Four numbers over the front of a list, and the number of a refusal. Assumes nothing.
+-- The four numbers that a price is told by, and a refusal's number, or that of `ShortBuffer` where there is none. Assumes nothing.
 use Rattle.std.specs.Prelude.{◌≡◌, refl, List, [], ◌∷◌, ◌++◌, ℕ, get_or, Option, None, Some}
 use Rattle.std.proofs.Common.{sym, ap, ◌∙◌, arith}
 use Rattle.spec.specs.declared.Refusal.{Refusal}

@@ -15,7 +15,7 @@ ghost use Rattle.cost.specs.Answers.{told, room};
 ghost use Rattle.memory.specs.Lists.{net_lent};
 ghost use Rattle.memory.specs.Promise.{MemoryCost};
 
-use network::{Accepted, Network, scan};
+use network::{Accepted, Network, checks};
 use pricing::list::PriceList;
 use spec::{Prices, Refusal, Total};
 
@@ -44,20 +44,10 @@ impl Lists<'_> {
 }
 
 /// Is a count above its limit.
-// Stays: a limit that is a `usize` is compared with bytes; std has no `From` between the two.
 pub fn too_large(m: usize, o: usize, counts: &[u8]) -> bool
     ensures { result ≡ large_of m (length counts.now) o counts.now }
 {
-    if counts.len() > Network::MAX_LEAVES {
-        return true;
-    }
-    if m > Network::MAX_INDICES {
-        return true;
-    }
-    if o > Network::MAX_OUTPUTS {
-        return true;
-    }
-    scan::above(counts, Network::MAX_LEGS as u8)
+    checks::is_too_large(m, counts.len(), o, counts)
 }
 
 /// The record of lists of which no count is above its limit.

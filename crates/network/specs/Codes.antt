@@ -1,4 +1,4 @@
--- The number of a network's refusal, from lists with counts, and what follows where it is 0. Assumes nothing.
+-- A network's refusal, from lists with counts: which it is, and what follows where there is none. Assumes nothing.
 use Rattle.std.specs.Prelude.{◌≡◌, Bool, false, ◌||◌, cond, List, map, ℕ, ◌+◌, ◌*◌, ◌≤◌, ◌<◌, take, drop, Option, None, Some, Result, Ok, Err}
 use Rattle.std.proofs.Math.Path.{refl, sym, ap}
 use Rattle.std.proofs.Common.{◌∙◌, arith}
@@ -227,27 +227,6 @@ module _ (weights counts cells outputs : List ℕ) (has : HasRows counts cells) 
           unfolding answer_from
           answer_none x = answer (sym few ∙ large) (sym light ∙ weights_are) (sym inside ∙ beyond) (sym x ∙ again)
 
--- what the answer says of the refusal
-abbrev done : Result (Unit {0}) Refusal
-done = Ok tt
-
-refusal_in : Result (Unit {0}) Refusal → Option Refusal
-refusal_in (Ok x) = None
-refusal_in (Err r) = Some r
-
-decided : (k : Option Refusal) → refusal_in (decide k (Ok tt)) ≡ k
-unfolding refusal_in
-decided None = refl
-decided (Some r) = refl
-
-pub done_none : (k : Option Refusal) → done ≡ decide k done → k ≡ None
-unfolding refusal_in
-done_none k e = sym (decided k) ∙ ap refusal_in (sym e)
-
-pub refused_some : (k : Option Refusal) (r : Refusal) → Err r ≡ decide k done → k ≡ Some r
-unfolding refusal_in
-refused_some k r e = sym (decided k) ∙ ap refusal_in (sym e)
-
 -- the check found nothing
 pub passed_facts : (m n o : ℕ) (weights counts cells outputs : List ℕ)
     → refusal_of (network_of m n o weights counts cells outputs) ≡ None
@@ -273,7 +252,7 @@ passed_facts m n o weights counts cells outputs p =
           omega (arith, layout_output m n o weights counts cells outputs k h, a.outputs_in_range (get_or N.outputs k 0) (memb_at N.outputs k (omega arith)));
     }
 
--- the check answered 0
+-- the check found nothing, said by the refusal's number: 0 stands for none
 pub accepted_facts : (m n o : ℕ) (weights counts cells outputs : List ℕ)
     → 0 ≡ code_of (refusal_of (network_of m n o weights counts cells outputs))
     → Facts m n o weights counts cells outputs

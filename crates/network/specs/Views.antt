@@ -1,8 +1,7 @@
 -- The network that an accepted network's lists stand for, and what holds of it. Assumes nothing.
-use Rattle.std.specs.Prelude.{◌≡◌, true, length}
-use Rattle.std.proofs.Common.{ap, arith}
-use Rattle.spec.specs.Network.{Network, accepted, leaf_count, index_count}
-use Rattle.spec.specs.Refusal.{passes}
+use Rattle.std.specs.Prelude.{◌≡◌, length}
+use Rattle.std.proofs.Common.{arith}
+use Rattle.spec.specs.Network.{Network, leaf_count, index_count}
 use Rattle.network.specs.Lists.{lists_net, Holds}
 use Rattle.network.specs.Layouts.{layout_leaf_count, layout_index_count}
 use Rattle.network.specs.Checks.{Rows}
@@ -13,10 +12,6 @@ abbrev pub net_in : Accepted → Network
 net_in a = lists_net a.weights.now a.leg_counts.now a.legs.now a.outputs.now
 
 module _ (a : Accepted) (h : Holds a.weights.now a.leg_counts.now a.legs.now a.outputs.now) where
-  -- the check finds nothing
-  pub in_accepted : accepted (net_in a) ≡ true
-  in_accepted = ap passes h.passed
-
   -- what that means of the lists
   pub in_facts : Facts (length a.weights.now) (length a.leg_counts.now) (length a.outputs.now) a.weights.now a.leg_counts.now a.legs.now a.outputs.now
   in_facts = passed_facts _ _ _ _ _ _ _ h.passed

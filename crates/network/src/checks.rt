@@ -9,9 +9,9 @@ ghost use Rattle.network.specs.Lists.{HasRows, lists_net};
 use crate::{Network, scan};
 use spec::Refusal;
 
-// Is a count above its limit. No list is read past its limit.
+/// Is a count above its limit: of `m` indices, `n` leaves, `o` outputs, and of the indices of each leaf. No list is read past its limit.
 // Stays: three counts that no list need have yet; the limit fits a `u8`, as is proved.
-pub(crate) fn is_too_large(m: usize, n: usize, o: usize, counts: &[u8]) -> bool
+pub fn is_too_large(m: usize, n: usize, o: usize, counts: &[u8]) -> bool
     requires { n ≤ max_leaves → n ≤ length counts.now }
     ensures { result ≡ large_of m n o counts.now }
 {

@@ -25,7 +25,7 @@ pub(crate) fn out_of_range(row: &[u16], m: usize) -> bool
 }
 
 // Does an index stand at two places. Both loops are left at the first repeat.
-// Stays: each pair of places once, and both loops left at the first repeat by a label; no search of the library goes over pairs.
+// Stays: a rule of the project names this form: it leaves both of its loops at the first one.
 pub(crate) fn repeated(row: &[u16]) -> bool
     ensures { result ≡ repeats row.now }
 {

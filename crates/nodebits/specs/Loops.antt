@@ -1,10 +1,10 @@
 -- One turn of each loop, and its end. Assumes nothing.
-use Rattle.std.specs.Prelude.{Bool, true, false, not, ◌&&◌, ◌||◌, cond, ◌≡◌, refl, List, [], ◌∷◌, map, ℕ, suc, zero, ◌+◌, ◌*◌, ◌≤◌, ◌<◌, min, eqb, length, get_or, set, take}
-use Rattle.std.proofs.Common.{sym, ◌∙◌, ap, ap₂, subst, arith, length-set, get_or-set_same, get_or-set_other, add-one, take-suc}
-use Rattle.std.proofs.Math.Seq.{take-length}
+use Rattle.std.specs.Prelude.{Bool, true, false, not, ◌&&◌, ◌||◌, cond, ◌≡◌, refl, List, [], ◌∷◌, map, ℕ, suc, zero, ◌+◌, ◌*◌, ◌≤◌, ◌<◌, min, eqb, length, get_or, set, take, drop, ◌++◌, ◌-◌}
+use Rattle.std.proofs.Common.{sym, ◌∙◌, ap, ap₂, arith, length-set, get_or-set_same, get_or-set_other, add-one, take-suc, length-append, length-drop}
+use Rattle.std.proofs.lemmas.List.{get_or-take, get_or-drop, get_or-append_right, length-take-le}
 use Rattle.std.proofs.Math.Decide.{ℕ_discrete, dec_le}
 use Rattle.std.specs.Int.Bits.{bit_and, bit_or}
-use Rattle.std.proofs.Math.ListN.{get_or-eq_default}
+use Rattle.std.proofs.Math.ListN.{get_or-eq_default, get_or-append}
 use Rattle.spec.specs.Lists.{range, from, keep, sum_of}
 use Rattle.spec.specs.Layout.{firsts}
 use Rattle.spec.specs.Memory.{filled, over, copied}
@@ -59,6 +59,20 @@ clearing_end old flags now i m h e c j =
       | no q ↦ c.done j (omega arith)
     ]
 
+-- the front that was lent, back before what stands after it
+pub clearing_back : (old flags front : List ℕ) (i n : ℕ) → length (take n old) ≤ i → n ≡ min (length old) (length flags)
+    → Clearing (take n old) flags i front → (j : ℕ) → get_or (front ++ drop n old) j 0 ≡ open_weight old flags j
+clearing_back old flags front i n h e c =
+    let few : length (take n old) ≡ n = length-take-le n old (omega arith) in
+    let long : length front ≡ n = c.same ∙ few in
+    clearing_end old flags (front ++ drop n old) n n (omega arith) e (record {
+      same = omega (arith, length-append front (drop n old), length-drop n old);
+      done = λ j b. get_or-append front (drop n old) 0 j (omega arith) ∙ c.done j (omega arith)
+          ∙ ap (λ (x : ℕ). cond (not (eqb (get_or flags j 0) 0)) 0 x) (get_or-take n old j 0 b);
+      rest = λ j b. let k : n + (j - n) ≡ j = omega arith in
+          get_or-append_right front (drop n old) n j 0 long b ∙ get_or-drop n old (j - n) 0 ∙ ap (λ (m : ℕ). get_or old m 0) k;
+    })
+
 -- a list made 0, with the weights copied to its front, and then cleared
 pub effective_is : (old zeros copy weights flags new : List ℕ) (m : ℕ) → m ≤ length weights → m ≤ length old → zeros ≡ filled (length old) 0
     → copy ≡ copied zeros weights m → ((j : ℕ) → get_or new j 0 ≡ open_weight copy flags j) → Effective (firsts m weights) flags new
@@ -86,9 +100,6 @@ leg_next effective leaf k sum x b h f =
       ap (sum_of (open_weight effective [])) (ap (λ (n : ℕ). take n leaf) (add-one k) ∙ take-suc leaf k 0 b),
       sum_append (open_weight effective []) (take k leaf) (get_or leaf k 0 ∷ []),
     )
-
-pub leg_all : (effective leaf : List ℕ) (k : ℕ) → k ≡ length leaf → sum_of (open_weight effective []) (take k leaf) ≡ sum_of (open_weight effective []) leaf
-leg_all effective leaf k e = ap (λ (n : ℕ). sum_of (open_weight effective []) (take n leaf)) e ∙ ap (sum_of (open_weight effective [])) (take-length leaf)
 
 -- ---- consecutive places ----
 
@@ -162,7 +173,3 @@ below_keep p t b (suc k) h =
 pub places_below : (b k x : ℕ) → All (λ i. i < b + k) (places b k x)
 unfolding places
 places_below b k x = below_keep _ (b + k) b k (omega arith)
-
--- the next digit's place is one of them
-pub next_below : {t i : ℕ} {l m : List ℕ} → All (λ j. j < t) l → l ≡ i ∷ m → (i < t) × All (λ j. j < t) m
-next_below {t} h e = subst (All (λ j. j < t)) e h

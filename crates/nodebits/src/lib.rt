@@ -26,12 +26,12 @@ fn unless(flag: u8, weight: u8) -> u8
 }
 
 // Makes the weight of each flagged index 0.
-// Stays: by index, as a zip with a list that is written tells the proof only its length.
 fn clear_flagged(effective: &mut [u8], flags: &[u8])
     ensures { (j : ℕ) → get_or effective.new j 0 ≡ open_weight effective.old flags.now j }
 {
-    for j in 0..effective.len().min(flags.len()) {
-        effective[j] = unless(flags[j], effective[j]);
+    let n = effective.len().min(flags.len());
+    for (j, weight) in effective[..n].iter_mut().enumerate() {
+        *weight = unless(flags[j], *weight);
     }
 }
 
@@ -79,7 +79,7 @@ fn leaf_bits(
 }
 
 // The summed weights of the indices `base` + i for each set digit i of `x`.
-// Stays: `masks::weigh_word` goes through all 64 places of a word, this one through its set digits alone.
+// Stays: reads its list at a proved place, where `slots::weigh_word` compares with the end of two lists at each digit; `masks::weigh_word` goes through all 64 places.
 fn weigh_word(x: u64, base: usize, effective: &[u8]) -> usize
     requires { (base + 64 ≤ length effective.now) × Light effective.now × (base ≤ 65536) }
     ensures { (result ≡ word_weight effective.now [] base x) × (result ≤ 512) }
@@ -92,6 +92,7 @@ fn weigh_word(x: u64, base: usize, effective: &[u8]) -> usize
 }
 
 // The weights of the indices that both children list, and of those that the node drops.
+// Stays: a pair of sums with names of their own; other structs of two numbers hold counts, places or bits.
 #[derive(Clone, Copy)]
 struct Between {
     shared: usize,
@@ -120,6 +121,7 @@ fn overlap(sets: &[u64], w: usize, l: usize, r: usize, v: usize, effective: &[u8
 }
 
 // The work bits and size bits of a step.
+// Stays: a pair of bits with names of their own; other structs of two numbers hold counts, places or sums.
 #[derive(Clone, Copy)]
 pub struct StepBits {
     pub work: u16,

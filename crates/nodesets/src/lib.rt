@@ -13,7 +13,7 @@ use mix::combine_with;
 use slots::mix::{Both, Either};
 
 /// The left child of inner node `v`, of `n` leaves.
-// Stays: the C interface lends a tree as a flat list, two children a node; `n` is the number of leaves, no list's length.
+// Stays: asks no more than a list with a place for the node; `walk::Tree` is a whole tree that passed the check. `n` is the number of leaves, no list's length.
 #[inline]
 pub fn left(kids: &[u16], n: usize, v: usize) -> usize
     requires { (n ≤ v) × (v < nodes n kids.now) }
@@ -23,7 +23,7 @@ pub fn left(kids: &[u16], n: usize, v: usize) -> usize
 }
 
 /// The right child of inner node `v`, of `n` leaves.
-// Stays: the C interface lends a tree as a flat list, two children a node; `n` is the number of leaves, no list's length.
+// Stays: asks no more than a list with a place for the node; `walk::Tree` is a whole tree that passed the check. `n` is the number of leaves, no list's length.
 #[inline]
 pub fn right(kids: &[u16], n: usize, v: usize) -> usize
     requires { (n ≤ v) × (v < nodes n kids.now) }
@@ -46,7 +46,7 @@ fn leaf_sets(sets: &mut [u64], w: usize, n: usize, counts: &[u8], legs: &[u16])
 }
 
 // Makes slot `c` the union of slots `a` and `b`.
-// Stays: word by word at proved places of one list, where `slots::unite` compares with the end at each read.
+// Stays: word by word, as all three slots lie in one list, which is read and written in each turn; its places are known to be there, which `slots::unite` does not ask.
 fn join(sets: &mut [u64], w: usize, a: usize, b: usize, c: usize)
     requires { (a * w + w ≤ length sets.old) × (b * w + w ≤ length sets.old) × (c * w + w ≤ length sets.old) }
     ensures { sets.new ≡ joined w sets.old a b c }

@@ -108,7 +108,7 @@ fn list_steps(steps: &mut [u16], n: usize, kids: &[u16], order: &[u16], list: &P
 
 /// Prices a tree of an accepted network, in lists of which the first places are in use, `m` weights, `n` leaves and `o` outputs: fills the price
 /// list in step order, each node's set of `w` words; hands the listing out, five numbers a step: node, left, right, work bits, size bits; answers
-/// total, widest and slice bits. `M` is a number of indices that a set has room for, and 1,024 always does; `outside` is worked in.
+/// total, widest and slice bits. A set has at most `M` places for indices, `w * 64 ≤ M`, and 1,024 are always enough; `outside` is worked in.
 // Stays: asks no more of its callers than lists that fit.
 pub fn price<const M: usize>(
     list: &mut PriceList,

@@ -30,7 +30,7 @@ pub struct PriceList<'a> {
 
 impl<'a> PriceList<'a> {
     /// Prices the nodes of a network's tree in step order: each node's set of `w` words, its size bits and its work bits with the given flags.
-    /// `M` is a number of indices that a set has room for; `outside` is worked in.
+    /// A set has at most `M` places for indices, `w * 64 ≤ M`; `outside` is worked in.
     // Stays: workspace, flags and tree are lent apart by the C interface; the order is in a list of the caller's, who prices more than once with it.
     pub fn price<const M: usize>(
         &mut self,

@@ -1,6 +1,6 @@
 -- The members of a slot, rising: word by word, and in a word from its lowest set digit to the next. Assumes nothing.
 use Rattle.std.specs.Prelude.{Bool, true, false, cond, ◌≡◌, refl, List, [], ◌∷◌, ◌++◌, ℕ, zero, suc, ◌+◌, ◌-◌, ◌*◌, ◌/◌, ◌^◌, ◌≤◌, ◌<◌, get_or, set, take}
-use Rattle.std.proofs.Common.{sym, ◌∙◌, ap₂, subst, arith, suc-mul, add-one, length-append}
+use Rattle.std.proofs.Common.{sym, ◌∙◌, ap₂, arith, suc-mul, add-one, length-append}
 use Rattle.std.proofs.Math.Path.{ap}
 use Rattle.std.specs.Int.Count.{ones}
 use Rattle.std.proofs.lemmas.Nat.{ones-le}
@@ -98,10 +98,6 @@ kept_below p b (suc k) n h = picked_below n (p b) b (keep p (from (suc b) k)) (o
 pub places_below : (b x n : ℕ) → b + 64 ≤ n → All (λ j. j < n) (places b 64 x)
 unfolding places
 places_below b x n h = kept_below (λ j. digit x (j - b)) b 64 n h
-
--- where a list is a first number and a rest
-pub first_below : (n : ℕ) (l : List ℕ) (i : ℕ) (m : List ℕ) → l ≡ i ∷ m → All (λ j. j < n) l → (i < n) × All (λ j. j < n) m
-first_below n l i m e a = subst (λ (k : List ℕ). All (λ j. j < n) k) e a
 
 module _ (out₀ : List ℕ) (at base x : ℕ) where
   -- what is still to be put, from place n on, leads to all of the word's members

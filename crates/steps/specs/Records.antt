@@ -1,8 +1,9 @@
 -- A listing of five numbers a step as records, and what a lent list of records has after the steps are put into it. Assumes nothing.
-use Rattle.std.specs.Prelude.{List, [], ◌∷◌, ◌++◌, map, ◌≡◌, refl, ℕ, zero, suc, ◌+◌, ◌*◌, ◌<◌, ◌≤◌, min, length, get_or, take, drop}
-use Rattle.std.proofs.Common.{sym, ap, ◌∙◌, arith, ext_get_or, get_or-take, take_at}
+use Rattle.std.specs.Prelude.{List, [], ◌∷◌, ◌++◌, map, ◌≡◌, refl, ℕ, zero, suc, ◌+◌, ◌*◌, ◌-◌, ◌<◌, ◌≤◌, min, length, get_or, take, drop}
+use Rattle.std.proofs.Common.{sym, ap, ◌∙◌, arith, ext_get_or, get_or-take, take_at, length-append, length-drop}
+use Rattle.std.proofs.Math.ListN.{get_or-append}
 use Rattle.std.proofs.Math.Decide.{dec_lt}
-use Rattle.std.proofs.lemmas.List.{length-map}
+use Rattle.std.proofs.lemmas.List.{length-map, length-take-le, get_or-append_right, get_or-drop}
 use Rattle.spec.specs.Lists.{range}
 use Rattle.spec.specs.Memory.{over}
 use Rattle.spec.specs.Price as price
@@ -57,6 +58,17 @@ put_by_index xs zs numbers n e q l front back =
           ∙ sym (over_at xs (steps_of numbers n) k d (omega arith) (omega (arith, steps_length numbers n)) ∙ map_range_at (step_at numbers) d n k (omega arith))
       | no h ↦ back k d (omega arith) ∙ sym (over_past xs (steps_of numbers n) k d (omega (arith, steps_length numbers n)))
     ])
+
+-- the front that was lent, back before the records after it
+pub put_back : (xs front : List Step) (numbers : List ℕ) (n e i : ℕ) → e ≡ min n (length xs) → length (take e xs) ≤ i
+    → length front ≡ length (take e xs) → ((k : ℕ) (d : Step) → k < i → get_or front k d ≡ step_at numbers k)
+    → front ++ drop e xs ≡ over xs (steps_of numbers n)
+put_back xs front numbers n e i q h l done =
+    let long : length front ≡ e = l ∙ length-take-le e xs (omega arith) in
+    put_by_index xs (front ++ drop e xs) numbers n e q (omega (arith, length-append front (drop e xs), length-drop e xs))
+    (λ k d b. get_or-append front (drop e xs) d k (omega arith) ∙ done k d (omega arith))
+    (λ k d b. let r : e + (k - e) ≡ k = omega arith in
+    get_or-append_right front (drop e xs) e k d long b ∙ get_or-drop e xs (k - e) d ∙ ap (λ (m : ℕ). get_or xs m d) r)
 
 -- ---- the listing as records ----
 

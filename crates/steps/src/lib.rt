@@ -41,12 +41,13 @@ fn step_at(numbers: &[u16], i: usize) -> Step
 }
 
 /// Puts the first `count` steps of a listing of five numbers a step into the lent records, as far as they go; the other records stay.
-// Stays: by index, as a zip with a list that is written tells the proof only its length.
+// Stays: `count` is how many steps are wanted, no length of a list: the listing may have more numbers or fewer, and reads as 0 past its end.
 pub fn put_steps(steps: &mut [Step], numbers: &[u16], count: usize)
     ensures { steps.new ≡ over steps.old (steps_of numbers.now count) }
 {
-    for i in 0..count.min(steps.len()) {
-        steps[i] = step_at(numbers, i);
+    let n = count.min(steps.len());
+    for (i, place) in steps[..n].iter_mut().enumerate() {
+        *place = step_at(numbers, i);
     }
 }
 

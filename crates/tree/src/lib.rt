@@ -22,11 +22,9 @@ fn valid_in(tree: &[u16], n: usize, ws: &mut [u64]) -> Result<(), Refusal>
     if ws.len() < words {
         return Err(Refusal::ShortBuffer);
     }
-    let valid = walk::is_tree(tree, n, &mut ws[..words]);
+    let checked = Tree::check(tree, n, &mut ws[..words]);
     cells::clear(ws, words);
-    if !valid {
-        return Err(Refusal::InvalidTree);
-    }
+    checked?;
     Ok(())
 }
 
@@ -94,12 +92,8 @@ fn compare(tree: &[u16], other: &[u16], n: usize, ws: &mut [u64]) -> Result<bool
     requires { (n ≤ 128) × (2048 ≤ length ws.old) }
     ensures { result ≡ compared n tree.now other.now }
 {
-    if !walk::is_tree(tree, n, ws) {
-        return Err(Refusal::InvalidTree);
-    }
-    if !walk::is_tree(other, n, ws) {
-        return Err(Refusal::InvalidTree);
-    }
+    Tree::check(tree, n, ws)?;
+    Tree::check(other, n, ws)?;
     Ok(leafsets::same_valid(tree, other, n, ws))
 }
 
