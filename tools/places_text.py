@@ -6,7 +6,7 @@ INT = r"(?:[ui](?:8|16|32|64|128|size))"
 CLAUSE = re.compile(r"\b(requires|ensures)\b[^{};]*\{")
 LIMIT = re.compile(r"^(MAX|MIN|MOST)_|(^|_)(WORDS|BYTES|PLACES|WIDTH|LEN|ROOM|COUNT|STATED)$|^W$")
 Place = collections.namedtuple("Place", "path line text")
-Fn = collections.namedtuple("Fn", "crate path line name public params result clauses body comment")
+Fn = collections.namedtuple("Fn", "crate path line name public params result clauses body comment last")
 Type = collections.namedtuple("Type", "crate path line kind name parts")
 
 
@@ -108,7 +108,7 @@ class Book:
             above.append(self.raw[path][k])
             k -= 1
         public = bool(re.search(r"\bpub(\(\w+\))?(\s+(const|extern|unsafe))*\s*$", text[: m.start()]))
-        self.fns.append(Fn(crate, path, line, m[1], public, params, result[1] if result else "", clauses, body, " ".join(above)))
+        self.fns.append(Fn(crate, path, line, m[1], public, params, result[1] if result else "", clauses, body, " ".join(above), line_at(text, head + len(body))))
         return text
 
     def place(self, path, i, note=""):

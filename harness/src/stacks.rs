@@ -1,5 +1,6 @@
-//! How much stack each C function of the port takes, on a pedigree of as many tables as there can be: in a thread of its own, whose stack is marked
-//! before, beyond what a thread takes that calls nothing.
+//! How much stack each C function takes, on a pedigree of as many tables as there can be: in a thread of its own, whose stack is marked before, beyond
+//! what a thread takes that calls nothing. What is reserved and never written isn't counted. A call that went past the stack's low end would meet a
+//! page that may not be touched, and end the program.
 
 use crate::case::{Case, Network, LEAVES};
 use crate::lent::Given;
@@ -14,6 +15,12 @@ const MARK: u8 = 0xa5;
 /// No entry may take more.
 const MOST: usize = 256 << 10;
 const TEXT: usize = 131_072;
+/// What improvement takes at k = 12, which is the most that an entry takes.
+const WORDS: usize = 4096 + (8 << 12);
+const PAGE: usize = 4096;
+/// What may be done with a page: nothing, or reading and writing.
+const PROT_NONE: i32 = 0;
+const PROT_READ_WRITE: i32 = 1 | 2;
 
 /// The attributes of a thread, larger than any C library's.
 #[repr(C, align(16))]
@@ -26,10 +33,11 @@ extern "C" {
     fn pthread_attr_setstack(attributes: *mut Attributes, stack: *mut c_void, size: usize) -> i32;
     fn pthread_create(thread: *mut usize, attributes: *const Attributes, start: Start, argument: *mut c_void) -> i32;
     fn pthread_join(thread: usize, answer: *mut *mut c_void) -> i32;
+    fn mprotect(start: *mut c_void, size: usize, allowed: i32) -> i32;
 }
 
 #[repr(C, align(4096))]
-struct Page([u8; 4096]);
+struct Page([u8; PAGE]);
 
 extern "C" fn start(argument: *mut c_void) -> *mut c_void {
     // SAFETY: `taken` lends the closure until the thread has ended
@@ -40,14 +48,19 @@ extern "C" fn start(argument: *mut c_void) -> *mut c_void {
 
 /// The bytes of the stack that a thread writes while it makes the call.
 fn taken(call: &mut dyn FnMut()) -> usize {
-    let mut stack: Vec<Page> = (0..STACK / 4096).map(|_| Page([MARK; 4096])).collect();
+    // the first page is the one below the stack
+    let mut pages: Vec<Page> = (0..STACK / PAGE + 1).map(|_| Page([MARK; PAGE])).collect();
+    let (below, stack) = pages.split_at_mut(1);
+    let below: *mut c_void = below.as_mut_ptr().cast();
     let (mut attributes, mut thread, mut call) = (Attributes([0; 16]), 0usize, call);
-    // SAFETY: the stack and the closure outlive the thread, which is joined here
+    // SAFETY: the stack and the closure outlive the thread, which is joined here; the page below is touched by nothing else, and is as it was afterwards
     unsafe {
+        assert_eq!(mprotect(below, PAGE, PROT_NONE), 0);
         assert_eq!(pthread_attr_init(&mut attributes), 0);
         assert_eq!(pthread_attr_setstack(&mut attributes, stack.as_mut_ptr().cast(), STACK), 0);
         assert_eq!(pthread_create(&mut thread, &attributes, start, (&mut call as *mut &mut dyn FnMut()).cast()), 0);
         assert_eq!(pthread_join(thread, std::ptr::null_mut()), 0);
+        assert_eq!(mprotect(below, PAGE, PROT_READ_WRITE), 0);
     }
     STACK - stack.iter().flat_map(|page| page.0).take_while(|&byte| byte == MARK).count()
 }
@@ -78,7 +91,7 @@ fn priced(case: &Case, empty: usize) -> bool {
 
 fn planned(network: &Network, empty: usize) -> bool {
     let given = Given::new(network);
-    let (mut tree, mut words, mut answer) = (vec![0; given.places()], vec![0; 32_768], [0; 2]);
+    let (mut tree, mut words, mut answer) = (vec![0; given.places()], vec![0; WORDS], [0; 2]);
     let mut numbers = Numbers::new(1);
     let draws: Vec<u64> = (0..100_000).map(|_| numbers.word()).collect();
     let mut fits = told("loqshyber_greedy", empty, || assert_eq!(greedy(&given, &mut tree, &mut words), 0));

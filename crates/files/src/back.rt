@@ -9,20 +9,16 @@ use std::io::{self, Write};
 // Stays: `out: &mut W, file: &[u8]`: where a line goes, and what it is about; the file is no part of the output.
 // Stays: `network: &Network, given: Given`: what was read of one file; the writer takes both apart.
 
-// Stays: what a place must hold depends on where it lies; `all` with the same test inside is no plainer.
+// Stays: a buffer, the bounds of what was written in it, and the file that should stand there; the search itself is std's `all`.
 // Whether the bytes from the cursor to `end` are the file's, and all others the marks of their places.
 fn holds(buffer: &[u8], cursor: usize, end: usize, file: &[u8]) -> bool {
-    for (i, byte) in buffer.iter().enumerate() {
-        let expected = if cursor <= i && i < end {
-            cells::get_or(file, i - cursor, 0)
+    buffer.iter().enumerate().all(|(i, byte)| {
+        if cursor <= i && i < end {
+            *byte == cells::get_or(file, i - cursor, 0)
         } else {
-            sums::mark(i)
-        };
-        if *byte != expected {
-            return false;
+            *byte == sums::mark(i)
         }
-    }
-    true
+    })
 }
 
 // Stays: a buffer that was written, the place where that began, and the file that should stand there.

@@ -15,7 +15,7 @@ use fields::{Asked, Contents};
 use network::Network;
 use spec::Refusal;
 
-// Stays: `network.now.leaf_count ≤ 128`: a record between reading and its check; what was read of a file is kept in no type of its own.
+// Stays: `network.now.leaf_count ≤ 128`: a record may hold any count; that the fields' reader counts no more leaves is its promise, which these two are handed.
 
 // How many places the tree's list has to have: two for each node, if the file has a tree.
 fn tree_needs(tree: Option<&[u8]>, network: &Network) -> usize

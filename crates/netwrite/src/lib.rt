@@ -52,7 +52,7 @@ fn after_field(left: usize, payload: usize) -> Option<usize>
     left.checked_sub(3)?.checked_sub(payload)
 }
 
-// Stays: the children were not checked yet, and only their number matters here.
+// Stays: the children come from outside, and are checked only once it is known that the buffer has room for them.
 // How many are left behind the tree's field, if there is a tree.
 fn after_tree(left: usize, tree: Option<&[u16]>) -> Option<usize>
     ensures { MatchOption result (left < length (tree_field (kids_of tree.entry))) (λ r. r + length (tree_field (kids_of tree.entry)) ≡ left) }
@@ -84,7 +84,7 @@ fn room_left(parts: &Parts, size: usize, cursor: usize) -> Option<usize>
 }
 
 // Stays: the children come from outside; whether they are a tree is what is asked.
-// The tree of a network, if there is one.
+// Refuses the tree of a network, if there is one and it is not valid.
 fn check_tree(network: &Accepted, tree: Option<&[u16]>) -> Result<(), Refusal>
     ensures { result ≡ verdict (first (tree_checks (net_in network.now) (kids_of tree.entry))) }
 {
@@ -101,7 +101,7 @@ fn check_tree(network: &Accepted, tree: Option<&[u16]>) -> Result<(), Refusal>
     }
 }
 
-// The flags of a network's indices, if flags are asked.
+// Refuses the flags of a network's indices, if flags are asked and are too many or a byte is over 1.
 fn check_ask(network: &Accepted, ask: Asked) -> Result<(), Refusal>
     ensures { result ≡ verdict (first (flags_checks (net_in network.now) (ask_of ask.entry))) }
 {
@@ -111,7 +111,7 @@ fn check_ask(network: &Accepted, ask: Asked) -> Result<(), Refusal>
     }
 }
 
-// A file that is to go into a buffer of `size` bytes from the cursor on.
+// The first refusal of a file that is to go into a buffer of `size` bytes from the cursor on, or none.
 fn check(parts: &Parts, size: usize, cursor: usize) -> Result<(), Refusal>
     ensures { result ≡ verdict (first (write_checks (parts_of parts.now) size cursor)) }
 {

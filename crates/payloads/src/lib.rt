@@ -10,8 +10,8 @@ pub mod tags; // tags.rt: the tags of the fields
 use network::{Network, scan};
 use spec::Refusal;
 
-// Stays: m is how many indices the network has, not how many bytes there are.
-// Indices of a network of m, byte by byte: refused at the first that is not below m, or that stands before. Both loops are left at the first.
+// Stays: a rule of the project names this form, the pairwise search that leaves both of its loops at the first one; m counts indices, not bytes.
+// Indices of a network of m, byte by byte: refused at the first that is not below m, or that stands before.
 fn check_indices(bytes: &[u8], m: usize) -> Result<(), Refusal>
     ensures { result ≡ verdict (index_bytes m [] bytes.now) }
 {
@@ -103,7 +103,7 @@ pub fn check_tree(bytes: &[u8], n: usize) -> Result<(), Refusal>
     }
 }
 
-// Stays: std copies numbers of one width only, and of a list that is written through a zip only the length is known afterwards.
+// Stays: of a list that is written through a zip only the length is known afterwards.
 /// Copies the bytes to the front of a list of indices, as far as it goes.
 pub fn copy_bytes(to: &mut [u16], bytes: &[u8])
     ensures { to.new ≡ over to.old bytes.now }
@@ -113,7 +113,7 @@ pub fn copy_bytes(to: &mut [u16], bytes: &[u8])
     }
 }
 
-// Stays: `cells::place` copies numbers of one width; here bytes become indices, which std's copy does not do.
+// Stays: `cells::place` is lent numbers as wide as the list's; these are bytes, and the list is of indices.
 /// The same from place `at` on: the copier is lent the rest of the list only.
 pub fn place(list: &mut [u16], at: usize, bytes: &[u8])
     ensures { list.new ≡ placed list.old at bytes.now }

@@ -21,13 +21,12 @@ pub enum Tag {
     Target,
 }
 
-impl Tag {
-    // Stays: `u8::from(tag)` says no more at its calls than this name, which a refusal's number has too.
-    /// The byte that stands in a file: 1 to 6.
-    pub fn number(self) -> u8
-        ensures { result ≡ tag_number self }
-    {
-        match self {
+/// The byte that stands in a file: 1 to 6.
+impl From<Tag> for u8 {
+    ghost from_gives = { λ tag byte. byte ≡ tag_number tag };
+
+    fn from(tag: Tag) -> u8 {
+        match tag {
             Tag::Weights => 1,
             Tag::Leaf => 2,
             Tag::Outputs => 3,
@@ -35,6 +34,16 @@ impl Tag {
             Tag::Flags => 5,
             Tag::Target => 6,
         }
+    }
+}
+
+impl Tag {
+    // Stays: the conversion is `From`; this is its name as a method, which a refusal's number has too.
+    /// The byte that stands in a file: 1 to 6.
+    pub fn number(self) -> u8
+        ensures { result ≡ tag_number self }
+    {
+        u8::from(self)
     }
 }
 

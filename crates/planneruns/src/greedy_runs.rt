@@ -5,7 +5,7 @@ use std::io::{self, Read, Write};
 
 // Stays: `input: &mut R, out: &mut W`: what a case reads and what it writes.
 
-// Stays: twice the leaves less one is the length of the tree that was planned.
+// Stays: a tree has two places for each leaf but one; the list has room for any tree, and its front is the one that was planned.
 // The plan of a network, or the number of the refusal.
 fn plan<W: Write>(out: &mut W, network: &Network) -> io::Result<()> {
     let mut tree = [0u16; 254];
@@ -24,6 +24,6 @@ fn plan<W: Write>(out: &mut W, network: &Network) -> io::Result<()> {
 // Stays: a case of its own form; it reads a network and writes a line.
 /// One case: the network, and its plan.
 pub fn next_case<R: Read, W: Write>(input: &mut R, out: &mut W) -> io::Result<()> {
-    let network = stored::next_network(input, out)?;
+    let network = stored::next_network(input, out);
     plan(out, &network)
 }

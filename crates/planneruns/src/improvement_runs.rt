@@ -75,9 +75,9 @@ fn run<W: Write>(out: &mut W, file: &[u8], asked: Asked) -> io::Result<()> {
 /// One case: what is asked, the file after it, and its tree improved. A limit of 65,535 is none.
 pub fn next_case<R: Read, W: Write>(input: &mut R, out: &mut W) -> io::Result<()> {
     let mut bytes = [0u8; 131072];
-    let number = stored::next_number(input)?;
-    let count = stored::next_number(input)?;
-    let n = stored::take(input, &mut bytes, count)?;
+    let number = stored::next_number(input);
+    let count = stored::next_number(input);
+    let n = stored::take(input, &mut bytes, count);
     let asked = Asked {
         k: number / 16777216,
         passes: number / 65536 % 256,

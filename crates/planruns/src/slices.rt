@@ -48,10 +48,10 @@ fn slice<W: Write>(
 /// One question: two bytes that are 0 where no improvement is asked, two of the target, a network and a tree.
 pub fn answer_next<R: Read, W: Write>(input: &mut R, out: &mut W) -> io::Result<()> {
     let mut tree = [0u16; 512];
-    let question = stored::next_number(input)?;
+    let question = stored::next_number(input);
     let (improving, target) = (question / 65536 != 0, (question % 65536) as u16);
-    let network = stored::next_network(input, out)?;
-    let places = stored::next_tree(input, &mut tree)?;
+    let network = stored::next_network(input, out);
+    let places = stored::next_tree(input, &mut tree);
     slice(out, &network, &mut tree[..places], improving, target)?;
     writeln!(out)
 }

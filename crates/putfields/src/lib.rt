@@ -26,13 +26,14 @@ fn narrow(to: &mut [u8], list: &[u16])
     }
 }
 
-// Stays: a tag is any byte, as in the definition of a field; `to_be_bytes` would need the same cast before it, of n to 16 bits.
+// Stays: a tag is any byte, as in the definition of a field; that n fits 16 bits is required, so that the cast loses nothing.
 // A field's tag and the length n of its payload, high byte first.
 fn put_header(out: &mut [u8], at: usize, tag: u8, n: usize) -> usize
     requires { (n < 65536) × (at + 3 ≤ length out.old) }
     ensures { Put out.old out.new at result (header tag n) }
 {
-    let head = [tag, (n / 256) as u8, (n % 256) as u8];
+    let length = (n as u16).to_be_bytes();
+    let head = [tag, length[0], length[1]];
     cells::place(out, at, &head);
     at + 3
 }

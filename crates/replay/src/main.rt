@@ -25,8 +25,8 @@ fn price<W: Write>(out: &mut W, file: &[u8]) -> io::Result<()> {
 // Stays: this program's own case; the loop over the cases is `stored::each_case` for every program.
 fn next_case<R: Read, W: Write>(input: &mut R, out: &mut W) -> io::Result<()> {
     let mut bytes = [0u8; 131072];
-    let count = stored::next_number(input)?;
-    let n = stored::take(input, &mut bytes, count)?;
+    let count = stored::next_number(input);
+    let n = stored::take(input, &mut bytes, count);
     price(out, &bytes[..n])
 }
 

@@ -9,7 +9,7 @@ ghost use Rattle.steplines.specs.Steps.{step_from, steps_from};
 use crate::digits::Text;
 
 // Stays: `text.old.len ≤ 1000000`: a bound of a number, so that a sum fits a machine word; a type of bounded texts would be unwrapped at each line.
-// Stays: `&self, text: &mut Text`: each is a value of its own; a listing that held its text could be printed once only.
+// Stays: `&self, text: &mut Text`: what is printed, and where to; a listing is copied, which nothing that holds a text to write in can be.
 
 // Stays: steps and sets are of two lengths, and no place of one goes with a place of the other.
 /// What pricing handed out of a plan's steps, in lists that are lent: the flat listing, five numbers a step (node, left, right, work bits,
@@ -48,7 +48,7 @@ impl<'a> Listed<'a> {
         }
     }
 
-    // Stays: an index is what is tested and printed, and the method that would do it is the one here.
+    // Stays: the indices are numbers from 0 on, of which there is no list; a set is bits, and std has no iterator over the bits of a word.
     // Puts the indices in node v's set, rising.
     fn put_kept(&self, text: &mut Text, v: u16)
         requires { text.old.len ≤ 1000000 }

@@ -1,6 +1,6 @@
 #![tactic(auto)]
 // What the programs that run stored cases share: numbers, files and trees that are read, lists that are written.
-ghost use Rattle.std.specs.Prelude.{◌<◌, ◌≤◌, length, IfOk};
+ghost use Rattle.std.specs.Prelude.{◌<◌, ◌≤◌, length};
 
 pub mod sums; // sums.rt: sums over lists
 
@@ -15,8 +15,7 @@ pub fn with_zeros<R: Read>(input: R) -> Chain<R, Repeat> {
     input.chain(io::repeat(0))
 }
 
-/// Runs a program on what its host reads and prints. An input that ends early goes on with zeros. A read or a write that fails ends the run,
-/// and is not told.
+/// Runs a program on what its host reads and prints. An input that ends early goes on with zeros. A write that fails ends the run, and is not told.
 pub fn run<
     'a,
     H: Input + Print,
@@ -43,11 +42,11 @@ pub fn run_cases<
 }
 
 // Stays: std has no From of u32 for usize.
-/// A number of four bytes, high byte first.
-pub fn next_number<R: Read>(input: &mut R) -> io::Result<usize>
-    ensures { IfOk result (λ n. n < 4294967296) }
+/// A number of four bytes, high byte first. A read that fails gives 0.
+pub fn next_number<R: Read>(input: &mut R) -> usize
+    ensures { result < 4294967296 }
 {
-    Ok(input.read_u32::<BigEndian>()? as usize)
+    input.read_u32::<BigEndian>().unwrap_or(0) as usize
 }
 
 // Stays: the input says how many cases follow; there is no list of them.
@@ -59,47 +58,51 @@ pub fn each_case<R: Read, W: Write, F: Fn(&mut R, &mut W) -> io::Result<()>>(
 ) -> io::Result<()>
     requires { F.IsAlwaysCallable run }
 {
-    for _ in 0..next_number(input)? {
+    for _ in 0..next_number(input) {
         run(input, out)?;
     }
     Ok(())
 }
 
 // Stays: the count is the input's, and may be more than the list has room for.
-/// Reads so many bytes to the front of a list, or as many as there is room for, and returns how many.
-pub fn take<R: Read>(input: &mut R, bytes: &mut [u8], count: usize) -> io::Result<usize>
-    ensures { IfOk result (λ n. n ≤ length bytes.new) }
+/// Reads so many bytes to the front of a list, or as many as there is room for, and returns how many. A read that fails is not told.
+pub fn take<R: Read>(input: &mut R, bytes: &mut [u8], count: usize) -> usize
+    ensures { result ≤ length bytes.new }
 {
     let n = count.min(bytes.len());
-    input.read_exact(&mut bytes[..n])?;
-    Ok(n)
+    let _ = input.read_exact(&mut bytes[..n]);
+    n
 }
 
-/// The network of a file: a number of bytes, then the bytes. Of a refused file, which is told, the empty one. A file's tree and flags are left.
-pub fn next_network<R: Read, W: Write>(input: &mut R, out: &mut W) -> io::Result<Network> {
+/// The network of a file: a number of bytes, then the bytes. Of a refused file, which is told, the empty one; a write that fails is not told.
+/// A file's tree and flags are left.
+pub fn next_network<R: Read, W: Write>(input: &mut R, out: &mut W) -> Network {
     let mut bytes = [0u8; 131072];
     let mut tree = [0u16; 254];
     let mut flags = [0u8; 256];
     let mut network = Network::empty();
-    let count = next_number(input)?;
-    let n = take(input, &mut bytes, count)?;
+    let count = next_number(input);
+    let n = take(input, &mut bytes, count);
     match netfile::read_network(&bytes[..n], &mut network, &mut tree, &mut flags) {
         Ok(_) => {}
-        Err(refusal) => write!(out, "file refused {}", refusal.number())?,
+        Err(refusal) => {
+            let _ = write!(out, "file refused {}", refusal.number());
+        }
     }
-    Ok(network)
+    network
 }
 
 // Stays: the tree is read here, and checked where it is used.
-/// A number of places, or as many as there is room for, then so many bytes as a tree, to the front of a list; returns how many.
-pub fn next_tree<R: Read>(input: &mut R, tree: &mut [u16]) -> io::Result<usize>
-    ensures { IfOk result (λ n. n ≤ length tree.new) }
+/// A number of places, or as many as there is room for, then so many bytes as a tree, to the front of a list; returns how many. A read that fails
+/// gives 0.
+pub fn next_tree<R: Read>(input: &mut R, tree: &mut [u16]) -> usize
+    ensures { result ≤ length tree.new }
 {
-    let places = next_number(input)?.min(tree.len());
+    let places = next_number(input).min(tree.len());
     for place in &mut tree[..places] {
-        *place = u16::from(input.read_u8()?);
+        *place = u16::from(input.read_u8().unwrap_or(0));
     }
-    Ok(places)
+    places
 }
 
 /// The numbers of a list, each after a space.

@@ -9,7 +9,7 @@ use spec::Prices;
 use steplines::digits::Text;
 use steplines::listed::Listed;
 
-// Stays: `&self, text: &mut Text`: each is a value of its own; a plan that held its text could be printed once only.
+// Stays: `&self, text: &mut Text`: what is printed, and where to; a plan is copied, which nothing that holds a text to write in can be.
 
 /// What is printed of a plan: what pricing handed out of its steps, the prices, the flags of the sliced indices, and improvement's counts.
 #[derive(Clone, Copy)]

@@ -58,9 +58,9 @@ fn run<W: Write>(out: &mut W, network: &Network, tree: &[u16], other: &[u16]) ->
 fn next_case<R: Read, W: Write>(input: &mut R, out: &mut W) -> io::Result<()> {
     let mut tree = [0u16; 512];
     let mut other = [0u16; 512];
-    let network = stored::next_network(input, out)?;
-    let places = stored::next_tree(input, &mut tree)?;
-    let others = stored::next_tree(input, &mut other)?;
+    let network = stored::next_network(input, out);
+    let places = stored::next_tree(input, &mut tree);
+    let others = stored::next_tree(input, &mut other);
     run(out, &network, &tree[..places], &other[..others])
 }
 
