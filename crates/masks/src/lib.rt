@@ -9,9 +9,8 @@ mod planes; // planes.rt: the weights' binary digits as words, by which rows are
 mod tables; // tables.rt: the tables of the masks, once they are weighed
 
 pub use planes::Planes;
-pub use tables::Tables;
-
 use slots::mix::{Both, Either, WordOp};
+pub use tables::Tables;
 
 /// What a search over members knows of each mask of them: a place a mask in each list.
 // Stays: the lists are parts of one piece of lent words, each split off where the one before it ends.
@@ -37,7 +36,8 @@ fn combine<O: WordOp>(a: [u64; 2], b: [u64; 2]) -> [u64; 2]
     [O::apply(a[0], b[0]), O::apply(a[1], b[1])]
 }
 
-/// The summed weights of the indices of either row, where their digits are not at hand.
+/// The summed weights of the indices of either row, where the digits of the weights are not at hand.
+// Stays: the weights are lent as a list; `Planes::weigh` asks nothing of them, as its value holds what they are.
 pub fn weigh(a: [u64; 2], b: [u64; 2], weights: &[u8]) -> u64
     requires { (128 ≤ length weights.now) × Light weights.now }
     ensures { (result ≡ weighed weights.now [] (in_either a b) 128) × (result ≤ 1024) }
