@@ -21,6 +21,7 @@ use queue::Entry;
 
 // Stays: `entries: &mut [Entry], draws: &mut Draws`: the entries are a local list of one pass and the draws go on behind it; a struct of the two would be made for each pass and taken apart at each call below.
 // Stays: `IsSameLoan work.old work.new`: what each step that is lent the lists promises; no value could hold it, as it is of two times.
+// Stays: `pass.new.moves ≡ pass.old.moves`: what each step that is lent the pass promises; no value could hold it, as it is of two times.
 // Stays: `Stands (place_of layout.now) (lists_of work.old entries.old) (run_in pass.old draws.old)`: one fact of four values that are lent apart, broken and restored within a turn.
 // Stays: `Stamped 1073741824 (stamps_of entries.old)`, `layout.now.sides < 32766`, `v < length layout.now.vertex_weights.now`: bounds of numbers, so that a slot and a stamp fit a word; types of their own would be unwrapped at each use.
 

@@ -2,8 +2,6 @@ use Rattle.spec.specs.Calls.{flag_at}
 use Rattle.network.specs.Views.{net_in}
 use Rattle.passes.specs.Loops.{more_to_come, none_to_come, going_end}
 use native.Mathlib.Omega.{arith}
-use Prim.Native.Nat.{◌+◌, ◌-◌}
-use mathlib.Core.Path.{◌∙◌, ◌≡◌, subst}
 use Rattle.passes.proofs.improve.Goals as goal
 
 pub returns-then-made-eq0-clause-improves : goal.returns-then-made-eq0-clause-improves
