@@ -21,6 +21,7 @@ use queue::Entry;
 
 // Stays: `entries: &mut [Entry], draws: &mut Draws`: the entries are a local list of one pass and the draws go on behind it; a struct of the two would be made for each pass and taken apart at each call below.
 // Stays: `IsSameLoan work.old work.new`: what each step that is lent the lists promises; no value could hold it, as it is of two times.
+// Stays: `pass.new.moves ≡ pass.old.moves`: what each step that is lent the pass promises; no value could hold it, as it is of two times.
 // Stays: `Stands (place_of layout.now) (lists_of work.old entries.old) (run_in pass.old draws.old)`: one fact of four values that are lent apart, broken and restored within a turn.
 // Stays: `Stamped 1073741824 (stamps_of entries.old)`, `layout.now.sides < 32766`, `v < length layout.now.vertex_weights.now`: bounds of numbers, so that a slot and a stamp fit a word; types of their own would be unwrapped at each use.
 
@@ -36,7 +37,7 @@ pub struct Work<'a> {
 }
 
 /// The vertex whose entry comes first of all.
-// Stays: no search of its own: it reads the work's words for the queue's.
+// Stays: a call of the queue's, with the words and the slot that the work and the layout have.
 fn first(layout: &Layout, work: &Work, entries: &[Entry]) -> Option<usize>
     requires { (layout.now.sides < 32768) × (length entries.now ≤ 128) × ((v : ℕ) → v < length entries.now → open_in work.now.words.now layout.now.sides v ≡ false → waits (queue_in entries.now no_words) v ≡ false) }
     ensures first { first_of (queue_in entries.now no_words) result ≡ largest (length entries.now) (queue_in entries.now no_words) }
@@ -82,6 +83,7 @@ fn make_move(
 )
     requires { (v < length layout.now.vertex_weights.now) × (memb v (moves_in (lists_of work.old entries.old) (run_in pass.old draws.old)) ≡ false) × (waits (queue_in entries.old draws.old) v ≡ false) × Stands (place_of layout.now) (lists_of work.old entries.old) (run_in pass.old draws.old) }
     ensures lent { IsSameLoan work.old work.new }
+    ensures moves { pass.new.moves ≡ pass.old.moves }
     ensures made { (most : Float) → Brings layout.now.net_weights.now layout.now.vertex_weights.now (place_of layout.now) (made_move most v) (lists_of work.old entries.old) (lists_of work.new entries.new) (run_in pass.old draws.old) (run_in pass.new draws.new) }
 {
     let key = cells::get_or(entries, v, Entry::NONE).key;
@@ -116,6 +118,7 @@ fn turn(
 )
     requires { Stands (place_of layout.now) (lists_of work.old entries.old) (run_in pass.old draws.old) }
     ensures lent { IsSameLoan work.old work.new }
+    ensures moves { pass.new.moves ≡ pass.old.moves }
     ensures turned { Brings layout.now.net_weights.now layout.now.vertex_weights.now (place_of layout.now) (λ H p. pass_turn H most_weight p) (lists_of work.old entries.old) (lists_of work.new entries.new) (run_in pass.old draws.old) (run_in pass.new draws.new) }
 {
     let Some(v) = first(layout, work, entries) else {
@@ -142,11 +145,12 @@ pub fn run_pass(
 )
     requires { Stands (place_of layout.now) (lists_of work.old entries.old) (run_in pass.old draws.old) }
     ensures lent { IsSameLoan work.old work.new }
+    ensures moves { pass.new.moves ≡ pass.old.moves }
     ensures ran { Brings layout.now.net_weights.now layout.now.vertex_weights.now (place_of layout.now) (λ H p. run_pass H most_weight p) (lists_of work.old entries.old) (lists_of work.new entries.new) (run_in pass.old draws.old) (run_in pass.new draws.new) }
 {
     let n = layout.vertex_count();
     // Stays: a number of turns, over no list.
-    for k in 0..(n + 1) * (n + 1) {
+    for _ in 0..(n + 1) * (n + 1) {
         if pass.over {
             return;
         }

@@ -66,7 +66,7 @@ pub fn initial(
 {
     let mut best = None;
     // Stays: eight tries, over no list.
-    for k in 0usize..8 {
+    for _ in 0usize..8 {
         let cut = try_once(words, layout, most_weight, goal, draws, trial);
         best = Some(keep_better(part, trial, best, cut));
     }

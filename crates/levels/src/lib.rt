@@ -142,7 +142,7 @@ pub fn side_limit(total: f64, eps: f64) -> f64
 }
 
 // Each vertex comes to the side of the coarse vertex that it is part of.
-// Stays: an iterator already: each place is read and written once.
+// Stays: a place of the map past its end counts as 0, as the definition has it; a zip of the two lists would end there.
 fn project(part: &mut [u8], coarse: &[u8], places: &[u16])
     requires { length part.old ≡ length places.now }
     ensures { part.new ≡ map (side_of coarse.now) places.now }
@@ -211,7 +211,7 @@ pub fn initial_at(
 }
 
 // The coarser hypergraph of a level, at the next level, by lists of its own that are put into those of all levels.
-// Stays: the fields of `Levels` one by one: the proof names what becomes of each; the local lists are of one level.
+// Stays: the three lists one by one, so that the promise speaks of lists and not of loans in `Levels`; an error has the size too, as of `coarsen_at`.
 fn coarsen_lists(
     words: &mut [u64],
     net_weights: &mut [u8],
@@ -263,7 +263,8 @@ fn coarsen_lists(
 }
 
 /// The coarser hypergraph of a level, at the next level, with its weights and the map to it. Returns its size, as an error where the level is left as it is: one
-/// of at most 48 vertices, or one that loses too few of them.
+/// of at most 48 vertices, whose size is given as 0 of both, or one that loses too few of them.
+// Stays: an error has the size too: what is promised of a level that stays gives its size as of one that is found.
 pub fn coarsen_at(
     words: &mut [u64],
     levels: &mut Levels,

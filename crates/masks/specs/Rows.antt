@@ -1,11 +1,10 @@
 -- Rows of two words as index sets. Assumes nothing.
-use Rattle.std.specs.Prelude.{Bool, ◌&&◌, ◌||◌, List, [], ◌∷◌, ◌≡◌, ◌<◌, get_or}
+use Rattle.std.specs.Prelude.{Bool, ◌||◌, List, [], ◌∷◌, ◌≡◌, ◌<◌, get_or}
 use Rattle.std.proofs.Common.{refl}
 use Prim.Native.Nat.{ℕ, ◌+◌, ◌*◌, ◌/◌, ◌%◌}
 use native.Mathlib.Omega.{arith}
 use Rattle.std.proofs.Math.Decide.{ℕ_discrete}
-use Rattle.std.specs.Int.Bits.{bit_and, bit_or}
-use Rattle.bits.specs.Digits.{digit, or_digits, and_digits}
+use Rattle.bits.specs.Digits.{Digitwise, digit}
 
 -- does a row have the index j
 unfoldable pub row_has : List ℕ → ℕ → Bool
@@ -26,21 +25,12 @@ row_digit r k i h =
     let f : (k * 64 + i) % 64 ≡ i = omega arith in
     rw (e, f) refl
 
--- an operation on both words
-pub row_or : (x y : List ℕ) (j : ℕ) → j < 128
-    → row_has (bit_or (get_or x 0 0) (get_or y 0 0) ∷ bit_or (get_or x 1 0) (get_or y 1 0) ∷ []) j ≡ (row_has x j || row_has y j)
+-- an operation on both words, that works digit by digit
+pub row_op : (op : ℕ → ℕ → ℕ) (f : Bool → Bool → Bool) → Digitwise op f → (x y : List ℕ) (j : ℕ) → j < 128
+    → row_has (op (get_or x 0 0) (get_or y 0 0) ∷ op (get_or x 1 0) (get_or y 1 0) ∷ []) j ≡ f (row_has x j) (row_has y j)
 unfolding row_has
-row_or x y j h =
+row_op op f d x y j h =
     elim (ℕ_discrete (j / 64) 0) [
-      | yes e ↦ rw e (or_digits (get_or x 0 0) (get_or y 0 0) (j % 64))
-      | no f ↦ (let e : j / 64 ≡ 1 = omega (arith, f) in rw e (or_digits (get_or x 1 0) (get_or y 1 0) (j % 64)))
-    ]
-
-pub row_and : (x y : List ℕ) (j : ℕ) → j < 128
-    → row_has (bit_and (get_or x 0 0) (get_or y 0 0) ∷ bit_and (get_or x 1 0) (get_or y 1 0) ∷ []) j ≡ (row_has x j && row_has y j)
-unfolding row_has
-row_and x y j h =
-    elim (ℕ_discrete (j / 64) 0) [
-      | yes e ↦ rw e (and_digits (get_or x 0 0) (get_or y 0 0) (j % 64))
-      | no f ↦ (let e : j / 64 ≡ 1 = omega (arith, f) in rw e (and_digits (get_or x 1 0) (get_or y 1 0) (j % 64)))
+      | yes e ↦ rw e (d (get_or x 0 0) (get_or y 0 0) (j % 64))
+      | no g ↦ (let e : j / 64 ≡ 1 = omega (arith, g) in rw e (d (get_or x 1 0) (get_or y 1 0) (j % 64)))
     ]

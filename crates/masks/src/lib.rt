@@ -4,12 +4,12 @@ ghost use Rattle.std.specs.Prelude.{[], ◌&&◌, ◌||◌, ◌≡◌, ℕ, ◌+
 ghost use Rattle.slots.specs.Weigh.{Light, weighed};
 ghost use Rattle.masks.specs.Rows.{row_has, in_either};
 ghost use Rattle.masks.specs.Tables.{United, KeptBelow};
-ghost use Rattle.masks.specs.Weights.{weight_below};
 
 mod planes; // planes.rt: the weights' binary digits as words, by which rows are weighed
 mod tables; // tables.rt: the tables of the masks, once they are weighed
 
 pub use planes::Planes;
+use slots::mix::{Both, Either, WordOp};
 pub use tables::Tables;
 
 /// What a search over members knows of each mask of them: a place a mask in each list.
@@ -28,44 +28,21 @@ pub struct Masks<'a> {
     pub part: &'a mut [u64],
 }
 
-// The indices of either row.
+// What the operation makes of two rows.
 // Stays: a row is two words, written out; a loop or a zip over two is no plainer.
-fn unite(a: [u64; 2], b: [u64; 2]) -> [u64; 2]
-    ensures { (j : ℕ) → j < 128 → row_has result j ≡ (row_has a j || row_has b j) }
+fn combine<O: WordOp>(a: [u64; 2], b: [u64; 2]) -> [u64; 2]
+    ensures { (j : ℕ) → j < 128 → row_has result j ≡ O.on_members (row_has a j) (row_has b j) }
 {
-    [a[0] | b[0], a[1] | b[1]]
+    [O::apply(a[0], b[0]), O::apply(a[1], b[1])]
 }
 
-// The indices of both rows.
-// Stays: a row is two words, written out; a loop or a zip over two is no plainer.
-fn meet(a: [u64; 2], b: [u64; 2]) -> [u64; 2]
-    ensures { (j : ℕ) → j < 128 → row_has result j ≡ (row_has a j && row_has b j) }
-{
-    [a[0] & b[0], a[1] & b[1]]
-}
-
-// The summed weights of the indices `base` + i for each set digit i of `x`, place by place.
-// Stays: i is the place of a digit as well as of a weight; and std has no `From` of a `u64` for a `usize`.
-fn weigh_word(x: u64, base: usize, weights: &[u8]) -> usize
-    requires { (base + 64 ≤ length weights.now) × Light weights.now }
-    ensures { (result ≡ weight_below weights.now base 64 x) × (result ≤ 512) }
-{
-    let mut sum: usize = 0;
-    for i in 0..64 {
-        sum += ((x >> i) % 2) as usize * weights[base + i] as usize;
-    }
-    sum
-}
-
-/// The summed weights of the indices of either row, where their digits are not at hand.
-// Stays: a row is two words, written out; std has no `From` of a `usize` for a `u64`. To make `Planes` for one row takes longer than this walk over its places.
+/// The summed weights of the indices of either row, where the digits of the weights are not at hand.
+// Stays: the weights are lent as a list; `Planes::weigh` asks nothing of them, as its value holds what they are.
 pub fn weigh(a: [u64; 2], b: [u64; 2], weights: &[u8]) -> u64
     requires { (128 ≤ length weights.now) × Light weights.now }
     ensures { (result ≡ weighed weights.now [] (in_either a b) 128) × (result ≤ 1024) }
 {
-    let low = weigh_word(a[0] | b[0], 0, weights);
-    let high = weigh_word(a[1] | b[1], 64, weights);
-    (low + high) as u64
+    Planes::of(weights).weigh(a, b)
 }
 
 /// Unites the members' sets of each mask, from the lowest mask up. Those of the masks of one member stand there already.
@@ -77,7 +54,7 @@ pub fn unions(united: &mut [[u64; 2]])
     for s in 1..united.len() {
         let rest = s & (s - 1);
         if rest != 0 {
-            united[s] = unite(united[rest], united[s - rest]);
+            united[s] = combine::<Either>(united[rest], united[s - rest]);
         }
     }
 }
@@ -100,8 +77,8 @@ pub fn keep_sets_by(united: &[[u64; 2]], planes: &Planes, kept: &mut [[u64; 2]],
 {
     let n = united.len();
     for s in 1..n {
-        let outside = unite(united[0], united[n - 1 - s]);
-        let row = meet(united[s], outside);
+        let outside = combine::<Either>(united[0], united[n - 1 - s]);
+        let row = combine::<Both>(united[s], outside);
         kept[s] = row;
         bits[s] = planes.weigh(row, row);
     }

@@ -96,22 +96,6 @@ module _ (N : Network) (flag : ℕ → Bool) (k : ℕ) (limit : Option ℕ) wher
   pub passing_end : (whole d : Visited) (left : ℕ) → left ≡ 0 → Passing whole left d → whole ≡ d
   passing_end whole d left z p = p ∙ ap (λ n. after d (improve_tree N flag k limit n d.tree)) z ∙ then_nothing d
 
--- passes until one rebuilds nothing
-abbrev pub passes_left : ℕ → ℕ → ℕ
-passes_left left rebuilt = cond (eqb rebuilt 0) 0 (left - 1)
-
-pub stop_passes : (left rebuilt : ℕ) → rebuilt ≡ 0 → 0 ≡ passes_left left rebuilt
-stop_passes left rebuilt e = sym (rw (eq-eqb rebuilt 0 e))
-
-pub go_on : (left rebuilt : ℕ) → (rebuilt ≡ 0 → ⊥) → left - 1 ≡ passes_left left rebuilt
-go_on left rebuilt e = sym (rw (ne_eqb rebuilt 0 e))
-
-pub left_falls : (left rebuilt x : ℕ) → 1 ≤ left → x ≡ passes_left left rebuilt → x < left
-left_falls left rebuilt x h e =
-    by_cases (eqb rebuilt 0)
-    (λ q. let z : x ≡ 0 = e ∙ rw q in omega arith)
-    (λ q. let z : x ≡ left - 1 = e ∙ rw q in omega arith)
-
 -- ---- the loops' invariants ----
 
 module _ (N : Network) (flag : ℕ → Bool) (k : ℕ) (limit : Option ℕ) where
@@ -181,7 +165,7 @@ module _ (N : Network) (flag : ℕ → Bool) (k : ℕ) (limit : Option ℕ) wher
       joined =
           sym (same_done x.made.tree (ap (λ (y : ℕ). rebuilt + y) x.made.is_rebuilt) (ap (λ (y : ℕ). tried + y) x.made.is_tried))
 
-      more_to_come : 1 ≤ left → (a ≡ 0 → ⊥) → Going most whole kids' sets' sizes' works' (rebuilt + a) (tried + b) (left - 1)
+      pub more_to_come : 1 ≤ left → (a ≡ 0 → ⊥) → Going most whole kids' sets' sizes' works' (rebuilt + a) (tried + b) (left - 1)
       more_to_come h e =
           record {
             going =
@@ -192,7 +176,7 @@ module _ (N : Network) (flag : ℕ → Bool) (k : ℕ) (limit : Option ℕ) wher
             few_tried = omega (arith, w.few_tried, x.few_tried);
           }
 
-      none_to_come : 1 ≤ left → a ≡ 0 → Going most whole kids' sets' sizes' works' (rebuilt + a) (tried + b) 0
+      pub none_to_come : 1 ≤ left → a ≡ 0 → Going most whole kids' sets' sizes' works' (rebuilt + a) (tried + b) 0
       none_to_come h e =
           record {
             going = passing_last N flag k limit whole before left h (sym x.made.is_rebuilt ∙ e) w.going ∙ joined ∙ sym (then_nothing then);
@@ -200,12 +184,6 @@ module _ (N : Network) (flag : ℕ → Bool) (k : ℕ) (limit : Option ℕ) wher
             few_rebuilt = omega (arith, w.few_rebuilt, x.few_rebuilt);
             few_tried = omega (arith, w.few_tried, x.few_tried);
           }
-
-      pub going_next : (left' : ℕ) → 1 ≤ left → left' ≡ passes_left left a → Going most whole kids' sets' sizes' works' (rebuilt + a) (tried + b) left'
-      going_next left' h e =
-          by_cases (eqb a 0)
-          (λ q. let z : left' ≡ 0 = e ∙ rw q in rw z (none_to_come h (eqb-true a 0 q)))
-          (λ q. let z : left' ≡ left - 1 = e ∙ rw q in rw z (more_to_come h (eqb-false a 0 q)))
 
     pub going_end : left ≤ 0 → Made N flag whole kids sets sizes works rebuilt tried
     going_end h =

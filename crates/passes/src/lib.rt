@@ -10,9 +10,8 @@ ghost use Rattle.reprice.specs.Held.{Standing, IsAsLong};
 ghost use Rattle.reconf.specs.Benches.{IsReady};
 ghost use Rattle.passes.specs.Sorted.{sorted};
 ghost use Rattle.passes.specs.Made.{VisitsAll, Passes, Improves};
-ghost use Rattle.passes.specs.Loops.{passes_left};
 
-// Stays: `kids: &mut [u16], network: &Accepted`, `network: &Accepted, search: &Search`, `words: &mut [u64], list: &mut PriceList`: five owners; a struct of all would be filled anew for each call, with three of its fields lent to be written.
+// Stays: `kids: &mut [u16], network: &Accepted`, `network: &Accepted, search: &Search`, `words: &mut [u64], list: &mut PriceList`: the tree is written and the price list filled anew within; of one value with all, each contract would have to say of each field that the same list is lent in it still.
 // Stays: `IsReady network.now search.now (length words.old) list.old`: of four values that different callers own, so it is no field of one of them.
 // Stays: `Standing (net_in network.now) (flag_at search.now.flags.now) kids.old list.old.sets.now list.old.sizes.now list.old.works.now`: of tree, price list, network and flags; a visit writes the first two, and a field of a struct would be proved anew at each write.
 // Stays: `IsSameLoan list.old list.new`, `IsAsLong list.old list.new`: what a caller that lends a price list has of it afterwards, said where it is lent on.
@@ -89,19 +88,8 @@ fn pass(
     visit_all(words, list, kids, network, search, &nodes[..c])
 }
 
-// How many passes are still to come after one: none if it rebuilt nothing.
-fn passes_left(left: usize, rebuilt: u64) -> usize
-    requires { 1 ≤ left }
-    ensures { result ≡ passes_left left rebuilt }
-{
-    if rebuilt == 0 {
-        return 0;
-    }
-    left - 1
-}
-
 /// Improves the tree `kids` of a network, whose price list is at hand: passes, at most as many as asked, until one rebuilds nothing. `words` is worked in.
-// Stays: stops after a pass that rebuilds nothing: a loop over counts would need a break for it.
+// Stays: a number of passes, over no list; the tree is written here, as the flat list that the C interface lends.
 pub fn improve(
     words: &mut [u64],
     list: &mut PriceList,
@@ -119,12 +107,13 @@ pub fn improve(
 {
     let mut rebuilt: u64 = 0;
     let mut tried: u64 = 0;
-    let mut left = most;
-    while 0 < left {
+    for _ in 0..most {
         let made = pass(words, list, kids, network, search);
         rebuilt += made.rebuilt;
         tried += made.tried;
-        left = passes_left(left, made.rebuilt);
+        if made.rebuilt == 0 {
+            break;
+        }
     }
     Visited { rebuilt, tried }
 }

@@ -29,6 +29,7 @@ fn put_node(kids: &mut [u16], n: usize, v: u16, left: u16, right: u16)
 }
 
 /// The freed nodes' numbers that are left to take: the first `left` of a list, the last of these first.
+// Stays: a slice cut shorter at each number has no place for a `left` past its end, whose numbers are 0, as the definition has them.
 #[derive(Drop)]
 pub struct Freed<'a> {
     nodes: &'a [u16],
@@ -80,7 +81,7 @@ fn join_node(free: &mut Freed, kids: &mut [u16], n: usize, first: u16, second: u
 }
 
 // The part of the mask `s`, if it is split.
-// Stays: the part that a mask is split by, no conversion; std has no `From` of a `u64` for a `usize`.
+// Stays: a word of the list of parts, as the part that a mask is split by; std has no `From` of a `u64` for a `usize`.
 fn part_of(part: &[u64], s: usize) -> Option<usize>
     ensures { result ≡ part_of (split_at part.now) s }
 {

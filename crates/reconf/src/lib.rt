@@ -13,7 +13,7 @@ ghost use Rattle.reconf.specs.Node.{Visitable};
 ghost use Rattle.reconf.specs.Visits.{Searches, Reconfs, Visits};
 ghost use Rattle.reconf.specs.Benches.{IsReady};
 
-// Stays: `kids: &mut [u16], network: &Accepted`, `network: &Accepted, search: &Search`, `words: &mut [u64], list: &mut PriceList`: five owners; a struct of all would be filled anew for each call, with three of its fields lent to be written.
+// Stays: `kids: &mut [u16], network: &Accepted`, `network: &Accepted, search: &Search`, `words: &mut [u64], list: &mut PriceList`: the tree is written and the price list filled anew within; of one value with all, each contract would have to say of each field that the same list is lent in it still.
 // Stays: `IsReady network.now search.now (length words.old) list.old`: of four values that different callers own, so it is no field of one of them.
 // Stays: `Standing (net_in network.now) (flag_at search.now.flags.now) kids.old list.old.sets.now list.old.sizes.now list.old.works.now`: of tree, price list, network and flags; a visit writes the first two, and a field of a struct would be proved anew at each write.
 // Stays: `IsSameLoan list.old list.new`, `IsAsLong list.old list.new`: what a caller that lends a price list has of it afterwards, said where it is lent on.
@@ -87,10 +87,7 @@ fn accepts(cost: Option<u64>, old: u64) -> bool
     requires old { old < 2 ^ 53 }
     ensures { result ≡ accepts cost old }
 {
-    match cost {
-        Some(new) => rebuild::undercuts(new, old),
-        None => false,
-    }
+    cost.is_some_and(|new| rebuild::undercuts(new, old))
 }
 
 /// What a visit did: how many rebuilds, how many splits tried.

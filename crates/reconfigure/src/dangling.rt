@@ -39,7 +39,7 @@ fn tally_leaves<'a>(tally: &mut [u8], n: usize, counts: &'a [u8], legs: &'a [u16
 }
 
 // Strikes the counts of the indices of a row.
-// Stays: one line over `cells::put`; the like one of slicing promises weights, this one counts.
+// Stays: no plainer as one with `clear_outputs` of slicing: that crate would be depended on for a loop of one line, with a promise of weights.
 fn strike(tally: &mut [u8], row: &[u16])
     ensures { tally.new ≡ struck tally.old row.now }
 {
@@ -49,7 +49,7 @@ fn strike(tally: &mut [u8], row: &[u16])
 }
 
 // Is one of the counts 1.
-// Stays: `any` of the counts, no search by hand.
+// Stays: the one call of `any` is given a name, as its promise speaks of counts.
 fn any_one(tally: &[u8]) -> bool
     ensures { result ≡ anyb (λ x. eqb x 1) tally.now }
 {

@@ -69,7 +69,7 @@ fn is_total_beyond(list: &PriceList, n: usize) -> bool
 }
 
 // The answer where the tree is valid and the flags are right.
-// Stays: memory is fixed: the lists of the price list are arrays here, of one length where nodes have an entry each.
+// Stays: no heap: the three lists of a price list are local arrays here, filled once and lent on.
 fn improve_valid(
     network: &Accepted,
     search: &Search,
@@ -124,7 +124,7 @@ fn improve_tree(
 
 /// Improves the tree of an accepted network where it stands. Refusals, in this order: `ShortBuffer`, `InvalidTree`, `InvalidFlags`, `TotalBeyond`,
 /// `DanglingIndex`.
-// Stays: improvement of an accepted network's tree, no conversion.
+// Stays: `_of` an accepted network, as `improve` is of any; it writes the tree where it stands.
 pub fn improve_of(
     network: &Accepted,
     ask: &Ask,

@@ -92,7 +92,7 @@ fn all_passes(
     ensures leads { Leads layout.now.net_weights.now layout.now.vertex_weights.now (place_of layout.now) (λ H z. passes H most_weight most z) split.old.words.now split.new.words.now (refined_as split.old.part.now split.old.loads true draws.old) (refined_as split.new.part.now split.new.loads result draws.new) }
 {
     // Stays: a number of passes, over no list.
-    for k in 0..most {
+    for _ in 0..most {
         if !one_pass(layout, split, most_weight, draws) {
             return false;
         }

@@ -15,7 +15,7 @@ use reconf::{Search, Visited};
 use walk::Tree;
 
 // One pass at k = 8 with the limit that the widest table or the target sets.
-// Stays: memory is fixed: the lists of the price list are arrays here, of one length where nodes have an entry each.
+// Stays: no heap: the three lists of a price list are local arrays here, filled once and lent on.
 fn improve_once(
     network: &Accepted,
     kids: &mut [u16],

@@ -26,7 +26,7 @@ fn stated(improving: bool) -> usize
 }
 
 // Is the tree's unsliced total beyond.
-// Stays: memory is fixed: the lists of the price list are arrays here, of one length where nodes have an entry each.
+// Stays: no heap: the three lists of a price list are local arrays here, filled once and lent on.
 fn is_beyond(network: &Accepted, kids: &[u16], words: &mut [u64]) -> bool
     requires right { wrong_tree (leaf_count (net_in network.now)) kids.now ≡ false }
     requires words { plain_words ≤ length words.old }

@@ -16,11 +16,11 @@ ghost use Rattle.subset.specs.Walk.{infinite, finite, step_cost, considered, che
 use masks::{Masks, Planes, Tables};
 
 // From 2^53 on a cost counts as infinite.
-// Stays: the walk compares one word a mask; an `Option` would be two in its inner loop.
+// Stays: the costs stand in words that the C interface lends, one a mask, so that a number has to say that there is none.
 const INFINITE: u64 = 9007199254740992;
 
-/// A cost, and the part of the split that has it; 2^53 and 0 where there is none, so that the walk compares one number.
-// Stays: 2^53 is no cost, so that the walk compares one word; an `Option` would be two in its inner loop.
+/// A cost, and the part of the split that has it; 2^53 and 0 where there is none.
+// Stays: no heap: it goes to a place in the lent words of costs and parts, where 2^53 stands for no cost.
 #[derive(Clone, Copy)]
 pub struct Choice {
     pub cost: u64,
@@ -117,7 +117,7 @@ fn is_over(bits: u64, limit: Option<u16>) -> bool
 }
 
 /// What is found for a mask: the least cost, the part of the first split that has it, and how many splits are tried.
-// Stays: 2^53 is no cost, so that the lent list of costs has one word a mask.
+// Stays: no heap: it goes to a place in the lent words of costs and parts, one a mask, where 2^53 stands for no cost.
 #[derive(Clone, Copy)]
 pub struct Entry {
     pub cost: u64,
@@ -205,7 +205,7 @@ pub fn mask_count(m: usize) -> usize
 }
 
 // A cost of the table, if it is one.
-// Stays: the list of costs has one word a mask, 2^53 where there is no cost.
+// Stays: no heap: a lent word of costs, where 2^53 stands for no cost, becomes an `Option` here.
 fn finite(cost: u64) -> Option<u64>
     ensures cost { result ≡ finite cost }
     ensures small { IfSome result (λ c. c < infinite) }
@@ -215,7 +215,7 @@ fn finite(cost: u64) -> Option<u64>
 
 /// The search over `m` members, whose local indices stand in the rows of the masks of one member, and the region's root's in row 0. The splits
 /// of the tree of that cost are in the list of parts. `limit` is the most bits of a table that is not the root's.
-// Stays: the search over subsets that the crate is about, no search in a list.
+// Stays: the lists of `masks` are of one place a mask; it is the search over all subsets that the crate is about.
 pub fn search<'a>(masks: Masks<'a>, weights: &[u8], limit: Option<u16>, m: usize) -> Searched<'a>
     requires room { HasRoom masks (2 ^ m) }
     requires members { (1 ≤ m) × (m ≤ 12) }

@@ -7,27 +7,28 @@ pub returns-then-pass-clause-ran : goal.returns-then-pass-clause-ran
 returns-then-pass-clause-ran c =
     let a = c.args in
     let g = a.layout.now in
-    let l = c.loop-k in
+    let l = c.loop in
     runs_over g.net_weights.now g.vertex_weights.now a.most_weight g.nets g.vertices g.sides g.net_count (lists_of a.work.now a.entries.now) (run_in a.pass.now a.draws.now)
-    (lists_of l.work l.entries) (run_in l.pass l.draws) l.k c.if-pass.true l.invariant.3
+    (lists_of l.work l.entries) (run_in l.pass l.draws) l.counter c.if-pass.true l.invariant.4
 
-pub loop-k-preserved : goal.loop-k-preserved
-loop-k-preserved c =
+pub loop-preserved : goal.loop-preserved
+loop-preserved c =
     let a = c.args in
     let g = a.layout.now in
-    let l = c.loop-k in
+    let l = c.loop in
     let t = c.turn.ensures in (
-      omega (arith, c.loop-k-test.true),
+      omega (arith, c.loop-test.true),
       l.invariant.1,
       (t.lent.0 ∙ l.invariant.2.0, t.lent.1 ∙ l.invariant.2.1, t.lent.2 ∙ l.invariant.2.2, t.lent.3 ∙ l.invariant.2.3),
+      t.moves ∙ l.invariant.3,
       runs_next g.net_weights.now g.vertex_weights.now a.most_weight g.nets g.vertices g.sides g.net_count (lists_of a.work.now a.entries.now) (run_in a.pass.now a.draws.now)
-          (lists_of l.work l.entries) _ (run_in l.pass l.draws) _ l.k (omega (arith, c.loop-k-test.true, l.invariant.1)) c.if-pass.false l.invariant.3 t.turned,
+          (lists_of l.work l.entries) _ (run_in l.pass l.draws) _ l.counter (omega (arith, c.loop-test.true, l.invariant.1)) c.if-pass.false l.invariant.4 t.turned,
     )
 
 pub returns-clause-ran : goal.returns-clause-ran
 returns-clause-ran c =
     let a = c.args in
     let g = a.layout.now in
-    let l = c.loop-k in
+    let l = c.loop in
     runs_end g.net_weights.now g.vertex_weights.now a.most_weight g.nets g.vertices g.sides g.net_count (lists_of a.work.now a.entries.now) (run_in a.pass.now a.draws.now)
-    (lists_of l.work l.entries) (run_in l.pass l.draws) l.k (omega (arith, l.invariant.1)) l.invariant.3
+    (lists_of l.work l.entries) (run_in l.pass l.draws) l.counter (omega (arith, l.invariant.1)) l.invariant.4

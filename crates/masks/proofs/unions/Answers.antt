@@ -14,7 +14,7 @@ loop-s-preserved c = let a = c.args in let l = c.loop-s in let n : ℕ = length 
   omega arith,
   elim c.if-rest-ne0.branch [
     | then-rest-ne0 w ↦ subst (λ (x : List (List ℕ)). United a.united.now x n (l.s + 1)) (sym w.united-is)
-        (unite_joint a.united.now l.united n l.s (omega arith) (omega arith) l.invariant.2 w.if-rest-ne0.true refl w.unite.result w.unite.ensures)
+        (unite_joint a.united.now l.united n l.s (omega arith) (omega arith) l.invariant.2 w.if-rest-ne0.true refl w.combine.result w.combine.ensures)
     | else-rest-ne0 w ↦ subst (λ (x : List (List ℕ)). United a.united.now x n (l.s + 1)) (sym w.united-is)
         (unite_single a.united.now l.united n l.s (omega arith) (omega arith) l.invariant.2 w.if-rest-ne0.false)
   ],

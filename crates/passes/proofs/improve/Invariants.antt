@@ -1,3 +1,4 @@
+use Prim.Native.Nat.{◌-◌}
 use Rattle.passes.specs.Loops.{Going}
 use Rattle.spec.specs.Network.{leaf_count}
 use Rattle.spec.specs.Calls.{flag_at}
@@ -7,9 +8,6 @@ use Rattle.pricing.specs.Lists.{IsSameLoan}
 use Rattle.reprice.specs.Held.{tree_of, IsAsLong}
 use Rattle.passes.proofs.improve.Given as goal
 
-abbrev pub invariant-loop-left : goal.invariant-loop-left
-invariant-loop-left l = IsSameLoan l.initial.list l.list × IsAsLong l.initial.list l.list
-    × Going (net_in l.network) (flag_at l.search.flags.now) l.search.k l.search.limit l.most (improve_tree (net_in l.network) (flag_at l.search.flags.now) l.search.k l.search.limit l.most (tree_of (leaf_count (net_in l.network)) l.initial.kids)) l.kids l.list.sets.now l.list.sizes.now l.list.works.now l.rebuilt l.tried l.left
-
-abbrev pub decreases-loop-left : goal.decreases-loop-left
-decreases-loop-left l = l.left
+abbrev pub invariant-loop : goal.invariant-loop
+invariant-loop l = IsSameLoan l.initial.list l.list × IsAsLong l.initial.list l.list
+    × Going (net_in l.network) (flag_at l.search.flags.now) l.search.k l.search.limit l.most (improve_tree (net_in l.network) (flag_at l.search.flags.now) l.search.k l.search.limit l.most (tree_of (leaf_count (net_in l.network)) l.initial.kids)) l.kids l.list.sets.now l.list.sizes.now l.list.works.now l.rebuilt l.tried (l.most - l.counter)
