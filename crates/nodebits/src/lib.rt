@@ -79,7 +79,7 @@ fn leaf_bits(
 }
 
 // The summed weights of the indices `base` + i for each set digit i of `x`.
-// Stays: reads its list at a proved place, where `slots::weigh_word` compares with the end of two lists at each digit; `masks::weigh_word` goes through all 64 places.
+// Stays: reads its list at a proved place, where `slots::weigh_word` compares with the end of two lists at each digit.
 fn weigh_word(x: u64, base: usize, effective: &[u8]) -> usize
     requires { (base + 64 ≤ length effective.now) × Light effective.now × (base ≤ 65536) }
     ensures { (result ≡ word_weight effective.now [] base x) × (result ≤ 512) }

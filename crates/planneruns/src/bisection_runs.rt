@@ -38,7 +38,10 @@ pub fn next_case<R: Read, W: Write>(input: &mut R, out: &mut W) -> io::Result<()
     let mut words = [0u64; 65536];
     let asked = stored::next_number(input);
     let count = stored::next_number(input).min(65536);
-    put_words(&mut words[..count], input.read_u64::<BigEndian>().unwrap_or(0));
+    put_words(
+        &mut words[..count],
+        input.read_u64::<BigEndian>().unwrap_or(0),
+    );
     let network = stored::next_network(input, out);
     plan(out, &network, asked, &words[..count])
 }
