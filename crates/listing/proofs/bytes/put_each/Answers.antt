@@ -1,6 +1,6 @@
 use native.Mathlib.Omega.{arith}
 use Rattle.std.proofs.Common.{◌∙◌}
-use Rattle.listing.specs.Bytes.{each_none, each_next, each_all}
+use Rattle.listing.specs.Bytes.{each_none, each_next}
 use Rattle.listing.proofs.bytes.put_each.Goals as goal
 
 pub loop-k-init : goal.loop-k-init
@@ -10,6 +10,3 @@ pub loop-k-preserved : goal.loop-k-preserved
 loop-k-preserved c =
     let l = c.loop-k in
     c.put_two.ensures ∙ each_next c.args.out.now c.args.list.now c.args.at l.k (omega arith) l.invariant
-
-pub returns : goal.returns
-returns c = each_all c.args.out.now c.args.list.now c.args.at c.loop-k.k (omega arith) c.loop-k.invariant
