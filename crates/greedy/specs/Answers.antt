@@ -11,7 +11,7 @@ use Rattle.spec.specs.Tree.{Pair, flat_of}
 use Rattle.spec.specs.Refusal.{code_of, checked}
 use Rattle.spec.specs.Calls.{Lent, lent, length_check, plain_words, tree_places, greedy_call, workspace_after, greedy_tree}
 use Rattle.spec.specs.Greedy.{greedy}
-use Rattle.walk.specs.Entry.{Untouched, by_network, past_network, past_length, network_refused, too_short, quiet_words, quiet_list, done_words, refused_words}
+use Rattle.walk.specs.Entry.{Untouched, by_network, by_length, past_network, past_length, network_refused, too_short, quiet_words, quiet_list, done_words, refused_words}
 use Rattle.greedy.specs.Whole.{Grown, is_left, is_grown}
 
 -- refused, or done
@@ -34,6 +34,15 @@ module _ (N : Network) (words places : ℕ) where
   pub few_places : plain_words ≤ words → places < tree_places N → greedy_in N words places ≡ Err ShortBuffer
   unfolding greedy_in
   few_places h q = too_short lents [] (greedy N) (rw (le-ltb words plain_words h, lt-ltb places (tree_places N) q))
+
+  -- with its number, and nothing is touched
+  pub few_words_untouched : words < plain_words → Untouched 7 (greedy_in N words places)
+  unfolding greedy_in
+  few_words_untouched h = by_length lents [] (greedy N) (rw (lt-ltb words plain_words h))
+
+  pub few_places_untouched : plain_words ≤ words → places < tree_places N → Untouched 7 (greedy_in N words places)
+  unfolding greedy_in
+  few_places_untouched h q = by_length lents [] (greedy N) (rw (le-ltb words plain_words h, lt-ltb places (tree_places N) q))
 
   pub greedy_runs : plain_words ≤ words → tree_places N ≤ places → greedy_in N words places ≡ greedy N
   unfolding greedy_in

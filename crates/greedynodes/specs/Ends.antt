@@ -7,8 +7,10 @@ use Rattle.std.proofs.lemmas.List.{length-map}
 use Rattle.spec.specs.Memory.{over}
 use Rattle.spec.specs.Network.{Network}
 use Rattle.spec.specs.Tree.{Tree, leaf, number, Pair, flat_of}
+use Rattle.network.specs.declared.accepted.Accepted.{Accepted}
 use Rattle.spec.specs.declared.Refusal.{Refusal}
 use Rattle.spec.specs.declared.Refusal.TheVariants.{TableTooWide}
+use Rattle.tables.specs.declared.PairTooWide.{PairTooWide}
 use Rattle.spec.specs.Greedy.{State, connect, Built, finish, leaves_of, greedy_from}
 use Rattle.laws.specs.GreedyMerging.{connect_some}
 use Rattle.laws.specs.ListLaws.{range_length}
@@ -25,17 +27,26 @@ pub data Planned (N : Network) (a : List Pair) (leaves kids₀ kids : List ℕ) 
       → length b.pairs ≡ length a + (length leaves - 1) → (0 < length leaves → (t : Tree) × (b.tops ≡ t ∷ []) × (top ≡ number t))
       → Planned N a leaves kids₀ kids r
 
--- its number
-abbrev pub number_in : Result ℕ Refusal → ℕ
-number_in (Err r) = 65536
-number_in (Ok t) = t
+-- greedy answers so over a list of leaves of every network that the lent lists hold, and every array so far
+abbrev pub Plans : (n made : ℕ) (weights counts legs outputs leaves kids kids' : List ℕ) (r : Result ℕ Refusal) → Type 0
+Plans n made weights counts legs outputs leaves kids kids' r =
+    (N : Network) (a : List Pair) → Asks N a n made weights counts legs outputs leaves kids → Planned N a leaves kids kids' r
+
+-- the same over an accepted network's lists
+abbrev pub PlansOver : (A : Accepted) (made : ℕ) (leaves kids kids' : List ℕ) (r : Result ℕ Refusal) → Type 0
+PlansOver A made leaves kids kids' r = Plans (length A.leg_counts.now) made A.weights.now A.leg_counts.now A.legs.now A.outputs.now leaves kids kids' r
+
+-- how many turns the merging made
+abbrev turns_in : Result ℕ PairTooWide → ℕ
+turns_in (Err r) = 0
+turns_in (Ok t) = t
 
 -- an answer is no refusal
-abbrev answered : Result ℕ Refusal → Type 0
+abbrev answered : {E : Type 0} → Result ℕ E → Type 0
 answered (Ok t) = ◌≡◌ {A = ℕ} 0 0
 answered (Err r) = ⊥
 
-pub apart : {t : ℕ} {r : Refusal} → ◌≡◌ {A = Result ℕ Refusal} (Ok t) (Err r) → ⊥
+pub apart : {E : Type 0} {t : ℕ} {r : E} → ◌≡◌ {A = Result ℕ E} (Ok t) (Err r) → ⊥
 apart e = subst answered e refl
 
 module _ (N : Network) (a : List Pair) (W n made : ℕ) (weights counts cells outputs leaves kids : List ℕ)
@@ -55,15 +66,15 @@ module _ (N : Network) (a : List Pair) (W n made : ℕ) (weights counts cells ou
         (sym (state_is N a W n made weights counts cells outputs leaves kids asks fits few_leaves few ws₀ room))
 
     -- refused
-    pub answer_refused : (nodes sizes live kids₁ kids₂ : List ℕ) (r : Result ℕ Refusal) (w : Refusal) → r ≡ Err w → Connected G S kids nodes sizes live kids₁ r
-        → Planned N a leaves kids kids₂ (Err w)
-    answer_refused nodes sizes live kids₁ kids₂ r w e (too_wide z q) = is_too_wide (sym e ∙ z) (from_is ∙ ap (finish N) q)
+    pub answer_refused : (nodes sizes live kids₁ kids₂ : List ℕ) (r : Result ℕ PairTooWide) (w : PairTooWide) → r ≡ Err w → Connected G S kids nodes sizes live kids₁ r
+        → Planned N a leaves kids kids₂ (Err TableTooWide)
+    answer_refused nodes sizes live kids₁ kids₂ r w e (too_wide u z q) = is_too_wide refl (from_is ∙ ap (finish N) q)
     answer_refused nodes sizes live kids₁ kids₂ r w e (ended t z F) = absurd (apart (sym z ∙ e))
 
     module _ (nodes sizes live kids₁ : List ℕ) (t : ℕ) where
       final : Connected G S kids nodes sizes live kids₁ (Ok t) → Final G S kids nodes sizes live kids₁ t
-      final (too_wide z q) = absurd (apart z)
-      final (ended u z F) = subst (Final G S kids nodes sizes live kids₁) (sym (ap number_in z)) F
+      final (too_wide u z q) = absurd (apart z)
+      final (ended u z F) = subst (Final G S kids nodes sizes live kids₁) (sym (ap turns_in z)) F
 
       rest_of : (F : Final G S kids nodes sizes live kids₁ t)
           → Rest N F.state.tree F.state.slots F.state.array n (made + t) (length live) nodes sizes live kids kids₁

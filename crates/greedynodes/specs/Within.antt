@@ -2,10 +2,11 @@
 use Rattle.std.specs.Prelude.{◌≡◌, refl, List, [], ◌∷◌, ◌++◌, ℕ, zero, suc, ◌+◌, ◌<◌, length, get_or, drop, replicate, Result, Err, Ok}
 use Rattle.std.proofs.Common.{◌∙◌, ap, subst, arith, length-append, length-drop}
 use Rattle.std.proofs.Math.ListN.{length-replicate}
-use Rattle.spec.specs.declared.Refusal.{Refusal}
+use Rattle.spec.specs.declared.Refusal.TheVariants.{TableTooWide}
 use Rattle.spec.specs.Lists.{range}
 use Rattle.spec.specs.Network.{Network}
 use Rattle.spec.specs.Tree.{Tree, Pair, flat_of}
+use Rattle.tables.specs.declared.PairTooWide.{PairTooWide}
 use Rattle.tables.specs.declared.Row.{Row}
 use Rattle.tables.specs.declared.Row.TheVariants.{Stale}
 use Rattle.tables.specs.Lists.{lists_of, coded, coded_length}
@@ -54,17 +55,17 @@ module _ (N : Network) (a : List Pair) (n made : ℕ) (weights counts cells outp
         (λ u h. ap (λ (l : List Row). get_or (coded l) u 0) er ∙ stale_coded 256 u h)
 
     -- what the merging promises, where it is refused
-    pub is_wide : (nodes' sizes' live' w₂ kids₂ : List ℕ) (r : Result ℕ Refusal) (w : Refusal) → r ≡ Err w
+    pub is_wide : (nodes' sizes' live' w₂ kids₂ : List ℕ) (r : Result ℕ PairTooWide) (w : PairTooWide) → r ≡ Err w
         → ((G : Given) (S : Ghost) → Start G S (lists_of words' nodes sizes live (coded rows)) 4 n (length leaves) made weights (flat_of S.array ++ w₁)
         → Connected G S (flat_of S.array ++ w₁) nodes' sizes' live' (flat_of S.array ++ w₂) r)
-        → Planned N a leaves kids kids₂ (Err w)
+        → Planned N a leaves kids kids₂ (Err TableTooWide)
     unfolding G S
     is_wide nodes' sizes' live' w₂ kids₂ r w e c =
         answer_refused N a 4 n made weights counts cells outputs leaves kids asks f.indices f.leaf_sets f.few words f.words
         nodes' sizes' live' (flat_of a ++ w₂) kids₂ r w e (c G S begun)
 
     -- and where it ends, with what the joining of the rest promises
-    pub is_joined : (nodes' sizes' live' w₂ : List ℕ) (t : ℕ) (r' : Result ℕ Refusal) → r' ≡ Ok t
+    pub is_joined : (nodes' sizes' live' w₂ : List ℕ) (t : ℕ) (r' : Result ℕ PairTooWide) → r' ≡ Ok t
         → ((G : Given) (S : Ghost) → Start G S (lists_of words' nodes sizes live (coded rows)) 4 n (length leaves) made weights (flat_of S.array ++ w₁)
         → Connected G S (flat_of S.array ++ w₁) nodes' sizes' live' (flat_of S.array ++ w₂) r')
         → (kids₂ : List ℕ) (r : ℕ) → r < 65536

@@ -6,7 +6,7 @@ ghost use Rattle.spec.specs.Tree.{Pair, flat_of};
 ghost use Rattle.spec.specs.declared.Refusal.TheVariants.{TableTooWide};
 ghost use Rattle.slots.specs.Weigh.{Light};
 ghost use Rattle.greedynodes.specs.Begin.{Room, Asks};
-ghost use Rattle.greedynodes.specs.Ends.{Planned};
+ghost use Rattle.greedynodes.specs.Ends.{Planned, Plans, PlansOver};
 ghost use Rattle.greedynodes.specs.Copied.{copied_to};
 
 use network::Accepted;
@@ -17,7 +17,7 @@ use tables::{Row, WIDTH};
 
 /// Greedy over some leaves of a network whose lists are lent, onto an array of `count` nodes: the children of the new nodes are put into `made`.
 /// Returns the number of the tree that is built; refused where a scored pair is too wide.
-// Stays: asks no more of its callers than lists that fit, of which two local ones are columns of the tables; `made` is lent, as its array is.
+// Stays: lists, as `greedy_nodes` is given them; an `Accepted` in their place would ask of callers that the check has passed.
 fn grow(
     words: &mut [u64],
     weights: &[u8],
@@ -36,15 +36,16 @@ fn grow(
 {
     let many = leaves.len();
     let mut nodes = [0u16; 256];
-    let mut sizes = [0u16; 256];
+    let mut sizes = [0usize; 256];
     nodes[..many].copy_from_slice(leaves);
-    start::put_sets::<WIDTH>(words, n, counts, legs, outputs, leaves);
-    start::weigh_all::<WIDTH>(&mut sizes, words, weights, many);
+    start::put_sets(words, WIDTH, n, counts, legs, outputs, leaves);
+    start::weigh_all(&mut sizes, words, WIDTH, weights, many);
     let scoring = Scoring {
+        width: WIDTH,
         weights,
         start: many,
     };
-    let mut tables: Tables<WIDTH> = Tables {
+    let mut tables = Tables {
         sets: words,
         nodes,
         sizes,
@@ -57,12 +58,12 @@ fn grow(
 }
 
 /// Copies the first `n` numbers of a list to the places of `kids` from `at` on.
-// Stays: the numbers are copied one by one: both lists are read totally, and the place is a sum, so no slice method has this promise.
+// Stays: the numbers are copied one by one: one list is read and the other written totally, and the place is a sum, so no slice method has this promise.
 pub fn copy_out(kids: &mut [u16], at: usize, list: &[u16], n: usize)
     requires { (at < 1048576) × (n < 1048576) }
     ensures { kids.new ≡ copied_to kids.old at list.now n }
 {
-    // Stays: the definition is total at both lists: what lies past an end is skipped, so the two are no slices to copy.
+    // Stays: the definition is total: past the end of `list` a 0 is put, and past the end of `kids` nothing, so the two are no slices to copy.
     for i in 0..n {
         cells::put(kids, at + i, cells::get_or(list, i, 0));
     }
@@ -71,7 +72,7 @@ pub fn copy_out(kids: &mut [u16], at: usize, list: &[u16], n: usize)
 /// Greedy over some leaves of a network of `n` leaves whose lists are lent, onto the array of `count` nodes whose children stand at the front of
 /// `kids`: the new nodes' children are put after them. Returns the number of the tree that is built. Refused, with `kids` as it was, where a
 /// scored pair is too wide.
-// Stays: asks no more of its callers than lists that fit.
+// Stays: lists, of which it asks that they fit; an `Accepted` in their place would ask of callers that the check has passed.
 pub fn greedy_nodes(
     words: &mut [u64],
     weights: &[u8],
@@ -85,7 +86,7 @@ pub fn greedy_nodes(
 ) -> Result<u16, Refusal>
     requires room { Room n count weights.now outputs.now leaves.now words.old }
     requires light { Light weights.now }
-    ensures planned { (N : Net) (a : List Pair) → Asks N a n count weights.now counts.now legs.now outputs.now leaves.now kids.old → Planned N a leaves.now kids.old kids.new result }
+    ensures planned { Plans n count weights.now counts.now legs.now outputs.now leaves.now kids.old kids.new result }
     ensures untouched { OnErr result (kids.new ≡ kids.old) }
     ensures why { IfErr result (λ r. r ≡ TableTooWide) }
 {
@@ -107,7 +108,7 @@ pub fn plan_leaves(
     count: usize,
 ) -> Result<u16, Refusal>
     requires { (1036 ≤ length words.old) × (length leaves.now ≤ 128) × (count < 8192) }
-    ensures planned { (N : Net) (a : List Pair) → Asks N a (length network.now.leg_counts.now) count network.now.weights.now network.now.leg_counts.now network.now.legs.now network.now.outputs.now leaves.now kids.old → Planned N a leaves.now kids.old kids.new result }
+    ensures planned { PlansOver network.now count leaves.now kids.old kids.new result }
     ensures untouched { OnErr result (kids.new ≡ kids.old) }
     ensures why { IfErr result (λ r. r ≡ TableTooWide) }
 {

@@ -9,8 +9,9 @@ ghost use Rattle.live.specs.Common.{shares};
 ghost use Rattle.live.specs.Holders.{count_word, with_holders};
 ghost use Rattle.live.specs.Merged.{merged_set, pair_bits, word_at};
 
-// Stays: `W ≤ 16`, `s < 1048576`, `x < 1048576`, `y < 1048576`, `k < 1048576`: bounds of numbers, so that a place fits a machine word; a type of its own would be unwrapped at each use.
+// Stays: `w ≤ 16`, `s < 1048576`, `x < 1048576`, `y < 1048576`, `k < 1048576`: bounds of numbers, so that a place fits a machine word; a type of its own would be unwrapped at each use.
 // Stays: `x: usize, y: usize`: two slots of one list, read side by side.
+// Stays: `sets: &[u64], w: usize`, `w: usize, s: usize`: a set is named by its list, the width of a set and its slot; two or three of one list are read in one call, so none can hold the list.
 // Stays: `Light weights.now`: the weights are lent without the tables here; beside the tables `Scoring` has the fact.
 // Stays: `IsSameLoan tables.old tables.new`: the words are lent in the tables, and only a clause can say that the same come back.
 use tables::slotted::Tables;
@@ -18,23 +19,23 @@ use tables::{OUTSIDE, THRICE, TWICE};
 
 /// Word `k` of slot `s`. The read is total, as the definition's: past the end a slot is empty.
 #[inline]
-fn word<const W: usize>(sets: &[u64], s: usize, k: usize) -> u64
-    requires { (W ≤ 16) × (s < 1048576) × (k < 1048576) }
-    ensures { result ≡ get_or sets.now (s * W + k) 0 }
+fn word(sets: &[u64], w: usize, s: usize, k: usize) -> u64
+    requires { (w ≤ 16) × (s < 1048576) × (k < 1048576) }
+    ensures { result ≡ get_or sets.now (s * w + k) 0 }
 {
     // Stays: a slot is a place in the stated words, whose layout the workspace fixes; the read is total there.
-    cells::get_or(sets, s * W + k, 0)
+    cells::get_or(sets, s * w + k, 0)
 }
 
 /// Have slots `x` and `y` an index in common.
 // Stays: two slots are read side by side, by the number of a word; a closure of `any` over these numbers would have the same two reads.
-pub fn share<const W: usize>(sets: &[u64], x: usize, y: usize) -> bool
-    requires { (W ≤ 16) × (x < 1048576) × (y < 1048576) }
-    ensures { result ≡ shares sets.now W x y }
+pub fn share(sets: &[u64], w: usize, x: usize, y: usize) -> bool
+    requires { (w ≤ 16) × (x < 1048576) × (y < 1048576) }
+    ensures { result ≡ shares sets.now w x y }
 {
-    for k in 0..W {
-        let a = word::<W>(sets, x, k);
-        let b = word::<W>(sets, y, k);
+    for k in 0..w {
+        let a = word(sets, w, x, k);
+        let b = word(sets, w, y, k);
         if a & b != 0 {
             return true;
         }
@@ -52,16 +53,16 @@ struct Holders {
 
 /// Of word `k` the indices that two or more of the live tables hold, and those that three or more hold.
 // Stays: `k` is the number of a word, and not how long the list is.
-fn count_holders<const W: usize>(sets: &[u64], live: &[u8], k: usize) -> Holders
-    requires { (W ≤ 16) × (k < 1048576) }
-    ensures two { result.two ≡ count_word sets.now W live.now k 2 (length live.now) }
-    ensures three { result.three ≡ count_word sets.now W live.now k 3 (length live.now) }
+fn count_holders(sets: &[u64], w: usize, live: &[u8], k: usize) -> Holders
+    requires { (w ≤ 16) × (k < 1048576) }
+    ensures two { result.two ≡ count_word sets.now w live.now k 2 (length live.now) }
+    ensures three { result.three ≡ count_word sets.now w live.now k 3 (length live.now) }
 {
     let mut one: u64 = 0;
     let mut two: u64 = 0;
     let mut three: u64 = 0;
     for &slot in live {
-        let x = word::<W>(sets, usize::from(slot), k);
+        let x = word(sets, w, usize::from(slot), k);
         three |= two & x;
         two |= one & x;
         one |= x;
@@ -71,51 +72,51 @@ fn count_holders<const W: usize>(sets: &[u64], live: &[u8], k: usize) -> Holders
 
 /// Makes word `k` of slot 257 `two`, and that of slot 258 `three`.
 // Stays: `k` is the number of a word, and not how long the list is; two slots lie at fixed places of the stated workspace.
-fn put_words<const W: usize>(sets: &mut [u64], k: usize, two: u64, three: u64)
-    requires { (W ≤ 16) × (k < 1048576) }
-    ensures { sets.new ≡ set (set sets.old (257 * W + k) two) (258 * W + k) three }
+fn put_words(sets: &mut [u64], w: usize, k: usize, two: u64, three: u64)
+    requires { (w ≤ 16) × (k < 1048576) }
+    ensures { sets.new ≡ set (set sets.old (257 * w + k) two) (258 * w + k) three }
 {
     // Stays: two slots of the lent words, at fixed places of the stated workspace.
-    cells::put(sets, TWICE * W + k, two);
+    cells::put(sets, TWICE * w + k, two);
     // Stays: two slots of the lent words, at fixed places of the stated workspace.
-    cells::put(sets, THRICE * W + k, three);
+    cells::put(sets, THRICE * w + k, three);
 }
 
 /// Makes slot 257 what two or more of the live tables hold, and slot 258 what three or more hold, each with slot 256.
 // Stays: the loop lends the same words to each turn; `for_each` with a closure over them is no plainer.
-pub fn put_holders<const W: usize>(sets: &mut [u64], live: &[u8])
-    requires { W ≤ 16 }
-    ensures { sets.new ≡ with_holders sets.old W live.now (length live.now) }
+pub fn put_holders(sets: &mut [u64], w: usize, live: &[u8])
+    requires { w ≤ 16 }
+    ensures { sets.new ≡ with_holders sets.old w live.now (length live.now) }
 {
     // Stays: the list that is read is also written, so no iterator can hold it.
-    for k in 0..W {
-        let held = count_holders::<W>(sets, live, k);
-        let staying = word::<W>(sets, OUTSIDE, k);
-        put_words::<W>(sets, k, held.two | staying, held.three | staying);
+    for k in 0..w {
+        let held = count_holders(sets, w, live, k);
+        let staying = word(sets, w, OUTSIDE, k);
+        put_words(sets, w, k, held.two | staying, held.three | staying);
     }
 }
 
 /// Word `k` of the table that a merge of slots `x` and `y` makes.
-fn merged_word<const W: usize>(sets: &[u64], x: usize, y: usize, k: usize) -> u64
-    requires { (W ≤ 16) × (x < 1048576) × (y < 1048576) × (k < 1048576) }
-    ensures { result ≡ word_at sets.now W x y k }
+fn merged_word(sets: &[u64], w: usize, x: usize, y: usize, k: usize) -> u64
+    requires { (w ≤ 16) × (x < 1048576) × (y < 1048576) × (k < 1048576) }
+    ensures { result ≡ word_at sets.now w x y k }
 {
-    let a = word::<W>(sets, x, k);
-    let b = word::<W>(sets, y, k);
-    let two = word::<W>(sets, TWICE, k);
-    let three = word::<W>(sets, THRICE, k);
+    let a = word(sets, w, x, k);
+    let b = word(sets, w, y, k);
+    let two = word(sets, w, TWICE, k);
+    let three = word(sets, w, THRICE, k);
     a & b & three | (a ^ b) & two
 }
 
 /// Its size bits.
-pub fn merged_size<const W: usize>(sets: &[u64], x: usize, y: usize, weights: &[u8]) -> usize
-    requires { (W ≤ 16) × (x < 1048576) × (y < 1048576) × Light weights.now }
-    ensures { result ≡ pair_bits sets.now W weights.now x y }
+pub fn merged_size(sets: &[u64], w: usize, x: usize, y: usize, weights: &[u8]) -> usize
+    requires { (w ≤ 16) × (x < 1048576) × (y < 1048576) × Light weights.now }
+    ensures { result ≡ pair_bits sets.now w weights.now x y }
 {
     let mut sum: usize = 0;
     // Stays: four slots of one list are read side by side, by total reads; a slot past the end is no slice.
-    for k in 0..W {
-        let v = merged_word::<W>(sets, x, y, k);
+    for k in 0..w {
+        let v = merged_word(sets, w, x, y, k);
         sum += slots::weigh_word(v, k * 64, weights, &weights[..0]);
     }
     sum
@@ -123,22 +124,23 @@ pub fn merged_size<const W: usize>(sets: &[u64], x: usize, y: usize, weights: &[
 
 /// Makes slot `z` the table that a merge of slots `x` and `y` makes.
 // Stays: the loop lends the same words to each turn; `for_each` with a closure over them is no plainer.
-pub fn put_merged<const W: usize>(sets: &mut [u64], x: usize, y: usize, z: usize)
-    requires { (W ≤ 16) × (x < 1048576) × (y < 1048576) × (z < 1048576) }
-    ensures { sets.new ≡ with_set sets.old W z (merged_set sets.old W x y) }
+pub fn put_merged(sets: &mut [u64], w: usize, x: usize, y: usize, z: usize)
+    requires { (w ≤ 16) × (x < 1048576) × (y < 1048576) × (z < 1048576) }
+    ensures { sets.new ≡ with_set sets.old w z (merged_set sets.old w x y) }
 {
     // Stays: the list that is read is also written, so no iterator can hold it.
-    for k in 0..W {
-        let v = merged_word::<W>(sets, x, y, k);
+    for k in 0..w {
+        let v = merged_word(sets, w, x, y, k);
         // Stays: the written slot lies in the list that is read; a split of it would need an order of the three slots.
-        cells::put(sets, z * W + k, v);
+        cells::put(sets, z * w + k, v);
     }
 }
 
 /// Makes slots 257 and 258 of some tables what two or more and three or more of the live ones hold.
-pub fn mark_holders<const W: usize>(tables: &mut Tables<W>)
+pub fn mark_holders(tables: &mut Tables, w: usize)
+    requires { w ≤ 16 }
     ensures same { IsSameLoan tables.old tables.new }
-    ensures lists { lists_in tables.new ≡ with_sets (lists_in tables.old) (with_holders tables.old.sets.now W tables.old.live.items (length tables.old.live.items)) }
+    ensures lists { lists_in tables.new ≡ with_sets (lists_in tables.old) (with_holders tables.old.sets.now w tables.old.live.items (length tables.old.live.items)) }
 {
-    put_holders::<W>(&mut *tables.sets, tables.live.as_slice());
+    put_holders(&mut *tables.sets, w, tables.live.as_slice());
 }

@@ -6,7 +6,6 @@ use Rattle.spec.specs.Lists.{memb}
 use Rattle.spec.specs.Memory.{over}
 use Rattle.spec.specs.Network.{Network, leaf_count}
 use Rattle.spec.specs.Tree.{number, flat_of}
-use Rattle.spec.specs.declared.Refusal.{Refusal}
 use Rattle.spec.specs.declared.Refusal.TheVariants.{TableTooWide}
 use Rattle.spec.specs.Greedy.{size_of, merged_size, connect}
 use Rattle.laws.specs.GreedyMerging.{Sound}
@@ -20,6 +19,7 @@ use Rattle.rows.specs.Known.{code_slot}
 use Rattle.merging.specs.Listed.{remaining}
 use Rattle.merging.specs.Removed.{put_node}
 use Rattle.merging.specs.Merge.{first_at, second_at, marked, with_node}
+use Rattle.tables.specs.declared.PairTooWide.{PairTooWide}
 use Rattle.tables.specs.Lists.{Lists}
 use Rattle.merging.specs.Holds.{Given, Ghost, state_of, Holds}
 use Rattle.merging.specs.Turn.{words₁, rows₁, small, used, entries_found, Chosen, Scanned, ends, refuses, chooses, scanned}
@@ -64,8 +64,8 @@ module _ (G : Given) (S : Ghost) where
     pub same : connect N G.start G.start (state_of S) ≡ Ok (state_of state)
 
   -- what the merging answers: how many turns there were, or its refusal
-  pub data Connected (kids₀ : List ℕ) (nodes sizes live kids : List ℕ) (r : Result ℕ Refusal) : Type 0 where
-    too_wide : r ≡ Err TableTooWide → connect N G.start G.start (state_of S) ≡ Err TableTooWide → Connected kids₀ nodes sizes live kids r
+  pub data Connected (kids₀ : List ℕ) (nodes sizes live kids : List ℕ) (r : Result ℕ PairTooWide) : Type 0 where
+    too_wide : (e : PairTooWide) → r ≡ Err e → connect N G.start G.start (state_of S) ≡ Err TableTooWide → Connected kids₀ nodes sizes live kids r
     ended : (t : ℕ) → r ≡ Ok t → Final kids₀ nodes sizes live kids t → Connected kids₀ nodes sizes live kids r
 
   final : (kids₀ : List ℕ) (t : ℕ) (M : Lists) (kids : List ℕ) (R : Reached kids₀ t M kids)
@@ -162,12 +162,12 @@ module _ (G : Given) (S : Ghost) where
             go (chooses z q) = absurd (omega arith)
 
         -- a pair is too wide
-        pub turn_refused : (nodes sizes live kids' : List ℕ) → y ≡ 257 → Connected kids₀ nodes sizes live kids' (Err TableTooWide)
-        turn_refused nodes sizes live kids' e = go found
+        pub turn_refused : (nodes sizes live kids' : List ℕ) (w : PairTooWide) → y ≡ 257 → Connected kids₀ nodes sizes live kids' (Err w)
+        turn_refused nodes sizes live kids' w e = go found
           where
-            go : Scanned G T M H (G.start - suc t) y → Connected kids₀ nodes sizes live kids' (Err TableTooWide)
+            go : Scanned G T M H (G.start - suc t) y → Connected kids₀ nodes sizes live kids' (Err w)
             go (ends z q) = absurd (omega arith)
-            go (refuses z q) = too_wide refl (more ∙ q)
+            go (refuses z q) = too_wide w refl (more ∙ q)
             go (chooses z q) = absurd (omega arith)
 
         chosen : (y ≡ 256 → ⊥) → (y ≡ 257 → ⊥) → Chosen G T M H y

@@ -4,6 +4,7 @@ pub mod Ruled
 pub mod Holds
 pub mod Turn
 pub mod After
+pub mod Agree
 pub mod Removed
 pub mod Merge
 pub mod Connect

@@ -1,9 +1,8 @@
 -- A turn of greedy's merging, from the lists that the scan and the merge leave. Assumes nothing.
 use Rattle.std.specs.Prelude.{◌≡◌, refl, List, [], ◌∷◌, ◌++◌, ℕ, ◌+◌, ◌*◌, ◌/◌, ◌%◌, ◌<◌, length, get_or, set, Option, None, Some, Result, Err, Ok}
 use Rattle.std.proofs.Common.{sym, ◌∙◌, ap, ap₂, subst, zero-add, suc-add, arith}
-use Rattle.spec.specs.declared.Refusal.{Refusal}
-use Rattle.spec.specs.declared.Refusal.TheVariants.{TableTooWide}
 use Rattle.spec.specs.Tree.{flat_of}
+use Rattle.tables.specs.declared.PairTooWide.{PairTooWide}
 use Rattle.tables.specs.declared.partner.Choice.{Choice}
 use Rattle.tables.specs.Lists.{Lists, pair_slot, pair_size}
 use Rattle.slots.specs.Slots.{with_set}
@@ -36,7 +35,7 @@ node_behind pre l c t u v e =
 
 module _ (G : Given) (S : Ghost) (W n n0 count : ℕ) (weights kids₀ : List ℕ) (M₀ : Lists) (start : Start G S M₀ W n n0 count weights kids₀)
     (t : ℕ) (M : Lists) (kids : List ℕ) (R : Reached G S kids₀ t M kids) (less : t < n0)
-    (K : Lists) (r : Result (Option Choice) Refusal) (ek : K ≡ scanned_in W weights n0 M) (er : chosen_code r ≡ least_found K.sizes n0 K.rows K.live (length K.live))
+    (K : Lists) (r : Result (Option Choice) PairTooWide) (ek : K ≡ scanned_in W weights n0 M) (er : chosen_code r ≡ least_found K.sizes n0 K.rows K.live (length K.live))
   where
     abbrev L : Lists
     L = scanned_in W weights n0 M
@@ -47,9 +46,9 @@ module _ (G : Given) (S : Ghost) (W n n0 count : ℕ) (weights kids₀ : List �
         ∙ least_known G S W n n0 count weights kids₀ M₀ start t M kids R L.words L.rows refl refl
 
     -- a pair is too wide
-    pub scan_refused : (nodes sizes live kids' : List ℕ) (e : Refusal) → r ≡ Err e → Connected G S kids₀ nodes sizes live kids' (Err TableTooWide)
+    pub scan_refused : (nodes sizes live kids' : List ℕ) (e : PairTooWide) → r ≡ Err e → Connected G S kids₀ nodes sizes live kids' (Err e)
     scan_refused nodes sizes live kids' e z =
-        turn_refused G S W n n0 count weights kids₀ M₀ start t M kids R less (chosen_code r) L.words L.rows refl refl least_is nodes sizes live kids' (ap chosen_code z)
+        turn_refused G S W n n0 count weights kids₀ M₀ start t M kids R less (chosen_code r) L.words L.rows refl refl least_is nodes sizes live kids' e (ap chosen_code z)
 
     -- no pair is left
     pub scan_ends : r ≡ Ok None → Connected G S kids₀ K.nodes K.sizes K.live kids (Ok t)

@@ -1,8 +1,7 @@
 #![tactic(auto)]
 //! Greedy's merging, turn after turn: the two tables of the least pair make one.
 //! A table keeps its slot, and each new table takes the next one.
-ghost use Rattle.std.specs.Prelude.{[], ◌∷◌, ◌++◌, ◌≡◌, ◌+◌, ◌<◌, ◌≤◌, length, get_or, IfOk, IfErr};
-ghost use Rattle.spec.specs.declared.Refusal.TheVariants.{TableTooWide};
+ghost use Rattle.std.specs.Prelude.{[], ◌∷◌, ◌++◌, ◌≡◌, ◌+◌, ◌<◌, ◌≤◌, length, get_or, IfOk};
 ghost use Rattle.tables.specs.Lists.{coded, lists_in, IsSameLoan};
 ghost use Rattle.rows.specs.Rows.{least_found};
 ghost use Rattle.rows.specs.Within.{chosen_code, NamedIn};
@@ -12,21 +11,20 @@ ghost use Rattle.merging.specs.Connect.{Start, Connected};
 ghost use Rattle.merging.specs.Scans.{kids_behind};
 ghost use Rattle.merging.specs.Merge.{first_chosen, second_chosen, with_node, scanned_in, merged_in};
 
-// Stays: `IfErr result (λ r. r ≡ TableTooWide)`: which refusal it is; an error type of its own would be made a `Refusal` by each caller.
+// Stays: `tables: &mut Tables, scoring: &Scoring`: the tables are written, and what the scores are made of beside them stays; a value that held both would lend both to be written.
 // Stays: `IsSameLoan tables.old tables.new`: the words are lent in the tables, and only a clause can say that the same come back.
 // Stays: `x: usize, y: usize`: two slots that are taken out of one list.
 use arrayvec::ArrayVec;
-use spec::Refusal;
-use tables::Row;
 use tables::partner::Choice;
 use tables::scoring::Scoring;
 use tables::slotted::Tables;
+use tables::{PairTooWide, Row};
 
 /// The most tables at the start: the nodes that they make take the slots behind theirs, of 256 in all.
 const MAX_TABLES: usize = 128;
 
 /// Takes the slots `x` and `y` out of a list.
-pub fn remove(live: &mut ArrayVec<u8, 256>, x: usize, y: usize)
+pub fn remove<const CAP: usize>(live: &mut ArrayVec<u8, CAP>, x: usize, y: usize)
     ensures items { live.new.items ≡ remaining x y live.old.items }
     ensures few { length live.new.items ≤ length live.old.items }
 {
@@ -55,30 +53,24 @@ struct Children {
 
 /// Merges the tables of a choice into slot `z`, whose number is `node`.
 // Stays: the tables' lists go by slot, and each is lent by itself elsewhere.
-fn merge<const W: usize>(
-    tables: &mut Tables<W>,
-    start: usize,
-    choice: Choice,
-    z: u8,
-    node: u16,
-) -> Children
+fn merge(tables: &mut Tables, scoring: &Scoring, choice: Choice, z: u8, node: u16) -> Children
     requires { length tables.old.live.items < 256 }
     ensures same { IsSameLoan tables.old tables.new }
-    ensures lists { lists_in tables.new ≡ merged_in W start choice z node (lists_in tables.old) }
+    ensures lists { lists_in tables.new ≡ merged_in scoring.now.width scoring.now.start choice z node (lists_in tables.old) }
     ensures few { length tables.new.live.items ≤ length tables.old.live.items + 1 }
-    ensures left { result.left ≡ get_or tables.old.nodes (first_chosen start choice) 0 }
-    ensures right { result.right ≡ get_or tables.old.nodes (second_chosen start choice) 0 }
+    ensures left { result.left ≡ get_or tables.old.nodes (first_chosen scoring.now.start choice) 0 }
+    ensures right { result.right ≡ get_or tables.old.nodes (second_chosen scoring.now.start choice) 0 }
 {
     let other = usize::from(choice.pair.other);
     let table = usize::from(choice.table);
-    let first = scores::first(start, other, table);
-    let second = scores::second(start, other, table);
+    let first = scores::first(scoring.start, other, table);
+    let second = scores::second(scoring.start, other, table);
     let left = tables.nodes[first];
     let right = tables.nodes[second];
     let slot = usize::from(z);
-    live::put_merged::<W>(&mut *tables.sets, first, second, slot);
+    live::put_merged(&mut *tables.sets, scoring.width, first, second, slot);
     tables.nodes[slot] = node;
-    tables.sizes[slot] = u16::from(choice.pair.bits);
+    tables.sizes[slot] = usize::from(choice.pair.bits);
     tables.rows[first] = Row::Gone;
     tables.rows[second] = Row::Gone;
     tables.rows[slot] = Row::Stale;
@@ -88,17 +80,13 @@ fn merge<const W: usize>(
 }
 
 /// Scans the live tables for the least pair of all, none where no two share an index; refused where a pair is too wide.
-fn scan<const W: usize>(
-    tables: &mut Tables<W>,
-    scoring: &Scoring,
-) -> Result<Option<Choice>, Refusal>
+fn scan(tables: &mut Tables, scoring: &Scoring) -> Result<Option<Choice>, PairTooWide>
     ensures same { IsSameLoan tables.old tables.new }
-    ensures lists { lists_in tables.new ≡ scanned_in W scoring.now.weights.now scoring.now.start (lists_in tables.old) }
+    ensures lists { lists_in tables.new ≡ scanned_in scoring.now.width scoring.now.weights.now scoring.now.start (lists_in tables.old) }
     ensures least { chosen_code result ≡ least_found tables.new.sizes scoring.now.start (coded tables.new.rows) tables.new.live.items (length tables.new.live.items) }
     ensures named { NamedIn (coded tables.new.rows) result }
-    ensures why { IfErr result (λ r. r ≡ TableTooWide) }
 {
-    live::mark_holders(tables);
+    live::mark_holders(tables, scoring.width);
     rows::renew_all(tables, scoring);
     rows::least(&*tables, scoring.start)
 }
@@ -106,18 +94,17 @@ fn scan<const W: usize>(
 /// Merges the least pair of the live tables and its like until none share an index, and returns how many merges there were; refused where a
 /// pair is too wide. The array so far has `count` nodes over `n` leaves. Each merge makes one more, whose children are put into `kids`.
 // Stays: the turns write the tables and may be refused, which a closure of `position` would hold and hide.
-pub fn connect<const W: usize>(
-    tables: &mut Tables<W>,
+pub fn connect(
+    tables: &mut Tables,
     scoring: &Scoring,
     n: usize,
     count: usize,
     kids: &mut [u16],
-) -> Result<usize, Refusal>
+) -> Result<usize, PairTooWide>
     requires { (n < 16384) × (count < 16384) × (scoring.now.start ≤ 256) }
     ensures same { IsSameLoan tables.old tables.new }
     ensures bound { IfOk result (λ t. t ≤ scoring.now.start) }
-    ensures why { IfErr result (λ r. r ≡ TableTooWide) }
-    ensures connected { (G : Given) (S : Ghost) → Start G S (lists_in tables.old) W n scoring.now.start count scoring.now.weights.now (kids_behind S kids.old) → Connected G S (kids_behind S kids.old) tables.new.nodes tables.new.sizes tables.new.live.items (kids_behind S kids.new) result }
+    ensures connected { (G : Given) (S : Ghost) → Start G S (lists_in tables.old) scoring.now.width n scoring.now.start count scoring.now.weights.now (kids_behind S kids.old) → Connected G S (kids_behind S kids.old) tables.new.nodes tables.new.sizes tables.new.live.items (kids_behind S kids.new) result }
 {
     // More tables than greedy ever starts with: `Start` cannot hold, since the slots of their nodes would run past the last one, so nothing is merged.
     if MAX_TABLES < scoring.start {
@@ -135,7 +122,7 @@ pub fn connect<const W: usize>(
         let slot = (scoring.start + t) as u8;
         // Stays: the number fits by what is known here; `try_from` would add a failure that never comes.
         let node = (n + (count + t)) as u16;
-        let children = merge(tables, scoring.start, choice, slot, node);
+        let children = merge(tables, scoring, choice, slot, node);
         put_node(kids, t, children.left, children.right);
     }
     Ok(scoring.start)

@@ -5,8 +5,8 @@ use Rattle.std.proofs.Common.{sym, ◌∙◌, arith, ne_eqb}
 use Rattle.std.proofs.Math.ListN.{get_or-eq_default}
 use Rattle.spec.specs.Greedy.{Key, key_before}
 use Rattle.scores.specs.Scores.{key_at}
-use Rattle.spec.specs.declared.Refusal.{Refusal}
 use Rattle.cells.specs.Loop.{turns, turns_more}
+use Rattle.tables.specs.declared.PairTooWide.{PairTooWide}
 use Rattle.tables.specs.declared.partner.Choice.{Choice}
 use Rattle.tables.specs.declared.partner.Partner.{Partner}
 use Rattle.tables.specs.declared.Row.{Row}
@@ -20,7 +20,7 @@ abbrev pub choice_code : Option Choice → ℕ
 choice_code None = 256
 choice_code (Some b) = b.table
 
-abbrev pub chosen_code : Result (Option Choice) Refusal → ℕ
+abbrev pub chosen_code : Result (Option Choice) PairTooWide → ℕ
 chosen_code (Err r) = 257
 chosen_code (Ok b) = choice_code b
 
@@ -29,7 +29,7 @@ abbrev pub Named : List ℕ → Option Choice → Type 0
 Named rows None = Unit
 Named rows (Some b) = get_or rows b.table 0 ≡ b.pair.bits * 512 + b.pair.other
 
-abbrev pub NamedIn : List ℕ → Result (Option Choice) Refusal → Type 0
+abbrev pub NamedIn : List ℕ → Result (Option Choice) PairTooWide → Type 0
 NamedIn rows (Err r) = Unit
 NamedIn rows (Ok b) = Named rows b
 

@@ -1,19 +1,17 @@
 #![tactic(auto)]
 //! The least pair of each live table with those before it, kept from turn to turn by slot, and the least of all.
-ghost use Rattle.std.specs.Prelude.{false, ◌≡◌, ◌<◌, ℕ, eqb, get_or, length, IfErr};
-ghost use Rattle.spec.specs.declared.Refusal.TheVariants.{TableTooWide};
-ghost use Rattle.tables.specs.Lists.{code, least_code, coded, lists_in, IsSameLoan};
+ghost use Rattle.std.specs.Prelude.{false, ◌≡◌, ◌<◌, ℕ, eqb, get_or, length};
+ghost use Rattle.tables.specs.Lists.{code, coded, lists_in, IsSameLoan};
 ghost use Rattle.scores.specs.Scores.{row_of};
 ghost use Rattle.rows.specs.Rows.{stands, unfound, bettered_found, least_found, least_of};
 ghost use Rattle.rows.specs.Within.{choice_code, chosen_code, Named, NamedIn, sooner_of, renewed_in, all_renewed};
 
-// Stays: `IfErr result (λ r. r ≡ TableTooWide)`: which refusal it is; an error type of its own would be made a `Refusal` by each caller.
+// Stays: `tables: &mut Tables, scoring: &Scoring`: the tables are written, and what the scores are made of beside them stays; a value that held both would lend both to be written.
 // Stays: `IsSameLoan tables.old tables.new`: the words are lent in the tables, and only a clause can say that the same come back.
-use spec::Refusal;
-use tables::Row;
-use tables::partner::{Choice, Partner};
+use tables::partner::Choice;
 use tables::scoring::Scoring;
 use tables::slotted::Tables;
+use tables::{PairTooWide, Row};
 
 /// Is the table of a row gone.
 fn is_gone(row: Row) -> bool
@@ -23,7 +21,7 @@ fn is_gone(row: Row) -> bool
 }
 
 /// Does a row stand: it was found, and its other table is not gone.
-fn still<const W: usize>(tables: &Tables<W>, row: Row) -> bool
+fn still(tables: &Tables, row: Row) -> bool
     ensures { result ≡ stands (coded tables.now.rows) (code row) }
 {
     match row {
@@ -35,32 +33,21 @@ fn still<const W: usize>(tables: &Tables<W>, row: Row) -> bool
     }
 }
 
-/// What was found, as a row.
-// Stays: a `From` would stand in `tables`, beside `Row`, which knows nothing of how a scan answers, for this one call.
-fn known(found: Result<Option<Partner>, Refusal>) -> Row
-    ensures { code result ≡ least_code found }
-{
-    match found {
-        Ok(pair) => Row::Found(pair),
-        Err(_) => Row::TooWide,
-    }
-}
-
 /// The row of slot `y`: its least pair with the first `k` live tables.
 // Stays: it finds a least pair by the scan of `scores`, which is given the tables' lists; the pairs themselves stand in no list.
-fn find<const W: usize>(tables: &Tables<W>, scoring: &Scoring, k: usize, y: usize) -> Row
+fn find(tables: &Tables, scoring: &Scoring, k: usize, y: usize) -> Row
     requires { y < 1048576 }
-    ensures { code result ≡ row_of tables.now.sets.now W scoring.now.weights.now tables.now.sizes scoring.now.start tables.now.live.items k y }
+    ensures { code result ≡ row_of tables.now.sets.now scoring.now.width scoring.now.weights.now tables.now.sizes scoring.now.start tables.now.live.items k y }
 {
     let live = tables.live.as_slice();
-    known(scores::row::<W>(&*tables.sets, &tables.sizes, scoring, live, k, y))
+    scores::row(&*tables.sets, &tables.sizes, scoring, live, k, y).into()
 }
 
 /// Finds the row of the `k`-th live table anew, where it does not stand.
-fn renew<const W: usize>(tables: &mut Tables<W>, scoring: &Scoring, k: usize)
+fn renew(tables: &mut Tables, scoring: &Scoring, k: usize)
     requires { k < length tables.old.live.items }
     ensures same { IsSameLoan tables.old tables.new }
-    ensures lists { lists_in tables.new ≡ renewed_in W scoring.now.weights.now scoring.now.start k (lists_in tables.old) }
+    ensures lists { lists_in tables.new ≡ renewed_in scoring.now.width scoring.now.weights.now scoring.now.start k (lists_in tables.old) }
 {
     let slot = usize::from(tables.live.as_slice()[k]);
     let row = tables.rows[slot];
@@ -72,10 +59,10 @@ fn renew<const W: usize>(tables: &mut Tables<W>, scoring: &Scoring, k: usize)
 }
 
 /// The same for all live tables.
-// Stays: the loop lends the same words to each turn; `for_each` with a closure over them is no plainer.
-pub fn renew_all<const W: usize>(tables: &mut Tables<W>, scoring: &Scoring)
+// Stays: the loop lends the same tables to each turn; `for_each` with a closure over them is no plainer.
+pub fn renew_all(tables: &mut Tables, scoring: &Scoring)
     ensures same { IsSameLoan tables.old tables.new }
-    ensures lists { lists_in tables.new ≡ all_renewed W scoring.now.weights.now scoring.now.start (lists_in tables.old) (length tables.old.live.items) }
+    ensures lists { lists_in tables.new ≡ all_renewed scoring.now.width scoring.now.weights.now scoring.now.start (lists_in tables.old) (length tables.old.live.items) }
 {
     // Stays: the turn writes the rows of the tables whose live list would be borrowed.
     for k in 0..tables.live.len() {
@@ -84,9 +71,8 @@ pub fn renew_all<const W: usize>(tables: &mut Tables<W>, scoring: &Scoring)
 }
 
 /// Of the least pair so far and one more, the one that comes first.
-// Stays: the order is that of scores, which are made from the sizes, so the values themselves have none. In `scores` the table of both pairs is known;
-// here each choice brings its own, and one function for both would take the two scores beside the two values.
-fn sooner(sizes: &[u16], start: usize, best: Option<Choice>, next: Choice) -> Choice
+// Stays: pairs compare by scores, made from the sizes; `scores::lesser` knows one table for both pairs, and here each choice brings its own.
+fn sooner(sizes: &[usize], start: usize, best: Option<Choice>, next: Choice) -> Choice
     ensures { result ≡ sooner_of sizes.now start best next }
 {
     let Some(known) = best else {
@@ -102,19 +88,18 @@ fn sooner(sizes: &[u16], start: usize, best: Option<Choice>, next: Choice) -> Ch
 
 /// The least pair so far, when that of `y` is looked at too; refused where it is too wide.
 // Stays: a step of the walk over the live tables: it reads the row of a slot, and may refuse, which an order of two values does not.
-fn better<const W: usize>(
-    tables: &Tables<W>,
+fn better(
+    tables: &Tables,
     start: usize,
     best: Option<Choice>,
     y: u8,
-) -> Result<Option<Choice>, Refusal>
+) -> Result<Option<Choice>, PairTooWide>
     ensures least { Named (coded tables.now.rows) best → chosen_code result ≡ bettered_found tables.now.sizes start (coded tables.now.rows) (choice_code best) y }
     ensures named { Named (coded tables.now.rows) best → NamedIn (coded tables.now.rows) result }
-    ensures why { IfErr result (λ r. r ≡ TableTooWide) }
 {
     let row = tables.rows[usize::from(y)];
     match row {
-        Row::TooWide => Err(Refusal::TableTooWide),
+        Row::TooWide => Err(PairTooWide),
         Row::Found(Some(pair)) => {
             let next = Choice { table: y, pair };
             Ok(Some(sooner(&tables.sizes, start, best, next)))
@@ -126,12 +111,11 @@ fn better<const W: usize>(
 }
 
 /// The least pair of all live tables, the first `start` slots the start's, none where no two share an index; refused where a pair is too wide.
-pub fn least<const W: usize>(tables: &Tables<W>, start: usize) -> Result<Option<Choice>, Refusal>
+pub fn least(tables: &Tables, start: usize) -> Result<Option<Choice>, PairTooWide>
     ensures least { chosen_code result ≡ least_found tables.now.sizes start (coded tables.now.rows) tables.now.live.items (length tables.now.live.items) }
     ensures of_all { ((k : ℕ) → k < length tables.now.live.items → unfound (get_or (coded tables.now.rows) (get_or tables.now.live.items k 0) 0) ≡ false)
         → chosen_code result ≡ least_of tables.now.sizes start (coded tables.now.rows) tables.now.live.items (length tables.now.live.items) }
     ensures named { NamedIn (coded tables.now.rows) result }
-    ensures why { IfErr result (λ r. r ≡ TableTooWide) }
 {
     let mut best = None;
     for &y in tables.live.as_slice() {

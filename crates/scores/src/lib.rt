@@ -1,18 +1,15 @@
 #![tactic(auto)]
 //! Scores of pairs of live tables, and the least pair of a table with those before it.
-ghost use Rattle.std.specs.Prelude.{◌≡◌, ◌+◌, ◌^◌, ◌<◌, ◌≤◌, get_or, Some, IfErr};
-ghost use Rattle.spec.specs.declared.Refusal.TheVariants.{TableTooWide};
+ghost use Rattle.std.specs.Prelude.{◌≡◌, ◌+◌, ◌^◌, ◌<◌, ◌≤◌, get_or, Some};
 ghost use Rattle.tables.specs.Lists.{pair_code, least_code};
 ghost use Rattle.tables.specs.Scores.{Scores};
 ghost use Rattle.scores.specs.Scores.{power, first_of, second_of, key_at, over_forty, lesser_of, considered, row_of};
 
-// Stays: `W ≤ 16`, `y < 1048576`: bounds of numbers, so that a place fits a machine word; a type of its own would be unwrapped at each use.
+// Stays: `y < 1048576`: a bound of a number, so that a place fits a machine word; a type of its own would be unwrapped at each use.
 // Stays: `x: usize, y: usize`: two slots of one list, the lower first.
-// Stays: `IfErr result (λ r. r ≡ TableTooWide)`: which refusal it is; an error type of its own would be made a `Refusal` by each caller.
-use spec::Refusal;
-use tables::Score;
 use tables::partner::Partner;
 use tables::scoring::Scoring;
+use tables::{PairTooWide, Score};
 
 /// 2 to the power `bits`, and 0 above 40.
 // Stays: it is 0 above 40, where a pair is refused; the power of costs goes to 52, and asks its callers for no more.
@@ -23,12 +20,10 @@ fn exp2(bits: usize) -> u64
 }
 
 /// What a merge of slots `x` and `y` takes.
-fn takes(sizes: &[u16], x: usize, y: usize) -> u64
+fn takes(sizes: &[usize], x: usize, y: usize) -> u64
     ensures { (result ≡ power (get_or sizes.now x 0) + power (get_or sizes.now y 0)) × (result ≤ 2 ^ 41) }
 {
-    let left = usize::from(cells::get_or(sizes, x, 0));
-    let right = usize::from(cells::get_or(sizes, y, 0));
-    exp2(left) + exp2(right)
+    exp2(cells::get_or(sizes, x, 0)) + exp2(cells::get_or(sizes, y, 0))
 }
 
 /// Of two slots, the lower first, the one that goes first in their pair: `start` slots are the start's.
@@ -48,7 +43,7 @@ pub fn second(start: usize, x: usize, y: usize) -> usize
 }
 
 /// The place in greedy's order of the pair of `y` with another table.
-pub fn score(sizes: &[u16], start: usize, y: usize, pair: Partner) -> Score
+pub fn score(sizes: &[usize], start: usize, y: usize, pair: Partner) -> Score
     ensures { Scores (key_at sizes.now start pair.other y pair.bits) result }
 {
     let x = usize::from(pair.other);
@@ -60,7 +55,7 @@ pub fn score(sizes: &[u16], start: usize, y: usize, pair: Partner) -> Score
 }
 
 /// Has one of two slots more than 40 bits.
-fn too_wide(sizes: &[u16], x: usize, y: usize) -> bool
+fn too_wide(sizes: &[usize], x: usize, y: usize) -> bool
     ensures { result ≡ over_forty sizes.now x y }
 {
     40 < cells::get_or(sizes, x, 0) || 40 < cells::get_or(sizes, y, 0)
@@ -69,7 +64,7 @@ fn too_wide(sizes: &[u16], x: usize, y: usize) -> bool
 /// Of the least pair of `y` so far and one more, the one that comes first.
 // Stays: the order is that of scores, which are made from the sizes, so the values themselves have none. Both pairs are of the table `y`; in `rows` each
 // choice brings its own, and one function for both would take the two scores beside the two values.
-fn lesser(sizes: &[u16], start: usize, y: usize, best: Option<Partner>, pair: Partner) -> Partner
+fn lesser(sizes: &[usize], start: usize, y: usize, best: Option<Partner>, pair: Partner) -> Partner
     ensures { pair_code (Some result) ≡ lesser_of sizes.now start y (pair_code best) pair.other pair.bits }
 {
     let Some(known) = best else {
@@ -83,28 +78,28 @@ fn lesser(sizes: &[u16], start: usize, y: usize, best: Option<Partner>, pair: Pa
 }
 
 /// The least pair of `y` so far, when its pair with `x` is looked at too; refused where that is too wide.
-fn consider<const W: usize>(
+fn consider(
     sets: &[u64],
-    sizes: &[u16],
+    sizes: &[usize],
     scoring: &Scoring,
     y: usize,
     best: Option<Partner>,
     x: u8,
-) -> Result<Option<Partner>, Refusal>
-    requires { (W ≤ 16) × (y < 1048576) }
-    ensures least { least_code result ≡ considered sets.now W scoring.now.weights.now sizes.now scoring.now.start y (pair_code best) x }
-    ensures why { IfErr result (λ r. r ≡ TableTooWide) }
+) -> Result<Option<Partner>, PairTooWide>
+    requires { y < 1048576 }
+    ensures { least_code result ≡ considered sets.now scoring.now.width scoring.now.weights.now sizes.now scoring.now.start y (pair_code best) x }
 {
+    let w = scoring.width;
     let left = usize::from(x);
-    if !live::share::<W>(sets, left, y) {
+    if !live::share(sets, w, left, y) {
         return Ok(best);
     }
-    let bits = live::merged_size::<W>(sets, left, y, scoring.weights);
+    let bits = live::merged_size(sets, w, left, y, scoring.weights);
     if 40 < bits {
-        return Err(Refusal::TableTooWide);
+        return Err(PairTooWide);
     }
     if too_wide(sizes, left, y) {
-        return Err(Refusal::TableTooWide);
+        return Err(PairTooWide);
     }
     let pair = Partner {
         other: x,
@@ -116,22 +111,21 @@ fn consider<const W: usize>(
 
 /// The least pair of `y` with the first `k` slots of a list; past its end the slot is 0. Refused where such a pair is too wide.
 // Stays: asks no more of its callers than lists that fit: `k` may be more than the list has.
-pub fn row<const W: usize>(
+pub fn row(
     sets: &[u64],
-    sizes: &[u16],
+    sizes: &[usize],
     scoring: &Scoring,
     live: &[u8],
     k: usize,
     y: usize,
-) -> Result<Option<Partner>, Refusal>
-    requires { (W ≤ 16) × (y < 1048576) }
-    ensures least { least_code result ≡ row_of sets.now W scoring.now.weights.now sizes.now scoring.now.start live.now k y }
-    ensures why { IfErr result (λ r. r ≡ TableTooWide) }
+) -> Result<Option<Partner>, PairTooWide>
+    requires { y < 1048576 }
+    ensures { least_code result ≡ row_of sets.now scoring.now.width scoring.now.weights.now sizes.now scoring.now.start live.now k y }
 {
     let mut best = None;
     for i in 0..k {
         let x = cells::get_or(live, i, 0);
-        best = consider::<W>(sets, sizes, scoring, y, best, x)?;
+        best = consider(sets, sizes, scoring, y, best, x)?;
     }
     Ok(best)
 }

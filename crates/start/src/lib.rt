@@ -12,99 +12,93 @@ use tables::{OUTSIDE, TWICE};
 
 /// Makes slot `s` the set of the indices of leaf `v`.
 // Stays: the network's lists are lent apart, so no check of them is asked for; the bounds are those of places in memory.
-fn put_leaf<const W: usize>(sets: &mut [u64], s: usize, counts: &[u8], legs: &[u16], v: usize)
-    requires { (W ≤ 16) × (s < 1048576) × (v < 65536) }
-    ensures { sets.new ≡ with_set sets.old W s (leaf_has counts.now legs.now v) }
+fn put_leaf(sets: &mut [u64], w: usize, s: usize, counts: &[u8], legs: &[u16], v: usize)
+    requires { (w ≤ 16) × (s < 1048576) × (v < 65536) }
+    ensures { sets.new ≡ with_set sets.old w s (leaf_has counts.now legs.now v) }
 {
     let count = usize::from(cells::get_or(counts, v, 0));
-    slots::empty(sets, W, s);
+    slots::empty(sets, w, s);
     // Stays: 32 places for each leaf is the layout of the list of legs in the C interface.
-    slots::put_all(sets, W, s, legs, v * 32, count);
+    slots::put_all(sets, w, s, legs, v * 32, count);
 }
 
 /// Makes slots 0, 1, .. the sets of the indices of some leaves.
 // Stays: the loop lends the same words to each turn; `for_each` with a closure over them is no plainer.
-fn put_leaves<const W: usize>(sets: &mut [u64], counts: &[u8], legs: &[u16], leaves: &[u16])
-    requires { (W ≤ 16) × (length leaves.now < 1048576) }
-    ensures { sets.new ≡ with_leaves W counts.now legs.now leaves.now sets.old (length leaves.now) }
+fn put_leaves(sets: &mut [u64], w: usize, counts: &[u8], legs: &[u16], leaves: &[u16])
+    requires { (w ≤ 16) × (length leaves.now < 1048576) }
+    ensures { sets.new ≡ with_leaves w counts.now legs.now leaves.now sets.old (length leaves.now) }
 {
     for (i, &v) in leaves.iter().enumerate() {
-        put_leaf::<W>(sets, i, counts, legs, usize::from(v));
+        put_leaf(sets, w, i, counts, legs, usize::from(v));
     }
 }
 
 /// Makes slot `s` the set of the numbers of a list.
 // Stays: the bounds are those of places in memory.
-fn put_list<const W: usize>(sets: &mut [u64], s: usize, list: &[u16])
-    requires { (W ≤ 16) × (s < 1048576) × (length list.now ≤ 4294967296) }
-    ensures { sets.new ≡ with_set sets.old W s (among list.now 0 (length list.now)) }
+fn put_list(sets: &mut [u64], w: usize, s: usize, list: &[u16])
+    requires { (w ≤ 16) × (s < 1048576) × (length list.now ≤ 4294967296) }
+    ensures { sets.new ≡ with_set sets.old w s (among list.now 0 (length list.now)) }
 {
-    slots::empty(sets, W, s);
-    slots::put_all(sets, W, s, list, 0, list.len());
+    slots::empty(sets, w, s);
+    slots::put_all(sets, w, s, list, 0, list.len());
 }
 
 /// Puts the indices of leaf `l` into slot 256, unless slot 257 has `l`.
 // Stays: the network's lists are lent apart, so no check of them is asked for; the bounds are those of places in memory.
-fn put_other<const W: usize>(sets: &mut [u64], counts: &[u8], legs: &[u16], l: usize)
-    requires { (W ≤ 16) × (l < 65536) }
-    ensures { sets.new ≡ with_other W counts.now legs.now sets.old l }
+fn put_other(sets: &mut [u64], w: usize, counts: &[u8], legs: &[u16], l: usize)
+    requires { (w ≤ 16) × (l < 65536) }
+    ensures { sets.new ≡ with_other w counts.now legs.now sets.old l }
 {
-    if slots::has(sets, W, TWICE, l) {
+    if slots::has(sets, w, TWICE, l) {
         return;
     }
     let count = usize::from(cells::get_or(counts, l, 0));
     // Stays: 32 places for each leaf is the layout of the list of legs in the C interface.
-    slots::put_all(sets, W, OUTSIDE, legs, l * 32, count);
+    slots::put_all(sets, w, OUTSIDE, legs, l * 32, count);
 }
 
 /// Makes slot 256 the set of the outputs and of the indices of the leaves, of `n` in all, that slot 257 has not.
-// Stays: `n` is how many leaves are planned over, and the promise does not ask that the list of counts has as many.
-fn put_outside<const W: usize>(
-    sets: &mut [u64],
-    n: usize,
-    counts: &[u8],
-    legs: &[u16],
-    outputs: &[u16],
-)
-    requires { (W ≤ 16) × (n ≤ W * 64) × (length outputs.now ≤ 4294967296) }
-    ensures { sets.new ≡ outside_to W counts.now legs.now sets.old outputs.now n }
+// Stays: `n` is how many leaves there are in all, planned or not, and the promise does not ask that the list of counts has as many.
+fn put_outside(sets: &mut [u64], w: usize, n: usize, counts: &[u8], legs: &[u16], outputs: &[u16])
+    requires { (w ≤ 16) × (n ≤ w * 64) × (length outputs.now ≤ 4294967296) }
+    ensures { sets.new ≡ outside_to w counts.now legs.now sets.old outputs.now n }
 {
-    put_list::<W>(sets, OUTSIDE, outputs);
+    put_list(sets, w, OUTSIDE, outputs);
     // Stays: a walk over numbers, since the leaves that are not planned stand in no list to iterate.
     for l in 0..n {
-        put_other::<W>(sets, counts, legs, l);
+        put_other(sets, w, counts, legs, l);
     }
 }
 
 /// Makes the sets of the start: those of some leaves in slots 0, 1, .., and what stays whatever is merged. Leaves are `n` in all.
-// Stays: `n` is how many leaves are planned over, and the promise does not ask that the list of counts has as many.
-pub fn put_sets<const W: usize>(
+// Stays: `n` is how many leaves there are in all, planned or not, and the promise does not ask that the list of counts has as many.
+pub fn put_sets(
     sets: &mut [u64],
+    w: usize,
     n: usize,
     counts: &[u8],
     legs: &[u16],
     outputs: &[u16],
     leaves: &[u16],
 )
-    requires { (W ≤ 16) × (n ≤ W * 64) × (length outputs.now ≤ 4294967296) × (length leaves.now < 1048576) }
-    ensures { sets.new ≡ start_words W n counts.now legs.now outputs.now leaves.now sets.old }
+    requires { (w ≤ 16) × (n ≤ w * 64) × (length outputs.now ≤ 4294967296) × (length leaves.now < 1048576) }
+    ensures { sets.new ≡ start_words w n counts.now legs.now outputs.now leaves.now sets.old }
 {
-    put_list::<W>(sets, TWICE, leaves);
-    put_outside::<W>(sets, n, counts, legs, outputs);
-    put_leaves::<W>(sets, counts, legs, leaves);
+    put_list(sets, w, TWICE, leaves);
+    put_outside(sets, w, n, counts, legs, outputs);
+    put_leaves(sets, w, counts, legs, leaves);
 }
 
 /// Puts the size bits of the first `n` slots down.
 // Stays: the loop lends the same words to each turn; `for_each` with a closure over them is no plainer.
-pub fn weigh_all<const W: usize>(sizes: &mut [u16], sets: &[u64], weights: &[u8], n: usize)
-    requires { (W ≤ 16) × (n < 1048576) × Light weights.now }
-    ensures { sizes.new ≡ with_sizes sets.now W weights.now sizes.old n }
+pub fn weigh_all(sizes: &mut [usize], sets: &[u64], w: usize, weights: &[u8], n: usize)
+    requires { (w ≤ 16) × (n < 1048576) × Light weights.now }
+    ensures { sizes.new ≡ with_sizes sets.now w weights.now sizes.old n }
 {
     // Stays: the number is the slot that is weighed as well as a place; the same walk by `take` was tried in `count_up`, and its proof did not close.
     for i in 0..n {
-        let bits = slots::weigh(sets, W, i, i, weights, &weights[..0]);
-        // Stays: the number fits by what is known here; `try_from` would add a failure that never comes.
-        cells::put(sizes, i, bits as u16);
+        let bits = slots::weigh(sets, w, i, i, weights, &weights[..0]);
+        cells::put(sizes, i, bits);
     }
 }
 

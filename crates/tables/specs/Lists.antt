@@ -5,7 +5,7 @@ use Rattle.std.proofs.lemmas.List.{length-map}
 use Rattle.tables.specs.declared.Row.{Row}
 use Rattle.tables.specs.declared.Row.TheVariants.{Stale, Gone, TooWide, Found}
 use Rattle.tables.specs.declared.partner.Partner.{Partner}
-use Rattle.spec.specs.declared.Refusal.{Refusal}
+use Rattle.tables.specs.declared.PairTooWide.{PairTooWide}
 use Rattle.tables.specs.declared.slotted.Tables.{Tables}
 
 -- the lists: sets by slot, node numbers and size bits by slot, the live slots, and the least pairs by slot
@@ -25,7 +25,7 @@ pair_code None = 256
 pair_code (Some p) = p.bits * 512 + p.other
 
 -- the same, or 257 where a pair is too wide
-abbrev pub least_code : Result (Option Partner) Refusal → ℕ
+abbrev pub least_code : Result (Option Partner) PairTooWide → ℕ
 least_code (Err r) = 257
 least_code (Ok p) = pair_code p
 
@@ -58,7 +58,7 @@ coded_at (x ∷ l) zero d h = refl
 coded_at (x ∷ l) (suc i) d h = coded_at l i d (omega arith)
 
 -- the lists of some tables
-abbrev pub lists_in : {W : ℕ} → Tables W → Lists
+abbrev pub lists_in : Tables → Lists
 lists_in t = lists_of t.sets.now t.nodes t.sizes t.live.items (coded t.rows)
 
 -- one of the lists replaced
@@ -75,7 +75,7 @@ abbrev pub with_rows : Lists → List ℕ → Lists
 with_rows M y = lists_of M.words M.nodes M.sizes M.live y
 
 -- the same words are lent, whatever they hold
-abbrev pub IsSameLoan : {W : ℕ} → Tables W → Tables W → Type 0
+abbrev pub IsSameLoan : Tables → Tables → Type 0
 IsSameLoan old new = new.sets.ghost_name ≡ old.sets.ghost_name
 
 -- a pair's number, and back

@@ -3,10 +3,13 @@
 //! table's least pair, and the order of pairs.
 
 ghost use Rattle.std.specs.Prelude.{◌≡◌};
+ghost use Rattle.spec.specs.declared.Refusal.TheVariants.{TableTooWide};
 ghost use Rattle.spec.specs.Greedy.{Key, key_before};
+ghost use Rattle.tables.specs.Lists.{code, least_code};
 ghost use Rattle.tables.specs.Scores.{Scores};
 
 use partner::Partner;
+use spec::Refusal;
 
 pub mod partner;
 pub mod scoring;
@@ -16,16 +19,28 @@ pub mod slotted;
 pub const WIDTH: usize = 4;
 
 /// The slot of the indices that stay whatever is merged: the outputs, and what is named by leaves that are not planned.
-// Stays: the number of a slot, and no kind.
+// Stays: a slot past those of the tables; the sets lie in slots of the stated words by number, so a name for the number is the plain form.
 pub const OUTSIDE: usize = 256;
 
 /// The slot of what two live tables or more hold.
-// Stays: the number of a slot, and no kind.
+// Stays: a slot past those of the tables; the sets lie in slots of the stated words by number, so a name for the number is the plain form.
 pub const TWICE: usize = 257;
 
 /// The slot of what three live tables or more hold.
-// Stays: the number of a slot, and no kind.
+// Stays: a slot past those of the tables; the sets lie in slots of the stated words by number, so a name for the number is the plain form.
 pub const THRICE: usize = 258;
+
+/// A pair is too wide: one of its tables, or the table that a merge of them makes, has over 40 bits.
+#[derive(Clone, Copy, Debug, PartialEq, Eq)]
+pub struct PairTooWide;
+
+impl From<PairTooWide> for Refusal {
+    ghost from_gives = { λ _ refusal. refusal ≡ TableTooWide };
+
+    fn from(_: PairTooWide) -> Refusal {
+        Refusal::TableTooWide
+    }
+}
 
 /// What is known of a table's least pair with the live tables before it.
 #[derive(Clone, Copy, Debug, PartialEq, Eq)]
@@ -40,8 +55,20 @@ pub enum Row {
     Found(Option<Partner>),
 }
 
+impl From<Result<Option<Partner>, PairTooWide>> for Row {
+    ghost from_gives = { λ found row. code row ≡ least_code found };
+
+    /// What was found, as a row.
+    fn from(found: Result<Option<Partner>, PairTooWide>) -> Row {
+        match found {
+            Ok(pair) => Row::Found(pair),
+            Err(PairTooWide) => Row::TooWide,
+        }
+    }
+}
+
 /// A pair's place in greedy's order, which is the derived one: the least score first, then the lower first slot, then the lower second.
-// Stays: no twin: three numbers whose order is this struct's own.
+// Stays: three numbers, in the order in which pairs compare; a tuple would have this order and no names.
 #[derive(Clone, Copy, Debug, PartialEq, Eq, PartialOrd, Ord)]
 pub struct Score {
     /// 2^merged - 2^left - 2^right, raised by 2^41 so that it is never below 0

@@ -2,7 +2,7 @@
 ghost use Rattle.std.specs.Prelude.{◌<◌};
 
 /// The other table of a pair, by its slot, and the size bits of the table that a merge of the two makes.
-// Stays: no twin: a slot and a size, where `Choice` has a slot and this.
+// Stays: a slot and a size in bits; one type for this and `Choice` could name neither.
 #[derive(Clone, Copy, Debug, PartialEq, Eq)]
 pub struct Partner {
     pub other: u8,
@@ -11,7 +11,7 @@ pub struct Partner {
 }
 
 /// A table, by its slot, with its partner: a pair.
-// Stays: no twin: a slot and a `Partner`, where that has a slot and a size.
+// Stays: a slot and a `Partner`; one type for both could name neither.
 #[derive(Clone, Copy, Debug, PartialEq, Eq)]
 pub struct Choice {
     pub table: u8,

@@ -1,5 +1,5 @@
 // Greedy's lists in one value.
-ghost use Rattle.std.specs.Prelude.{◌≡◌, ◌≤◌, length};
+ghost use Rattle.std.specs.Prelude.{◌≡◌, length};
 
 use crate::Row;
 use arrayvec::ArrayVec;
@@ -7,17 +7,16 @@ use arrayvec::ArrayVec;
 /// Greedy's lists: all by slot but the list of live slots. A table keeps its slot, and each new table takes the next one.
 // Stays: the lists by slot are lent one at a time, to functions that ask for lists that fit; a list of rows would be lent whole.
 #[derive(Drop)]
-pub struct Tables<'a, const W: usize> {
-    /// the sets in lent words, of `W` words each
+pub struct Tables<'a> {
+    /// the sets in lent words
     pub sets: &'a mut [u64],
     /// the numbers of the tables' nodes
     pub nodes: [u16; 256],
     /// the size bits of the tables
-    pub sizes: [u16; 256],
+    pub sizes: [usize; 256],
     /// the slots of the live tables, rising
     pub live: ArrayVec<u8, 256>,
     /// the least pairs
     pub rows: [Row; 256],
     ghost slots: { length rows ≡ 256 },
-    ghost narrow: { W ≤ 16 },
 }

@@ -3,5 +3,5 @@ use mathlib.Core.Path.{◌≡◌}
 use Rattle.live.proofs.count_holders.Given as goal
 
 abbrev pub invariant-loop-slot : goal.invariant-loop-slot
-invariant-loop-slot g l =
-    (l.one ≡ count_word l.sets g.row.W l.live l.k 1 l.slot-index) × (l.two ≡ count_word l.sets g.row.W l.live l.k 2 l.slot-index) × (l.three ≡ count_word l.sets g.row.W l.live l.k 3 l.slot-index)
+invariant-loop-slot l =
+    (l.one ≡ count_word l.sets l.w l.live l.k 1 l.slot-index) × (l.two ≡ count_word l.sets l.w l.live l.k 2 l.slot-index) × (l.three ≡ count_word l.sets l.w l.live l.k 3 l.slot-index)

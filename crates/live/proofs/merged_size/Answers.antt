@@ -7,19 +7,19 @@ use mathlib.Core.Path.{◌≡◌, ap, ◌∙◌}
 use Rattle.live.proofs.merged_size.Goals as goal
 
 pub loop-k-init : goal.loop-k-init
-loop-k-init g c = let d = c.args in (omega arith, size_none d.sets.now g.row.W d.x d.y d.weights.now [], omega arith)
+loop-k-init c = let d = c.args in (omega arith, size_none d.sets.now d.w d.x d.y d.weights.now [], omega arith)
 
 pub loop-k-preserved : goal.loop-k-preserved
-loop-k-preserved g c = let d = c.args in
+loop-k-preserved c = let d = c.args in
     let l = c.loop-k in (
       omega arith,
-      size_next d.sets.now g.row.W d.x d.y d.weights.now [] l.k l.sum c.merged_word-v.result c.weigh_word-sum.result l.invariant.1 c.merged_word-v.ensures c.weigh_word-sum.ensures.0,
+      size_next d.sets.now d.w d.x d.y d.weights.now [] l.k l.sum c.merged_word-v.result c.weigh_word-sum.result l.invariant.1 c.merged_word-v.ensures c.weigh_word-sum.ensures.0,
       omega (arith, c.weigh_word-sum.ensures.1, l.invariant.2),
     )
 
 pub returns : goal.returns
 unfolding pair_bits
-returns g c = let d = c.args in
+returns c = let d = c.args in
     let l = c.loop-k in
-    let e : l.k ≡ g.row.W = omega arith in
-    l.invariant.1 ∙ ap (λ (n : ℕ). weighed d.weights.now [] (merged_set d.sets.now g.row.W d.x d.y) (n * 64)) e
+    let e : l.k ≡ d.w = omega arith in
+    l.invariant.1 ∙ ap (λ (n : ℕ). weighed d.weights.now [] (merged_set d.sets.now d.w d.x d.y) (n * 64)) e

@@ -5,16 +5,16 @@ use lib.ListN.{length}
 use Rattle.live.proofs.put_holders.Goals as goal
 
 pub loop-k-init : goal.loop-k-init
-loop-k-init g c = let d = c.args in (omega arith, side_none d.sets.now g.row.W d.live.now (length d.live.now))
+loop-k-init c = let d = c.args in (omega arith, side_none d.sets.now d.w d.live.now (length d.live.now))
 
 pub loop-k-preserved : goal.loop-k-preserved
-loop-k-preserved g c = let d = c.args in
+loop-k-preserved c = let d = c.args in
     let l = c.loop-k in
     let h = c.count_holders-held in (
       omega arith,
-      side_next d.sets.now g.row.W d.live.now (length d.live.now) l.k h.result.two h.result.three c.word-staying.result l.sets _ _ (omega arith) l.invariant.1
+      side_next d.sets.now d.w d.live.now (length d.live.now) l.k h.result.two h.result.three c.word-staying.result l.sets _ _ (omega arith) l.invariant.1
           h.ensures.two h.ensures.three c.word-staying.ensures (omega arith) refl c.put_words.ensures,
     )
 
 pub returns : goal.returns
-returns g c = let d = c.args in side_end d.sets.now g.row.W d.live.now (length d.live.now) c.loop-k.k _ (omega arith) c.loop-k.invariant.1
+returns c = let d = c.args in side_end d.sets.now d.w d.live.now (length d.live.now) c.loop-k.k _ (omega arith) c.loop-k.invariant.1

@@ -5,4 +5,4 @@ use lib.ListN.{length}
 use Rattle.live.proofs.put_holders.Given as goal
 
 abbrev pub invariant-loop-k : goal.invariant-loop-k
-invariant-loop-k g l = (l.k ≤ g.row.W) × (l.sets ≡ side_by_side l.initial.sets g.row.W l.live (length l.live) l.k)
+invariant-loop-k l = (l.k ≤ l.w) × (l.sets ≡ side_by_side l.initial.sets l.w l.live (length l.live) l.k)

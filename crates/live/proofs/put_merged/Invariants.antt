@@ -4,4 +4,4 @@ use mathlib.Core.Path.{◌≡◌}
 use Rattle.live.proofs.put_merged.Given as goal
 
 abbrev pub invariant-loop-k : goal.invariant-loop-k
-invariant-loop-k g l = (l.k ≤ g.row.W) × (l.sets ≡ written_to l.initial.sets g.row.W l.x l.y l.z l.k)
+invariant-loop-k l = (l.k ≤ l.w) × (l.sets ≡ written_to l.initial.sets l.w l.x l.y l.z l.k)

@@ -5,4 +5,4 @@ use mathlib.Core.Path.{◌≡◌}
 use Rattle.live.proofs.share.Given as goal
 
 abbrev pub invariant-loop-k : goal.invariant-loop-k
-invariant-loop-k g l = (l.k ≤ g.row.W) × (both l.sets g.row.W l.x l.y (l.k * 64) ≡ [])
+invariant-loop-k l = (l.k ≤ l.w) × (both l.sets l.w l.x l.y (l.k * 64) ≡ [])

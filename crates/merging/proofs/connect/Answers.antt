@@ -1,6 +1,5 @@
 use Rattle.std.proofs.Common.{rules, Err, Ok, Some, None}
-use Rattle.spec.specs.declared.Refusal.{Refusal}
-use Rattle.spec.specs.declared.Refusal.TheVariants.{TableTooWide}
+use Rattle.tables.specs.declared.PairTooWide.{PairTooWide}
 use Rattle.spec.specs.Tree.{flat_of}
 use Rattle.tables.specs.Lists.{Lists, coded, lists_in}
 use Rattle.rows.specs.Within.{NamedIn}
@@ -17,30 +16,29 @@ use Rattle.std.specs.Prelude.{Result}
 use Rattle.merging.proofs.connect.Goals as goal
 
 pub returns-in_err-choice-clause-connected : goal.returns-in_err-choice-clause-connected
-returns-in_err-choice-clause-connected g c =
+returns-in_err-choice-clause-connected c =
     let d = c.args in
     let s = d.scoring.now in
     let l = c.loop-t in
     let z : c.scan.result ≡ Err c.in_err-choice.field-0.0 = search rules in
     let e : c.from_residual.result ≡ Err c.in_err-choice.field-0.0 = search rules in
-    let why : c.in_err-choice.field-0.0 ≡ TableTooWide = search rules in
     let less : l.t < s.start = omega arith in
-    λ G S start. subst (λ (q : Result ℕ Refusal). Connected G S (kids_behind S d.kids.now) c.scan.new.tables.nodes c.scan.new.tables.sizes c.scan.new.tables.live.items (kids_behind S l.kids) q) (sym (e ∙ ap (λ (r : Refusal). Err r) why))
-    (scan_refused G S g.row.W d.n s.start d.count s.weights.now (kids_behind S d.kids.now) (lists_in d.tables.now) start l.t (lists_in l.tables) (kids_behind S l.kids) (l.invariant.3 G S start) less
+    λ G S start. subst (λ (q : Result ℕ PairTooWide). Connected G S (kids_behind S d.kids.now) c.scan.new.tables.nodes c.scan.new.tables.sizes c.scan.new.tables.live.items (kids_behind S l.kids) q) (sym e)
+    (scan_refused G S s.width d.n s.start d.count s.weights.now (kids_behind S d.kids.now) (lists_in d.tables.now) start l.t (lists_in l.tables) (kids_behind S l.kids) (l.invariant.3 G S start) less
     (lists_in c.scan.new.tables) c.scan.result c.scan.ensures.lists c.scan.ensures.least _ _ _ _ c.in_err-choice.field-0.0 z)
 
 pub returns-in_default-clause-connected : goal.returns-in_default-clause-connected
-returns-in_default-clause-connected g c =
+returns-in_default-clause-connected c =
     let d = c.args in
     let s = d.scoring.now in
     let l = c.loop-t in
     let z : c.scan.result ≡ Ok None = search rules in
     let less : l.t < s.start = omega arith in
-    λ G S start. scan_ends G S g.row.W d.n s.start d.count s.weights.now (kids_behind S d.kids.now) (lists_in d.tables.now) start l.t (lists_in l.tables) (kids_behind S l.kids) (l.invariant.3 G S start) less
+    λ G S start. scan_ends G S s.width d.n s.start d.count s.weights.now (kids_behind S d.kids.now) (lists_in d.tables.now) start l.t (lists_in l.tables) (kids_behind S l.kids) (l.invariant.3 G S start) less
     (lists_in c.scan.new.tables) c.scan.result c.scan.ensures.lists c.scan.ensures.least z
 
 pub loop-t-preserved : goal.loop-t-preserved
-loop-t-preserved g c =
+loop-t-preserved c =
     let d = c.args in
     let s = d.scoring.now in
     let l = c.loop-t in
@@ -52,7 +50,7 @@ loop-t-preserved g c =
       c.merge-children.ensures.same ∙ c.scan.ensures.same ∙ l.invariant.1,
       omega (arith, c.merge-children.ensures.few, kept, l.invariant.2),
       (λ G S start.
-          scan_merges G S g.row.W d.n s.start d.count s.weights.now (kids_behind S d.kids.now) (lists_in d.tables.now) start l.t (lists_in l.tables) (kids_behind S l.kids) (l.invariant.3 G S start) less
+          scan_merges G S s.width d.n s.start d.count s.weights.now (kids_behind S d.kids.now) (lists_in d.tables.now) start l.t (lists_in l.tables) (kids_behind S l.kids) (l.invariant.3 G S start) less
           (lists_in c.scan.new.tables) c.scan.result c.scan.ensures.lists c.scan.ensures.least c.in-Some.choice z named
           (lists_in c.merge-children.new.tables) (kids_behind S c.put_node.new.kids) c.merge-children.ensures.lists
           (ap (λ (k : List ℕ). flat_of S.array ++ k) c.put_node.ensures
@@ -61,10 +59,10 @@ loop-t-preserved g c =
     )
 
 pub returns-clause-connected : goal.returns-clause-connected
-returns-clause-connected g c =
+returns-clause-connected c =
     let d = c.args in
     let s = d.scoring.now in
     let l = c.loop-t in
     let e : l.t ≡ s.start = omega arith in
     λ G S start. subst (λ (t : ℕ). Connected G S (kids_behind S d.kids.now) l.tables.nodes l.tables.sizes l.tables.live.items (kids_behind S l.kids) (Ok t)) e
-    (reached_end G S g.row.W d.n s.start d.count s.weights.now (kids_behind S d.kids.now) (lists_in d.tables.now) start l.t (lists_in l.tables) (kids_behind S l.kids) e (l.invariant.3 G S start))
+    (reached_end G S s.width d.n s.start d.count s.weights.now (kids_behind S d.kids.now) (lists_in d.tables.now) start l.t (lists_in l.tables) (kids_behind S l.kids) e (l.invariant.3 G S start))

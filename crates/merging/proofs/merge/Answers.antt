@@ -11,16 +11,17 @@ use lib.ListN.{set}
 use Rattle.merging.proofs.merge.Goals as goal
 
 pub returns-clause-lists : goal.returns-clause-lists
-returns-clause-lists g c =
+returns-clause-lists c =
     let d = c.args in
     let t = d.tables.now in
-    let x = first_chosen d.start d.choice in
-    let y = second_chosen d.start d.choice in
-    let ex : c.first-first.result ≡ x = c.first-first.ensures ∙ ap₂ (first_of d.start) c.from-other.ensures c.from-table.ensures in
-    let ey : c.second-second.result ≡ y = c.second-second.ensures ∙ ap₂ (second_of d.start) c.from-other.ensures c.from-table.ensures in
+    let s = d.scoring.now in
+    let x = first_chosen s.start d.choice in
+    let y = second_chosen s.start d.choice in
+    let ex : c.first-first.result ≡ x = c.first-first.ensures ∙ ap₂ (first_of s.start) c.from-other.ensures c.from-table.ensures in
+    let ey : c.second-second.result ≡ y = c.second-second.ensures ∙ ap₂ (second_of s.start) c.from-other.ensures c.from-table.ensures in
     let ez = c.from-slot.ensures in
-    lists_merged g.row.W d.start d.choice d.z d.node (lists_in t) _ _ _ _ _
-    (c.put_merged.ensures ∙ (λ i. with_set t.sets.now g.row.W (ez i) (merged_set t.sets.now g.row.W (ex i) (ey i))))
+    lists_merged s.width s.start d.choice d.z d.node (lists_in t) _ _ _ _ _
+    (c.put_merged.ensures ∙ (λ i. with_set t.sets.now s.width (ez i) (merged_set t.sets.now s.width (ex i) (ey i))))
     (ap (λ (i : ℕ). set t.nodes i d.node) ez)
     (ap₂ (λ (i v : ℕ). set t.sizes i v) ez c.from.ensures)
     (c.push.ensures.items ∙ ap (λ (l : List ℕ). l ++ (d.z ∷ [])) (c.remove.ensures.items ∙ ap₂ (λ (a b : ℕ). remaining a b t.live.items) ex ey))

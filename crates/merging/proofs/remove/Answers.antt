@@ -4,4 +4,4 @@ use Rattle.merging.specs.Listed.{other}
 use Rattle.merging.proofs.remove.Goals as goal
 
 pub returns-clause-items : goal.returns-clause-items
-returns-clause-items c = let d = c.args in filter-from_retain _ (other d.x d.y) _ (λ v b f' w called. search rules) _ _ c.retain.ensures.filtered
+returns-clause-items g c = let d = c.args in filter-from_retain _ (other d.x d.y) _ (λ v b f' w called. search rules) _ _ c.retain.ensures.filtered

@@ -10,7 +10,7 @@ use lib.ListN.{get_or}
 use Rattle.rows.proofs.better.Goals as goal
 
 pub returns-in-TooWide-clause-least : goal.returns-in-TooWide-clause-least
-returns-in-TooWide-clause-least g c =
+returns-in-TooWide-clause-least c =
     let d = c.args in
     let t = d.tables.now in
     let small : d.y < 256 = search rules in
@@ -19,7 +19,7 @@ returns-in-TooWide-clause-least g c =
     λ named. takes_wide t.sizes d.start (coded t.rows) d.best d.y z
 
 pub returns-in-Found-Some-clause-least : goal.returns-in-Found-Some-clause-least
-returns-in-Found-Some-clause-least g c =
+returns-in-Found-Some-clause-least c =
     let d = c.args in
     let t = d.tables.now in
     let small : d.y < 256 = search rules in
@@ -29,7 +29,7 @@ returns-in-Found-Some-clause-least g c =
     λ named. ap (λ (b : Choice). b.table) c.sooner.ensures ∙ takes_pair t.sizes d.start (coded t.rows) _ z d.best named
 
 pub returns-in-Found-None-clause-least : goal.returns-in-Found-None-clause-least
-returns-in-Found-None-clause-least g c =
+returns-in-Found-None-clause-least c =
     let d = c.args in
     let t = d.tables.now in
     let small : d.y < 256 = search rules in
@@ -38,7 +38,7 @@ returns-in-Found-None-clause-least g c =
     λ named. takes_none t.sizes d.start (coded t.rows) d.best d.y z
 
 pub returns-in-Gone-clause-least : goal.returns-in-Gone-clause-least
-returns-in-Gone-clause-least g c =
+returns-in-Gone-clause-least c =
     let d = c.args in
     let t = d.tables.now in
     let small : d.y < 256 = search rules in
@@ -47,7 +47,7 @@ returns-in-Gone-clause-least g c =
     λ named. takes_passed t.sizes d.start (coded t.rows) d.best d.y (ap unfound z)
 
 pub returns-in-Stale-clause-least : goal.returns-in-Stale-clause-least
-returns-in-Stale-clause-least g c =
+returns-in-Stale-clause-least c =
     let d = c.args in
     let t = d.tables.now in
     let small : d.y < 256 = search rules in
@@ -56,7 +56,7 @@ returns-in-Stale-clause-least g c =
     λ named. takes_passed t.sizes d.start (coded t.rows) d.best d.y (ap unfound z)
 
 pub returns-in-Found-Some-clause-named : goal.returns-in-Found-Some-clause-named
-returns-in-Found-Some-clause-named g c =
+returns-in-Found-Some-clause-named c =
     let d = c.args in
     let t = d.tables.now in
     let small : d.y < 256 = search rules in

@@ -5,12 +5,12 @@ use mathlib.Core.Path.{refl, ◌∙◌}
 use Rattle.rows.proofs.renew_all.Goals as goal
 
 pub loop-k-init : goal.loop-k-init
-loop-k-init g c = let d = c.args in (omega arith, refl, none_renewed g.row.W d.scoring.now.weights.now d.scoring.now.start (lists_in d.tables.now))
+loop-k-init c = let d = c.args in (omega arith, refl, none_renewed d.scoring.now.width d.scoring.now.weights.now d.scoring.now.start (lists_in d.tables.now))
 
 pub loop-k-preserved : goal.loop-k-preserved
-loop-k-preserved g c = let d = c.args in
+loop-k-preserved c = let d = c.args in
     let l = c.loop-k in (
       omega arith,
       c.renew.ensures.same ∙ l.invariant.1,
-      next_renewed g.row.W d.scoring.now.weights.now d.scoring.now.start (lists_in d.tables.now) (lists_in l.tables) _ l.k l.invariant.2 c.renew.ensures.lists,
+      next_renewed d.scoring.now.width d.scoring.now.weights.now d.scoring.now.start (lists_in d.tables.now) (lists_in l.tables) _ l.k l.invariant.2 c.renew.ensures.lists,
     )

@@ -6,6 +6,6 @@ use lib.ListN.{length}
 use Rattle.rows.proofs.renew_all.Given as goal
 
 abbrev pub invariant-loop-k : goal.invariant-loop-k
-invariant-loop-k g l = (l.k ≤ length l.fn.tables.live.items)
+invariant-loop-k l = (l.k ≤ length l.fn.tables.live.items)
     × IsSameLoan l.fn.tables l.tables
-    × (lists_in l.tables ≡ all_renewed g.row.W l.scoring.weights.now l.scoring.start (lists_in l.fn.tables) l.k)
+    × (lists_in l.tables ≡ all_renewed l.scoring.width l.scoring.weights.now l.scoring.start (lists_in l.fn.tables) l.k)

@@ -5,5 +5,5 @@ use mathlib.Core.Path.{◌≡◌}
 use Rattle.scores.proofs.row.Given as goal
 
 abbrev pub invariant-loop-i : goal.invariant-loop-i
-invariant-loop-i g l =
-    (l.i ≤ l.k) × (pair_code l.best ≡ row_of l.sets g.row.W l.scoring.weights.now l.sizes l.scoring.start l.live l.i l.y)
+invariant-loop-i l =
+    (l.i ≤ l.k) × (pair_code l.best ≡ row_of l.sets l.scoring.width l.scoring.weights.now l.sizes l.scoring.start l.live l.i l.y)

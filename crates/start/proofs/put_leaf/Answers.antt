@@ -3,4 +3,4 @@ use mathlib.Core.Path.{◌∙◌}
 use Rattle.start.proofs.put_leaf.Goals as goal
 
 pub returns : goal.returns
-returns g c = let d = c.args in leaf_put g.row.W d.counts.now d.legs.now d.sets.now _ _ d.s d.v _ (c.from-count.ensures ∙ c.get_or.ensures) c.empty.ensures c.put_all.ensures
+returns c = let d = c.args in leaf_put d.w d.counts.now d.legs.now d.sets.now _ _ d.s d.v _ (c.from-count.ensures ∙ c.get_or.ensures) c.empty.ensures c.put_all.ensures

@@ -3,7 +3,7 @@ use native.Mathlib.Omega.{arith}
 use Rattle.start.proofs.put_outside.Goals as goal
 
 pub loop-l-preserved : goal.loop-l-preserved
-loop-l-preserved g c = let k = c.loop-l in (
+loop-l-preserved c = let k = c.loop-l in (
   omega arith,
-  (λ base e. outside_next g.row.W c.args.counts.now c.args.legs.now base c.args.outputs.now k.l k.sets _ (omega (arith, c.requires.1)) (k.invariant.1 base e) c.put_other.ensures),
+  (λ base e. outside_next c.args.w c.args.counts.now c.args.legs.now base c.args.outputs.now k.l k.sets _ (omega (arith, c.requires.1)) (k.invariant.1 base e) c.put_other.ensures),
 )

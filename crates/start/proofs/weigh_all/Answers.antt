@@ -3,11 +3,11 @@ use native.Mathlib.Omega.{arith}
 use Rattle.start.proofs.weigh_all.Goals as goal
 
 pub loop-i-init : goal.loop-i-init
-loop-i-init g c = let d = c.args in (omega arith, sizes_none d.sets.now g.row.W d.weights.now d.sizes.now)
+loop-i-init c = let d = c.args in (omega arith, sizes_none d.sets.now d.w d.weights.now d.sizes.now)
 
 pub loop-i-preserved : goal.loop-i-preserved
-loop-i-preserved g c = let d = c.args in
+loop-i-preserved c = let d = c.args in
     let l = c.loop-i in (
       omega arith,
-      sizes_next d.sets.now g.row.W d.weights.now d.sizes.now l.sizes _ l.i c.weigh-bits.result l.invariant.1 c.weigh-bits.ensures.0 c.put.ensures,
+      sizes_next d.sets.now d.w d.weights.now d.sizes.now l.sizes _ l.i c.weigh-bits.result l.invariant.1 c.weigh-bits.ensures.0 c.put.ensures,
     )

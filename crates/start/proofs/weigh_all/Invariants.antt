@@ -4,4 +4,4 @@ use mathlib.Core.Path.{◌≡◌}
 use Rattle.start.proofs.weigh_all.Given as goal
 
 abbrev pub invariant-loop-i : goal.invariant-loop-i
-invariant-loop-i g l = (l.i ≤ l.n) × (l.sizes ≡ with_sizes l.sets g.row.W l.weights l.initial.sizes l.i)
+invariant-loop-i l = (l.i ≤ l.n) × (l.sizes ≡ with_sizes l.sets l.w l.weights l.initial.sizes l.i)
