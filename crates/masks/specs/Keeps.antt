@@ -2,12 +2,19 @@
 use Rattle.std.specs.Prelude.{◌&&◌, ◌||◌, List, [], ◌≡◌, eqb, length, get_or, set}
 use Rattle.std.proofs.Math.Bool.{or_self}
 use Rattle.std.proofs.Common.{sym, ap, ◌∙◌, arith, eqb-true, length-set, get_or-set_same, get_or-set_other}
-use Prim.Native.Nat.{ℕ, ◌+◌, ◌-◌, ◌≤◌, ◌<◌}
+use Prim.Native.Nat.{ℕ, ◌+◌, ◌-◌, ◌*◌, ◌/◌, ◌%◌, ◌≤◌, ◌<◌}
 use Rattle.std.proofs.lemmas.Bool.{eqb-false}
 use Rattle.laws.specs.Booleans.{by_cases}
+use Rattle.bits.specs.Digits.{digit}
+use Rattle.slots.specs.Slots.{held}
 use Rattle.slots.specs.Weigh.{Light, weighed, weighed_ext}
 use Rattle.masks.specs.Rows.{row_has, has_at, in_either}
 use Rattle.masks.specs.Tables.{keeps_in, KeptBelow, work_at, Sized}
+
+-- a word outside a slot does not change it
+pub held-set : (ws : List ℕ) (W s i x j : ℕ) → (s * W + j / 64 ≡ i → ⊥) → held (set ws i x) W s j ≡ held ws W s j
+unfolding held
+held-set ws W s i x j h = ap (λ y. digit y (j % 64)) (get_or-set_other ws i (s * W + j / 64) x 0 h)
 
 module _ (united : List (List ℕ)) (wt : List ℕ) (n : ℕ) where
   pub keep_start : (kept : List (List ℕ)) (bits : List ℕ) → length kept ≡ n → length bits ≡ n → KeptBelow united wt kept bits n 1

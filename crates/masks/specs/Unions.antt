@@ -60,7 +60,7 @@ module _ (was rows : List (List ℕ)) (n s : ℕ) (some : 1 ≤ s) (less : s < n
       }
 
   -- one of more is united of its lowest member and the rest
-  pub unite_joint : (bit_and s (s - 1) ≡ 0 → ⊥) → length was ≡ n → (row : List ℕ)
+  pub unite_joint : (bit_and s (s - 1) ≡ 0 → ⊥) → n ≤ length was → (row : List ℕ)
       → ((j : ℕ) → j < 128 → row_has row j ≡ (has_at rows (bit_and s (s - 1)) j || has_at rows (s - bit_and s (s - 1)) j))
       → United was (set rows s row) n (s + 1)
   unite_joint z room row g =

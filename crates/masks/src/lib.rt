@@ -1,6 +1,6 @@
 #![tactic(auto)]
 //! The index sets of masks of members, as rows of lent words: mask `s` has the members whose digits are set in `s`.
-ghost use Rattle.std.specs.Prelude.{[], ◌&&◌, ◌||◌, ◌≡◌, ℕ, ◌+◌, ◌*◌, ◌^◌, ◌<◌, ◌≤◌, length};
+ghost use Rattle.std.specs.Prelude.{[], ◌&&◌, ◌||◌, ◌≡◌, ℕ, ◌+◌, ◌*◌, ◌^◌, ◌<◌, ◌≤◌, length, take, drop};
 ghost use Rattle.slots.specs.Weigh.{Light, weighed};
 ghost use Rattle.masks.specs.Rows.{row_has, in_either};
 ghost use Rattle.masks.specs.Tables.{United, KeptBelow};
@@ -59,17 +59,20 @@ pub fn unions(united: &mut [[u64; 2]])
     }
 }
 
-/// What each mask keeps, and its bits: of its members' indices those that the region's root or a member outside lists.
+/// What each mask keeps, and its bits: of its members' indices those that the region's root or a member outside lists. They stand in the first
+/// places of the two lists, one a mask; what lies past these stays.
 // Stays: the weights are lent as a list; `keep_sets_by` takes `Planes`, which hold what is asked of them.
 pub fn keep_sets(united: &[[u64; 2]], weights: &[u8], kept: &mut [[u64; 2]], bits: &mut [u64])
-    requires room { (length united.now ≤ 4096) × (length kept.old ≡ length united.now) × (length bits.old ≡ length united.now) }
+    requires room { (length united.now ≤ 4096) × (length united.now ≤ length kept.old) × (length united.now ≤ length bits.old) }
     requires weights { (128 ≤ length weights.now) × Light weights.now }
-    ensures { KeptBelow united.now weights.now kept.new bits.new (length united.now) (length united.now) }
+    ensures masks { KeptBelow united.now weights.now (take (length united.now) kept.new) (take (length united.now) bits.new) (length united.now) (length united.now) }
+    ensures rest { (drop (length united.now) kept.new ≡ drop (length united.now) kept.old) × (drop (length united.now) bits.new ≡ drop (length united.now) bits.old) }
 {
-    keep_sets_by(united, &Planes::of(weights), kept, bits);
+    let n = united.len();
+    keep_sets_by(united, &Planes::of(weights), &mut kept[..n], &mut bits[..n]);
 }
 
-/// The same, where the digits of the weights are at hand.
+/// The same, where the digits of the weights are at hand, of two lists that have a place a mask.
 // Stays: s is a mask, and rows on both sides of it are read, so that its number is needed beside its rows.
 pub fn keep_sets_by(united: &[[u64; 2]], planes: &Planes, kept: &mut [[u64; 2]], bits: &mut [u64])
     requires { (length united.now ≤ 4096) × (length kept.old ≡ length united.now) × (length bits.old ≡ length united.now) }

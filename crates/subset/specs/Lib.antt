@@ -9,6 +9,7 @@ pub mod Stands
 pub mod Whole
 pub mod Counts
 pub mod Sets
+pub mod Ran
 pub mod Rooms
 pub mod Search
 pub mod Searched

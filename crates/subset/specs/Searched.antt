@@ -11,14 +11,15 @@ use Rattle.laws.specs.ListLaws.{range_length}
 use Rattle.laws.specs.Masks.{places_from}
 use Rattle.slots.specs.Weigh.{weighed_ext}
 use Rattle.masks.specs.Rows.{has_at, in_either}
-use Rattle.masks.specs.Tables.{member_has, root_has, United, KeptBelow, work_at}
+use Rattle.masks.specs.Tables.{member_has, root_has, work_at}
 use Rattle.masks.specs.Singles.{own_bits}
-use Rattle.subset.specs.Walk.{infinite, finite, passed_over, Filled, best_at, split_at}
+use Rattle.subset.specs.Walk.{infinite, finite, passed_over, best_at, split_at}
 use Rattle.subset.specs.Regions.{region_of}
 use Rattle.subset.specs.Stands.{Stands}
 use Rattle.subset.specs.Whole.{tables_stand}
 use Rattle.subset.specs.Counts.{all_tried}
 use Rattle.subset.specs.Sets.{full_places, not_full, keeps_is}
+use Rattle.subset.specs.Ran.{Ran}
 use Rattle.subset.specs.Search.{local_bits, found_at, searched_in, tried_in}
 
 -- ---- the answer ----
@@ -32,8 +33,7 @@ found_is part n cost best (Some f) e h =
     (ap Some (λ i. record { cost = (e ∙ h.0) i; tree = sym h.2 i }))
 
 module _ (was united kept : List (List ℕ)) (b wt cost part : List ℕ) (n m : ℕ) (limit : Option ℕ) (tried : ℕ) (masks : n ≡ 2 ^ m) (some_members : 1 ≤ m) (few : n ≤ 4096)
-    (u : United was united n n) (k : KeptBelow united wt kept b n n)
-    (filled : Filled (best_at cost) (split_at part) (work_at kept wt) n limit n tried)
+    (ran : Ran was united kept b wt cost part n limit tried)
   where
     abbrev has : ℕ → ℕ → Bool
     has = member_has was
@@ -45,7 +45,7 @@ module _ (was united kept : List (List ℕ)) (b wt cost part : List ℕ) (n m : 
     two = omega (arith, own_bits m)
 
     mask_keeps : (s j : ℕ) → 1 ≤ s → s < n → j < 128 → has_at kept s j ≡ keeps m has ext (local_bits wt) limit (places_from 0 n s) j
-    mask_keeps s j x y h = k.kept s j x y h ∙ keeps_is n m masks was united u (local_bits wt) limit s j x y h
+    mask_keeps s j x y h = ran.keeps.kept s j x y h ∙ keeps_is n m masks was united ran.done ran.root (local_bits wt) limit s j x y h
 
     bits : (l r : ℕ) → 1 ≤ l → l < n → 1 ≤ r → r < n
         → split_work m has ext (local_bits wt) limit (record { part = places_from 0 n l; rest = places_from 0 n r }) ≡ work_at kept wt l r
@@ -63,7 +63,7 @@ module _ (was united kept : List (List ℕ)) (b wt cost part : List ℕ) (n m : 
     answer : found_at part n (finite (best_at cost (n - 1))) ≡ cheapest m has ext (local_bits wt) limit m (range m)
     answer =
         found_is part n (best_at cost (n - 1)) (best_at cost) _ refl
-        (tables_stand n m has ext (local_bits wt) limit (best_at cost) (split_at part) (work_at kept wt) tried few filled bits skips (n - 1) (omega (arith, two)) (omega (arith, two)))
+        (tables_stand n m has ext (local_bits wt) limit (best_at cost) (split_at part) (work_at kept wt) tried few ran.filled bits skips (n - 1) (omega (arith, two)) (omega (arith, two)))
         ∙ ap (cheapest m has ext (local_bits wt) limit (suc n)) (sym (full_places n m masks (omega (arith, two))))
         ∙ best_same m has ext (local_bits wt) limit (suc n) m (range m) (omega (arith, range_length 0 m, own_bits m)) (omega (arith, range_length 0 m))
 
@@ -72,4 +72,4 @@ module _ (was united kept : List (List ℕ)) (b wt cost part : List ℕ) (n m : 
     search_found o e = ap (found_at part (2 ^ m)) e ∙ ap (λ x. found_at part x (finite (get_or cost (n - 1) 0))) (sym masks) ∙ answer
 
     pub search_tried : tried ≡ tried_in was wt limit m
-    search_tried = filled.count ∙ all_tried n m has ext (local_bits wt) limit (best_at cost) (work_at kept wt) masks skips
+    search_tried = ran.filled.count ∙ all_tried n m has ext (local_bits wt) limit (best_at cost) (work_at kept wt) masks skips

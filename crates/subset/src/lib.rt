@@ -1,6 +1,7 @@
 #![tactic(auto)]
 //! The search over the subsets of up to 12 members, as masks: for each the least cost of a tree over it, and the first split that has it.
 ghost use Rattle.std.specs.Prelude.{◌≡◌, ◌+◌, ◌*◌, ◌^◌, ◌<◌, ◌≤◌, IfSome, ltb, length};
+ghost use Rattle.std.specs.Option.{unwrap_or};
 ghost use Rattle.spec.specs.Improve.{over_limit};
 ghost use Rattle.slots.specs.Weigh.{Light};
 ghost use Rattle.masks.specs.Tables.{work_at, Sized};
@@ -55,8 +56,8 @@ fn step_cost(tables: &Tables, l: usize, r: usize, room: u64) -> Option<u64>
     }
 }
 
-// The split of `low` + `rest` whose part is `low` + `sub` is taken if it is strictly cheaper. It is not weighed where the costs of both
-// sides are too much already.
+// The split of `low` + `rest` whose part is `low` + `sub`, if it is strictly cheaper than the choice so far. It is not weighed where the costs of
+// both sides are too much already.
 fn consider(
     tables: &Tables,
     cost: &[u64],
@@ -64,32 +65,31 @@ fn consider(
     rest: usize,
     sub: usize,
     was: Choice,
-) -> Choice
+) -> Option<Choice>
     requires { (length cost.now ≡ length tables.now.bits.now) × (1 ≤ low) × (low + rest < length tables.now.bits.now) × (sub < rest) × (was.cost ≤ infinite) }
-    ensures { result ≡ considered (best_at cost.now) (work_at tables.now.kept.now tables.now.planes.weights.now) low rest sub was }
+    ensures { unwrap_or result was ≡ considered (best_at cost.now) (work_at tables.now.kept.now tables.now.planes.weights.now) low rest sub was }
 {
     let l = sub + low;
     let r = rest - sub;
-    let most = was.cost;
     let a = cost[l];
-    if most <= a {
-        return was;
+    if was.cost <= a {
+        return None;
     }
     let b = cost[r];
-    if most - a <= b {
-        return was;
+    if was.cost - a <= b {
+        return None;
     }
-    match step_cost(tables, l, r, most - a - b) {
-        Some(step) => Choice {
-            cost: a + b + step,
-            part: l,
-        },
-        None => was,
-    }
+    let step = step_cost(tables, l, r, was.cost - a - b)?;
+    Some(Choice {
+        cost: a + b + step,
+        part: l,
+    })
 }
 
 // The first cheapest split of `low` + `rest` whose part holds `low`.
 // Stays: the form that a rule of the project names: a loop whose break has the value.
+// Stays: `found` has a cost of 2^53 at first, which bounds each cost anyway. As an `Option<Choice>` it proves, but is turned into that bound for
+// each split: a search over 10 members then takes 5 % more instructions.
 fn cheapest_split(tables: &Tables, cost: &[u64], low: usize, rest: usize) -> Choice
     requires { (length cost.now ≡ length tables.now.bits.now) × (1 ≤ low) × (low + rest < length tables.now.bits.now) }
     ensures { result ≡ cheapest_of (best_at cost.now) (work_at tables.now.kept.now tables.now.planes.weights.now) (length tables.now.bits.now) low rest }
@@ -104,7 +104,7 @@ fn cheapest_split(tables: &Tables, cost: &[u64], low: usize, rest: usize) -> Cho
             break found;
         }
         sub = (sub - 1) & rest;
-        found = consider(tables, cost, low, rest, sub, found);
+        found = consider(tables, cost, low, rest, sub, found).unwrap_or(found);
     };
     cheapest
 }
@@ -214,8 +214,9 @@ fn finite(cost: u64) -> Option<u64>
 }
 
 /// The search over `m` members, whose local indices stand in the rows of the masks of one member, and the region's root's in row 0. The splits
-/// of the tree of that cost are in the list of parts. `limit` is the most bits of a table that is not the root's.
-// Stays: the lists of `masks` are of one place a mask; it is the search over all subsets that the crate is about.
+/// of the tree of that cost are in the list of parts. `limit` is the most bits of a table that is not the root's. A list may have more places
+/// than there are masks: only the first of them, one a mask, are read and written.
+// Stays: a list by mask is filled from the lowest mask up; it is what the crate is about, and no method of a list.
 pub fn search<'a>(masks: Masks<'a>, weights: &[u8], limit: Option<u16>, m: usize) -> Searched<'a>
     requires room { HasRoom masks (2 ^ m) }
     requires members { (1 ≤ m) × (m ≤ 12) }
@@ -232,6 +233,11 @@ pub fn search<'a>(masks: Masks<'a>, weights: &[u8], limit: Option<u16>, m: usize
         cost,
         part,
     } = masks;
+    let united = &mut united[..n];
+    let kept = &mut kept[..n];
+    let bits = &mut bits[..n];
+    let cost = &mut cost[..n];
+    let part = &mut part[..n];
     masks::unions(united);
     let planes = Planes::of(weights);
     masks::keep_sets_by(united, &planes, kept, bits);
