@@ -22,7 +22,7 @@ use Rattle.network.specs.Checks.{Lent, Fitting, lent_fitting, Rows}
 use Rattle.network.specs.Codes.{Facts, positive}
 use Rattle.nodesets.specs.Lists.{Ordered, ordered_steps}
 use Rattle.walk.specs.Wrong.{not_wrong}
-use Rattle.walk.specs.Entry.{first_some, by_network, past_network, past_length, holds_first, passes_first}
+use Rattle.walk.specs.Entry.{Untouched, first_some, by_network, past_network, past_length, holds_first, passes_first}
 use Rattle.pricing.specs.Promise.{Priceable, Room, Pricing}
 use Rattle.spec.specs.declared.Prices.{Prices}
 use Rattle.cost.specs.Answers.{room, Answered, TreeCost, too_few, wrong_flags, rest_call}
@@ -134,12 +134,21 @@ module _ (N : Network) (flags kids : List ℕ) where
         let q : u.refusal ≡ r = refused_same {A = Prices} u.refusal r (sym u.is ∙ is) in
         (is, ap touches (sym q) ∙ u.quiet)
 
+    -- with its number
+    pub refused_untouched : (k : ℕ) → k ≡ code_of (refusal_of N) → (k ≡ 0 → ⊥) → Untouched k call
+    unfolding price_call
+    refused_untouched k e z = by_network N (length_check lents ∷ rest) (Ok (price_of N (flag_at flags) (pairs_of kids))) k e z
+
     module _ (n : ℕ) (q : leaf_count N ≡ n) (ok : refusal_of N ≡ None) where
       pub call_few : too_few n words sets sizes works steps ≡ true → call ≡ Err ShortBuffer
       unfolding price_call too_few
       call_few h =
           past_network N (length_check lents ∷ rest) (Ok (price_of N (flag_at flags) (pairs_of kids))) ok
           ∙ holds_first (length_check lents) rest (Ok (price_of N (flag_at flags) (pairs_of kids))) (rw q h)
+
+      -- with its number, and nothing is touched
+      pub few_untouched : too_few n words sets sizes works steps ≡ true → Untouched 7 call
+      few_untouched h = record { refusal = ShortBuffer; is = call_few h; number = refl; quiet = refl }
 
       pub call_rest : too_few n words sets sizes works steps ≡ false → call ≡ rest_call N flags kids
       unfolding price_call too_few rest_call

@@ -20,7 +20,7 @@ use spec::{Prices, Refusal, Total};
 use walk::Tree;
 
 /// The exact total, and 0 where it is beyond.
-// Stays: the C interface writes 0 for a total that is beyond; no conversion, as it is not to be had back.
+// Stays: the C interface writes 0 for a total that is beyond; a `From` would hide at each call that the total may be lost.
 pub fn exact(total: Total) -> u64
     ensures { result ≡ exact_of total }
 {

@@ -11,16 +11,15 @@ ghost use Rattle.reconf.specs.Benches.{IsReady};
 ghost use Rattle.passes.specs.Sorted.{sorted};
 ghost use Rattle.passes.specs.Made.{VisitsAll, Passes, Improves};
 
-// Stays: `kids: &mut [u16], network: &Accepted`, `network: &Accepted, search: &Search`, `words: &mut [u64], list: &mut PriceList`: the tree is written and the price list filled anew within; of one value with all, each contract would have to say of each field that the same list is lent in it still.
-// Stays: `IsReady network.now search.now (length words.old) list.old`: of four values that different callers own, so it is no field of one of them.
-// Stays: `Standing (net_in network.now) (flag_at search.now.flags.now) kids.old list.old.sets.now list.old.sizes.now list.old.works.now`: of tree, price list, network and flags; a visit writes the first two, and a field of a struct would be proved anew at each write.
+// Stays: `kids: &mut [u16], task: &Task`, `words: &mut [u64], list: &mut PriceList`: the tree is written and the price list filled anew within; of one value with all, each contract would have to say of each field that the same list is lent in it still.
+// Stays: `IsReady task.now (length words.old) list.old`: of three values that different callers own, so it is no field of one of them.
+// Stays: `Standing (net_in task.now.network) (flag_at task.now.search.flags.now) kids.old list.old.sets.now list.old.sizes.now list.old.works.now`: of tree, price list, network and flags; a visit writes the first two, and a field of a struct would be proved anew at each write.
 // Stays: `IsSameLoan list.old list.new`, `IsAsLong list.old list.new`: what a caller that lends a price list has of it afterwards, said where it is lent on.
 
 mod falling; // falling.rt: nodes by falling work
 
-use network::Accepted;
 use pricing::list::PriceList;
-use reconf::{Search, Visited};
+use reconf::{Task, Visited};
 use walk::Tree;
 
 // Writes the nodes of the tree in `kids` to the front of `nodes`, by falling work, and returns how many they are.
@@ -47,21 +46,20 @@ fn visit_all(
     words: &mut [u64],
     list: &mut PriceList,
     kids: &mut [u16],
-    network: &Accepted,
-    search: &Search,
+    task: &Task,
     nodes: &[u16],
 ) -> Visited
-    requires ready { IsReady network.now search.now (length words.old) list.old }
-    requires standing { Standing (net_in network.now) (flag_at search.now.flags.now) kids.old list.old.sets.now list.old.sizes.now list.old.works.now }
-    requires nodes { (length nodes.now ≤ 127) × ((i : ℕ) → i < length nodes.now → get_or nodes.now i 0 < leaf_count (net_in network.now) + (leaf_count (net_in network.now) - 1)) }
+    requires ready { IsReady task.now (length words.old) list.old }
+    requires standing { Standing (net_in task.now.network) (flag_at task.now.search.flags.now) kids.old list.old.sets.now list.old.sizes.now list.old.works.now }
+    requires nodes { (length nodes.now ≤ 127) × ((i : ℕ) → i < length nodes.now → get_or nodes.now i 0 < leaf_count (net_in task.now.network) + (leaf_count (net_in task.now.network) - 1)) }
     ensures lent { IsSameLoan list.old list.new }
     ensures long { IsAsLong list.old list.new }
-    ensures visits { VisitsAll (net_in network.now) (flag_at search.now.flags.now) search.now.k search.now.limit nodes.now kids.old kids.new list.new.sets.now list.new.sizes.now list.new.works.now result.rebuilt result.tried }
+    ensures visits { VisitsAll (net_in task.now.network) (flag_at task.now.search.flags.now) task.now.search.k task.now.search.limit nodes.now kids.old kids.new list.new.sets.now list.new.sizes.now list.new.works.now result.rebuilt result.tried }
 {
     let mut rebuilt: u64 = 0;
     let mut tried: u64 = 0;
     for &v in nodes {
-        let made = reconf::visit(words, list, kids, network, search, v);
+        let made = reconf::visit(words, list, kids, task, v);
         rebuilt += made.rebuilt;
         tried += made.tried;
     }
@@ -70,22 +68,16 @@ fn visit_all(
 
 // One pass: the order of the nodes is fixed at its start.
 // Stays: the tree is written here; the C interface lends it as a flat list, two children a node.
-fn pass(
-    words: &mut [u64],
-    list: &mut PriceList,
-    kids: &mut [u16],
-    network: &Accepted,
-    search: &Search,
-) -> Visited
-    requires ready { IsReady network.now search.now (length words.old) list.old }
-    requires standing { Standing (net_in network.now) (flag_at search.now.flags.now) kids.old list.old.sets.now list.old.sizes.now list.old.works.now }
+fn pass(words: &mut [u64], list: &mut PriceList, kids: &mut [u16], task: &Task) -> Visited
+    requires ready { IsReady task.now (length words.old) list.old }
+    requires standing { Standing (net_in task.now.network) (flag_at task.now.search.flags.now) kids.old list.old.sets.now list.old.sizes.now list.old.works.now }
     ensures lent { IsSameLoan list.old list.new }
     ensures long { IsAsLong list.old list.new }
-    ensures passes { Passes (net_in network.now) (flag_at search.now.flags.now) search.now.k search.now.limit kids.old kids.new list.new.sets.now list.new.sizes.now list.new.works.now result.rebuilt result.tried }
+    ensures passes { Passes (net_in task.now.network) (flag_at task.now.search.flags.now) task.now.search.k task.now.search.limit kids.old kids.new list.new.sets.now list.new.sizes.now list.new.works.now result.rebuilt result.tried }
 {
     let mut nodes = [0u16; 128];
-    let c = order_nodes(kids, network.leaf_count(), words, list, &mut nodes);
-    visit_all(words, list, kids, network, search, &nodes[..c])
+    let c = order_nodes(kids, task.network.leaf_count(), words, list, &mut nodes);
+    visit_all(words, list, kids, task, &nodes[..c])
 }
 
 /// Improves the tree `kids` of a network, whose price list is at hand: passes, at most as many as asked, until one rebuilds nothing. `words` is worked in.
@@ -94,21 +86,20 @@ pub fn improve(
     words: &mut [u64],
     list: &mut PriceList,
     kids: &mut [u16],
-    network: &Accepted,
-    search: &Search,
+    task: &Task,
     most: usize,
 ) -> Visited
-    requires ready { IsReady network.now search.now (length words.old) list.old }
-    requires standing { Standing (net_in network.now) (flag_at search.now.flags.now) kids.old list.old.sets.now list.old.sizes.now list.old.works.now }
+    requires ready { IsReady task.now (length words.old) list.old }
+    requires standing { Standing (net_in task.now.network) (flag_at task.now.search.flags.now) kids.old list.old.sets.now list.old.sizes.now list.old.works.now }
     requires most { most ≤ 255 }
     ensures lent { IsSameLoan list.old list.new }
     ensures long { IsAsLong list.old list.new }
-    ensures improves { Improves (net_in network.now) (flag_at search.now.flags.now) search.now.k search.now.limit most kids.old kids.new list.new.sets.now list.new.sizes.now list.new.works.now result.rebuilt result.tried }
+    ensures improves { Improves (net_in task.now.network) (flag_at task.now.search.flags.now) task.now.search.k task.now.search.limit most kids.old kids.new list.new.sets.now list.new.sizes.now list.new.works.now result.rebuilt result.tried }
 {
     let mut rebuilt: u64 = 0;
     let mut tried: u64 = 0;
     for _ in 0..most {
-        let made = pass(words, list, kids, network, search);
+        let made = pass(words, list, kids, task);
         rebuilt += made.rebuilt;
         tried += made.tried;
         if made.rebuilt == 0 {

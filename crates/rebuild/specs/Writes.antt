@@ -47,22 +47,32 @@ put_is kids a b n v l r j ej ea eb =
 
 -- ---- a node over two ----
 
-pub join_none : (kids : List ℕ) (old new : Freed) (n l r : ℕ) → IsTaken old new None
+pub join_none : (kids opened : List ℕ) (n l r left : ℕ) → left ≡ 0 → wrote kids opened 0 0 ≡ write n (pairs_of kids) l r (freed opened left)
+unfolding wrote freed
+join_none kids opened n l r left e = ap (λ x. write n (pairs_of kids) l r (freed opened x)) (sym e)
+
+pub join_some : (kids opened b : List ℕ) (n l r left v : ℕ) → (left ≡ 0 → ⊥) → v ≡ get_or opened (left - 1) 0 → pairs_of b ≡ with_pair (pairs_of kids) n v l r
+    → wrote b opened v (left - 1) ≡ write n (pairs_of kids) l r (freed opened left)
+unfolding wrote freed with_pair
+join_some kids opened b n l r left v f ev eb =
+    let z : left ≡ suc (left - 1) = omega (arith, f) in
+    let now : write n (pairs_of kids) l r (freed opened left) ≡ write n (pairs_of kids) l r (get_or opened (left - 1) 0 ∷ freed opened (left - 1)) =
+    ap (λ x. write n (pairs_of kids) l r (freed opened x)) z in
+    (λ i. record { array = eb i; top = v; slots = freed opened (left - 1) })
+    ∙ ap (λ x. write n (pairs_of kids) l r (x ∷ freed opened (left - 1))) ev
+    ∙ sym now
+
+-- by the number that is taken
+pub taken_none : (kids : List ℕ) (old new : Freed) (n l r : ℕ) → IsTaken old new None
     → wrote kids new.nodes.now 0 new.left ≡ write n (pairs_of kids) l r (freed old.nodes.now old.left)
 unfolding wrote freed
-join_none kids old new n l r h =
-    ap (λ x. record { array = pairs_of kids; top = 0; slots = freed new.nodes.now x }) h.1 ∙ ap (λ x. write n (pairs_of kids) l r (freed old.nodes.now x)) (sym h.0)
+taken_none kids old new n l r h =
+    ap (λ x. record { array = pairs_of kids; top = 0; slots = freed new.nodes.now x }) h.1 ∙ join_none kids old.nodes.now n l r old.left h.0
 
-pub join_some : (kids b : List ℕ) (old new : Freed) (n l r v : ℕ) → IsTaken old new (Some v) → pairs_of b ≡ with_pair (pairs_of kids) n v l r
+pub taken_some : (kids b : List ℕ) (old new : Freed) (n l r v : ℕ) → IsTaken old new (Some v) → pairs_of b ≡ with_pair (pairs_of kids) n v l r
     → wrote b new.nodes.now v new.left ≡ write n (pairs_of kids) l r (freed old.nodes.now old.left)
-unfolding wrote freed with_pair
-join_some kids b old new n l r v h eb =
-    let z : old.left ≡ suc (old.left - 1) = omega (arith, h.0) in
-    let now : write n (pairs_of kids) l r (freed old.nodes.now old.left) ≡ write n (pairs_of kids) l r (get_or old.nodes.now (old.left - 1) 0 ∷ freed old.nodes.now (old.left - 1)) =
-    ap (λ x. write n (pairs_of kids) l r (freed old.nodes.now x)) z in
-    (λ i. record { array = eb i; top = v; slots = freed (h.3 i) (h.2 i) })
-    ∙ ap (λ x. write n (pairs_of kids) l r (x ∷ freed old.nodes.now (old.left - 1))) h.1
-    ∙ sym now
+taken_some kids b old new n l r v h eb =
+    ap₂ (λ x y. wrote b x v y) h.3 h.2 ∙ join_some kids old.nodes.now b n l r old.left v (λ z. omega (arith, h.0)) h.1 eb
 
 -- ---- the part of a mask ----
 

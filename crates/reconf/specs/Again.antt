@@ -1,7 +1,8 @@
 -- A visit and the pricing after it: the price list of the tree that then stands, whose total is not beyond. Assumes nothing.
-use Rattle.std.specs.Prelude.{Bool, false, List, ◌≡◌, ℕ, ◌^◌, ◌≤◌, ◌<◌, length, Option}
-use Rattle.std.proofs.Common.{sym, ap, subst, arith}
+use Rattle.std.specs.Prelude.{Bool, false, List, ◌≡◌, ℕ, ◌+◌, ◌-◌, ◌^◌, ◌≤◌, ◌<◌, Option}
+use Rattle.std.proofs.Common.{sym, ap, subst, arith, ◌∙◌}
 use Rattle.spec.specs.Network.{Network, leaf_count}
+use Rattle.spec.specs.Layout.{network_of}
 use Rattle.spec.specs.Tree.{Tree, pairs_of, ValidTree}
 use Rattle.spec.specs.Price.{listing, work}
 use Rattle.spec.specs.Calls.{flag_at, wrong_tree, total_is_beyond, dangling}
@@ -10,28 +11,45 @@ use Rattle.laws.specs.TreePrices.{total_below}
 use Rattle.laws.specs.ImprovedTotal.{visit_lower}
 use Rattle.laws.specs.ImprovedWork.{listing_work, not_beyond, beyond_not, no_dangling}
 use Rattle.network.specs.Lists.{Holds}
-use Rattle.network.specs.Views.{net_in, in_facts, in_indices}
-use Rattle.network.specs.Layouts.{layout_weight}
+use Rattle.network.specs.Views.{net_in, in_facts, in_leaves}
+use Rattle.network.specs.Codes.{Facts}
+use Rattle.network.specs.Layouts.{layout_leaf_count, layout_index_count, layout_weight}
 use Rattle.network.specs.declared.accepted.Accepted.{Accepted}
 use Rattle.reprice.specs.Held.{tree_of, PriceHeld, Standing}
 use Rattle.reprice.specs.Laws.{right_valid}
 use Rattle.reconf.specs.Node.{Visitable}
 use Rattle.reconf.specs.Visits.{Reconfs, Visits}
 
--- what a visit asks is there: for an accepted network, and its n leaves
-pub visitable : (a : Accepted) → Holds a.weights.now a.leg_counts.now a.legs.now a.outputs.now → (n : ℕ) → n ≡ leaf_count (net_in a)
-    → (flags kids sets sizes works : List ℕ) → Standing (net_in a) (flag_at flags) kids sets sizes works
-    → Visitable (net_in a) n a.weights.now flags kids sets works
-visitable a h n e flags kids sets sizes works s =
+-- what a visit asks is there
+pub visitable : {m n o : ℕ} {weights counts rows outputs : List ℕ} (flags kids sets sizes works : List ℕ) → Facts m n o weights counts rows outputs
+    → Standing (network_of m n o weights counts rows outputs) (flag_at flags) kids sets sizes works
+    → Visitable (network_of m n o weights counts rows outputs) n weights flags kids sets works
+visitable {m} {n} {o} {weights} {counts} {rows} {outputs} flags kids sets sizes works f s =
     record {
       sizes = sizes;
-      leaves = sym e;
-      accepted = (in_facts a h).accepted;
-      weighs = λ j b. sym (layout_weight (length a.weights.now) (length a.leg_counts.now) (length a.outputs.now) a.weights.now a.leg_counts.now a.legs.now a.outputs.now j (omega (arith, in_indices a)));
+      leaves = layout_leaf_count m n o weights counts rows outputs;
+      accepted = f.accepted;
+      weighs = λ j b. sym (layout_weight m n o weights counts rows outputs j (omega (arith, layout_index_count m n o weights counts rows outputs)));
       right = s.right;
       prices = s.prices;
       total = s.total;
     }
+
+-- for an accepted network, and its n leaves
+pub visitable_in : (a : Accepted) → Holds a.weights.now a.leg_counts.now a.legs.now a.outputs.now → (n : ℕ) → n ≡ leaf_count (net_in a)
+    → (flags kids sets sizes works : List ℕ) → Standing (net_in a) (flag_at flags) kids sets sizes works
+    → Visitable (net_in a) n a.weights.now flags kids sets works
+visitable_in a h n e flags kids sets sizes works s =
+    subst (λ y. Visitable (net_in a) y a.weights.now flags kids sets works) (sym (in_leaves a) ∙ sym e) (visitable flags kids sets sizes works (in_facts a h) s)
+
+-- for the leaves as they are counted
+pub right_n : (m n o : ℕ) (weights counts rows outputs kids : List ℕ) → wrong_tree (leaf_count (network_of m n o weights counts rows outputs)) kids ≡ false
+    → wrong_tree n kids ≡ false
+right_n m n o weights counts rows outputs kids e = subst (λ y. wrong_tree y kids ≡ false) (layout_leaf_count m n o weights counts rows outputs) e
+
+-- there is a leaf
+pub some_leaf : (m n o : ℕ) (weights counts rows outputs : List ℕ) (v : ℕ) → v < n + (n - 1) → 1 ≤ leaf_count (network_of m n o weights counts rows outputs)
+some_leaf m n o weights counts rows outputs v h = omega (arith, layout_leaf_count m n o weights counts rows outputs)
 
 module _ {N : Network} {flag : ℕ → Bool} {k : ℕ} {limit : Option ℕ} {v : ℕ} {kids₀ kids : List ℕ} {rebuilt tried : ℕ}
     (r : Reconfs N flag k limit v kids₀ kids rebuilt tried)

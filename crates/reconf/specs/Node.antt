@@ -1,7 +1,7 @@
 -- The visit of a node on lists: its subtree, its frontier as the lists have it, what its opened nodes cost; it is left, stays or is rebuilt.
 -- Assumes nothing.
 use Rattle.std.specs.Prelude.{Bool, true, false, not, ◌||◌, List, ◌≡◌, refl, ℕ, suc, ◌+◌, ◌-◌, ◌%◌, ◌^◌, ◌≤◌, ◌<◌, eqb, length, get_or, set, take, Option}
-use Rattle.std.proofs.Common.{sym, ap₂, ◌∙◌, subst, arith}
+use Rattle.std.proofs.Common.{sym, ap₂, ◌∙◌, subst, arith, get_or-take}
 use Rattle.std.proofs.Math.Path.{ap}
 use Rattle.std.proofs.lemmas.List.{length-map}
 use Rattle.spec.specs.Lists.{memb}
@@ -115,13 +115,19 @@ module _ {N : Network} {x : ℕ} {weights flags kids sets works : List ℕ} (h :
         pub taken : length (take m members) ≡ m
         taken = ap length fronts.members ∙ length-map fr.members number ∙ sym fronts.count
 
-        pub names : (p : ℕ) → get_or (take m members) p 0 ≡ number (member fr.members p)
-        names p = ap (λ z. get_or z p 0) fronts.members ∙ number_at fr.members p
+        pub taken_names : (p : ℕ) → get_or (take m members) p 0 ≡ number (member fr.members p)
+        taken_names p = ap (λ z. get_or z p 0) fronts.members ∙ number_at fr.members p
 
-        pub has : (p j : ℕ) → p < length fr.members → j < 256 → held sets 4 (get_or (take m members) p 0) j ≡ memb j (lists N (member fr.members p))
-        has p j b c =
-            ap (λ u. held sets 4 u j) (names p)
+        pub names : (p : ℕ) → p < m → get_or members p 0 ≡ number (member fr.members p)
+        names p b = sym (get_or-take m members p 0 b) ∙ taken_names p
+
+        pub taken_has : (p j : ℕ) → p < length fr.members → j < 256 → held sets 4 (get_or (take m members) p 0) j ≡ memb j (lists N (member fr.members p))
+        taken_has p j b c =
+            ap (λ u. held sets 4 u j) (taken_names p)
             ∙ slot_has h.prices long (member fr.members p) (described p) (placed p) j c
+
+        pub has : (p j : ℕ) → p < length fr.members → j < 256 → held sets 4 (get_or members p 0) j ≡ memb j (lists N (member fr.members p))
+        has p j b c = ap (λ u. held sets 4 u j) (sym (get_or-take m members p 0 (omega (arith, fronts.count)))) ∙ taken_has p j b c
 
         -- ---- the cost of the opened nodes ----
 

@@ -13,9 +13,9 @@ ghost use Rattle.reconf.specs.Node.{Visitable};
 ghost use Rattle.reconf.specs.Visits.{Searches, Reconfs, Visits};
 ghost use Rattle.reconf.specs.Benches.{IsReady};
 
-// Stays: `kids: &mut [u16], network: &Accepted`, `network: &Accepted, search: &Search`, `words: &mut [u64], list: &mut PriceList`: the tree is written and the price list filled anew within; of one value with all, each contract would have to say of each field that the same list is lent in it still.
-// Stays: `IsReady network.now search.now (length words.old) list.old`: of four values that different callers own, so it is no field of one of them.
-// Stays: `Standing (net_in network.now) (flag_at search.now.flags.now) kids.old list.old.sets.now list.old.sizes.now list.old.works.now`: of tree, price list, network and flags; a visit writes the first two, and a field of a struct would be proved anew at each write.
+// Stays: `kids: &mut [u16], task: &Task`, `words: &mut [u64], list: &mut PriceList`: the tree is written and the price list filled anew within; of one value with all, each contract would have to say of each field that the same list is lent in it still.
+// Stays: `IsReady task.now (length words.old) list.old`: of three values that different callers own, so it is no field of one of them.
+// Stays: `Standing (net_in task.now.network) (flag_at task.now.search.flags.now) kids.old list.old.sets.now list.old.sizes.now list.old.works.now`: of tree, price list, network and flags; a visit writes the first two, and a field of a struct would be proved anew at each write.
 // Stays: `IsSameLoan list.old list.new`, `IsAsLong list.old list.new`: what a caller that lends a price list has of it afterwards, said where it is lent on.
 
 mod search; // search.rt: what a search is asked for
@@ -25,7 +25,7 @@ use masks::Masks;
 use network::Accepted;
 use pricing::list::PriceList;
 use rebuild::Freed;
-pub use search::Search;
+pub use search::{Search, Task};
 use subset::Searched;
 
 // Writes the unsliced indices that one of the members lists to the front of `local`, rising, and returns how many they are.
@@ -91,7 +91,7 @@ fn accepts(cost: Option<u64>, old: u64) -> bool
 }
 
 /// What a visit did: how many rebuilds, how many splits tried.
-// Stays: two counts of a visit; of the same shape are other pairs of numbers, of other things.
+// Stays: how many rebuilds and how many splits; one type for these and for another two numbers could name neither.
 #[derive(Clone, Copy)]
 pub struct Visited {
     pub rebuilt: u64,
@@ -156,18 +156,26 @@ fn reconf_listed(
     words: &mut [u64],
     list: &PriceList,
     kids: &mut [u16],
-    network: &Accepted,
-    search: &Search,
+    task: &Task,
     v: u16,
 ) -> Visited
-    requires standing { Standing (net_in network.now) (flag_at search.now.flags.now) kids.old list.now.sets.now list.now.sizes.now list.now.works.now }
-    requires node { v < leaf_count (net_in network.now) + (leaf_count (net_in network.now) - 1) }
-    requires words { 4096 + 8 * 2 ^ search.now.k ≤ length words.old }
-    ensures { Reconfs (net_in network.now) (flag_at search.now.flags.now) search.now.k search.now.limit v kids.old kids.new result.rebuilt result.tried }
+    requires standing { Standing (net_in task.now.network) (flag_at task.now.search.flags.now) kids.old list.now.sets.now list.now.sizes.now list.now.works.now }
+    requires node { v < leaf_count (net_in task.now.network) + (leaf_count (net_in task.now.network) - 1) }
+    requires words { 4096 + 8 * 2 ^ task.now.search.k ≤ length words.old }
+    ensures { Reconfs (net_in task.now.network) (flag_at task.now.search.flags.now) task.now.search.k task.now.search.limit v kids.old kids.new result.rebuilt result.tried }
 {
-    let n = network.leaf_count();
-    let weights = network.weights;
-    reconf_node(words, list.sets, list.works, kids, n, weights, search, v)
+    let n = task.network.leaf_count();
+    let weights = task.network.weights;
+    reconf_node(
+        words,
+        list.sets,
+        list.works,
+        kids,
+        n,
+        weights,
+        &task.search,
+        v,
+    )
 }
 
 /// Visits node `v` of the tree `kids` of a network, whose price list is at hand: the region below it, down to a frontier of at most as many members as
@@ -177,21 +185,20 @@ pub fn visit(
     words: &mut [u64],
     list: &mut PriceList,
     kids: &mut [u16],
-    network: &Accepted,
-    search: &Search,
+    task: &Task,
     v: u16,
 ) -> Visited
-    requires ready { IsReady network.now search.now (length words.old) list.old }
-    requires standing { Standing (net_in network.now) (flag_at search.now.flags.now) kids.old list.old.sets.now list.old.sizes.now list.old.works.now }
-    requires node { v < leaf_count (net_in network.now) + (leaf_count (net_in network.now) - 1) }
+    requires ready { IsReady task.now (length words.old) list.old }
+    requires standing { Standing (net_in task.now.network) (flag_at task.now.search.flags.now) kids.old list.old.sets.now list.old.sizes.now list.old.works.now }
+    requires node { v < leaf_count (net_in task.now.network) + (leaf_count (net_in task.now.network) - 1) }
     ensures lent { IsSameLoan list.old list.new }
     ensures long { IsAsLong list.old list.new }
-    ensures visits { Visits (net_in network.now) (flag_at search.now.flags.now) search.now.k search.now.limit v kids.old kids.new list.new.sets.now list.new.sizes.now list.new.works.now result.rebuilt result.tried }
+    ensures visits { Visits (net_in task.now.network) (flag_at task.now.search.flags.now) task.now.search.k task.now.search.limit v kids.old kids.new list.new.sets.now list.new.sizes.now list.new.works.now result.rebuilt result.tried }
 {
-    let made = reconf_listed(words, list, kids, network, search, v);
+    let made = reconf_listed(words, list, kids, task, v);
     if made.rebuilt == 0 {
         return made;
     }
-    reprice::price(words, list, kids, network, search.flags);
+    reprice::price(words, list, kids, &task.network, task.search.flags);
     made
 }

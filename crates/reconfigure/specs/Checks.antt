@@ -7,14 +7,14 @@ use Rattle.spec.specs.declared.Refusal.TheVariants.{TooLarge, ShortBuffer, Inval
 use Rattle.std.proofs.Common.{sym, ◌∙◌, subst, arith, lt-ltb, le-ltb}
 use Rattle.std.proofs.Math.Path.{ap}
 use Rattle.spec.specs.Memory.{cleared}
-use Rattle.spec.specs.Refusal.{Check, check, checked}
+use Rattle.spec.specs.Refusal.{code_of, Check, check, checked}
 use Rattle.spec.specs.Network.{Network, leaf_count, index_count, network_checks, refusal_of}
 use Rattle.spec.specs.Tree.{Tree, Pair, tree_at, root, pairs_of}
 use Rattle.spec.specs.Improve as spec
 use Rattle.spec.specs.Improve.{clamped, improve_at, improve}
 use Rattle.spec.specs.Calls.{lent, length_check, wrong_tree, tree_check, flags_check, flag_at, total_is_beyond, beyond_check, dangling, dangling_check, improve_words, improve_call, workspace_after, touches}
 use Rattle.laws.specs.Booleans.{or_introl}
-use Rattle.walk.specs.Entry.{past_network, network_refused, past_length, too_short, quiet_words, holds_first, passes_first}
+use Rattle.walk.specs.Entry.{Untouched, by_network, past_network, network_refused, past_length, too_short, quiet_words, holds_first, passes_first}
 use Rattle.cost.specs.Answers.{wrong_flags}
 use Rattle.subset.specs.Search.{limit_of}
 use Rattle.reconf.specs.declared.Visited.{Visited}
@@ -112,6 +112,10 @@ module _ (N : Network) (k passes : ℕ) (limit : Option ℕ) (flags kids : List 
         holds_large : (b : Bool) → b ≡ true → checked (network_checks b N ++ later) result ≡ Err TooLarge
         holds_large b e = rw e
 
+    -- with its number, and nothing is touched
+    pub large_untouched : 255 < passes → Untouched 3 call
+    large_untouched h = record { refusal = TooLarge; is = call_large h; number = refl; quiet = refl }
+
     module _ (few : passes ≤ 255) where
       few_passes : call ≡ checked (network_checks false N ++ later) result
       unfolding improve_call
@@ -119,6 +123,9 @@ module _ (N : Network) (k passes : ℕ) (limit : Option ℕ) (flags kids : List 
 
       pub call_refused : (r : Refusal) → refusal_of N ≡ Some r → call ≡ Err r
       call_refused r e = few_passes ∙ network_refused N later result r e
+
+      pub refused_untouched : (c : ℕ) → c ≡ code_of (refusal_of N) → (c ≡ 0 → ⊥) → Untouched c call
+      refused_untouched c e z = subst (Untouched c) (sym few_passes) (by_network N later result c e z)
 
       module _ (ok : refusal_of N ≡ None) where
         past_checks : call ≡ checked later result
@@ -128,6 +135,9 @@ module _ (N : Network) (k passes : ℕ) (limit : Option ℕ) (flags kids : List 
         call_short h =
             past_checks
             ∙ too_short (lent words (improve_words k) ∷ []) last result (or_introl (ltb words (improve_words k)) false (lt-ltb words (improve_words k) h))
+
+        pub short_untouched : words < improve_words k → Untouched 7 call
+        short_untouched h = record { refusal = ShortBuffer; is = call_short h; number = refl; quiet = refl }
 
         pub call_rest : improve_words k ≤ words → call ≡ rest_call N k passes limit flags kids
         unfolding rest_call

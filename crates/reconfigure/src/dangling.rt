@@ -28,7 +28,7 @@ fn tally_row(tally: &mut [u8], row: &[u16])
 }
 
 // Counts the indices of `n` leaves.
-// Stays: i is the leaf that `scan::leaf` cuts out of both lists.
+// Stays: i is the leaf whose row `scan::leaf` cuts out of `legs`, by its count.
 fn tally_leaves<'a>(tally: &mut [u8], n: usize, counts: &'a [u8], legs: &'a [u16])
     requires { Rows n counts.now legs.now }
     ensures { tally.new ≡ tally_rows tally.old (leaves_of n counts.now legs.now) }
@@ -39,7 +39,7 @@ fn tally_leaves<'a>(tally: &mut [u8], n: usize, counts: &'a [u8], legs: &'a [u16
 }
 
 // Strikes the counts of the indices of a row.
-// Stays: no plainer as one with `clear_outputs` of slicing: that crate would be depended on for a loop of one line, with a promise of weights.
+// Stays: it goes over a row that is there whole; `clear_outputs` of slicing reads a list that may be too short, and a place past its end as 0.
 fn strike(tally: &mut [u8], row: &[u16])
     ensures { tally.new ≡ struck tally.old row.now }
 {

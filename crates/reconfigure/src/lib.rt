@@ -10,14 +10,14 @@ ghost use Rattle.network.specs.Views.{net_in};
 ghost use Rattle.pricing.specs.Sums.{work_sum};
 ghost use Rattle.reconfigure.specs.Answers.{rest_call, last_call, Follows, Improving};
 
-// Stays: `network: &Accepted, search: &Search`, `tree: &mut [u16], ws: &mut [u64]`: what each entry is handed by its caller, of several owners; a struct would be filled for one call.
+// Stays: `tree: &mut [u16], ws: &mut [u64]`, `kids: &mut [u16], ws: &mut [u64]`: what each entry is handed by its caller, of several owners; a struct would be filled for one call.
 // Stays: `most ≤ 255`: a bound of a number, so that the counts of all passes fit a word; a type of its own would be unwrapped at each use.
 
 pub mod dangling; // dangling.rt: indices that just one leaf names
 
 use network::{Accepted, Network};
 use pricing::list::PriceList;
-use reconf::{Search, Visited};
+use reconf::{Search, Task, Visited};
 use spec::{Refusal, Total};
 
 /// What improvement is asked for.
@@ -71,16 +71,15 @@ fn is_total_beyond(list: &PriceList, n: usize) -> bool
 // The answer where the tree is valid and the flags are right.
 // Stays: no heap: the three lists of a price list are local arrays here, filled once and lent on.
 fn improve_valid(
-    network: &Accepted,
-    search: &Search,
+    task: &Task,
     most: usize,
     kids: &mut [u16],
     ws: &mut [u64],
 ) -> Result<Visited, Refusal>
-    requires words { 4096 + 8 * 2 ^ search.now.k ≤ length ws.old }
+    requires words { 4096 + 8 * 2 ^ task.now.search.k ≤ length ws.old }
     requires most { most ≤ 255 }
-    requires right { wrong_tree (leaf_count (net_in network.now)) kids.old ≡ false }
-    ensures { Follows (last_call (net_in network.now) search.now.k most search.now.limit search.now.flags.now kids.old) kids.old kids.new result }
+    requires right { wrong_tree (leaf_count (net_in task.now.network)) kids.old ≡ false }
+    ensures { Follows (last_call (net_in task.now.network) task.now.search.k most task.now.search.limit task.now.search.flags.now kids.old) kids.old kids.new result }
 {
     let mut sets = [0u64; 1020];
     let mut sizes = [0u16; 255];
@@ -90,36 +89,35 @@ fn improve_valid(
         sizes: &mut sizes,
         works: &mut works,
     };
-    reprice::price(ws, &mut list, kids, network, search.flags);
-    if is_total_beyond(&list, network.leaf_count()) {
+    reprice::price(ws, &mut list, kids, &task.network, task.search.flags);
+    if is_total_beyond(&list, task.network.leaf_count()) {
         return Err(Refusal::TotalBeyond);
     }
-    if dangling::is_dangling(network) {
+    if dangling::is_dangling(&task.network) {
         return Err(Refusal::DanglingIndex);
     }
-    Ok(passes::improve(ws, &mut list, kids, network, search, most))
+    Ok(passes::improve(ws, &mut list, kids, task, most))
 }
 
 // The answer where the workspace is long enough. On a refusal only `ws` is written.
 // Stays: the tree is checked and written here; the C interface lends it as a flat list, two children a node.
 fn improve_tree(
-    network: &Accepted,
-    search: &Search,
+    task: &Task,
     most: usize,
     kids: &mut [u16],
     ws: &mut [u64],
 ) -> Result<Visited, Refusal>
-    requires words { 4096 + 8 * 2 ^ search.now.k ≤ length ws.old }
+    requires words { 4096 + 8 * 2 ^ task.now.search.k ≤ length ws.old }
     requires most { most ≤ 255 }
-    ensures { Follows (rest_call (net_in network.now) search.now.k most search.now.limit search.now.flags.now kids.old) kids.old kids.new result }
+    ensures { Follows (rest_call (net_in task.now.network) task.now.search.k most task.now.search.limit task.now.search.flags.now kids.old) kids.old kids.new result }
 {
-    if !walk::is_tree(kids, network.leaf_count(), ws) {
+    if !walk::is_tree(kids, task.network.leaf_count(), ws) {
         return Err(Refusal::InvalidTree);
     }
-    if cost::wrong_flags(network.index_count(), search.flags) {
+    if cost::wrong_flags(task.network.index_count(), task.search.flags) {
         return Err(Refusal::InvalidFlags);
     }
-    improve_valid(network, search, most, kids, ws)
+    improve_valid(task, most, kids, ws)
 }
 
 /// Improves the tree of an accepted network where it stands. Refusals, in this order: `ShortBuffer`, `InvalidTree`, `InvalidFlags`, `TotalBeyond`,
@@ -144,7 +142,11 @@ pub fn improve_of(
         k,
         limit: ask.limit,
     };
-    let answer = improve_tree(network, &search, ask.passes, tree, &mut ws[..words]);
+    let task = Task {
+        network: *network,
+        search,
+    };
+    let answer = improve_tree(&task, ask.passes, tree, &mut ws[..words]);
     cells::clear(ws, words);
     answer
 }

@@ -15,7 +15,7 @@ use pricing::list::PriceList;
 use walk::Tree;
 
 /// Prices the tree `kids` of a network with the given flags, in sets of four words: each node's set, size bits and work bits. `words` is worked in.
-// Stays: the C interface lends flags, tree and workspace apart, the tree as a flat list, which improvement has just written.
+// Stays: the C interface lends flags, tree and workspace apart, the tree as a flat list, which improvement writes between two prices.
 pub fn price(
     words: &mut [u64],
     list: &mut PriceList,

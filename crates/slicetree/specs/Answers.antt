@@ -6,12 +6,12 @@ use Rattle.spec.specs.declared.Refusal.TheVariants.{ShortBuffer, InvalidTree, To
 use Rattle.spec.specs.Memory.{cleared, copied}
 use Rattle.spec.specs.Network.{Network, leaf_count, index_count, refusal_of}
 use Rattle.spec.specs.Tree.{pairs_of, flat_of}
-use Rattle.spec.specs.Refusal.{Check, check, first, decide, checked}
+use Rattle.spec.specs.Refusal.{code_of, Check, check, first, decide, checked}
 use Rattle.spec.specs.Calls.{Lent, lent, length_check, plain_words, slice_words, wrong_tree, tree_check, beyond_check, total_is_beyond, dangling, dangling_check, dangling_if, follow_up, slice_call, sliced_tree, sliced_flags, workspace_after}
 use Rattle.spec.specs.Slicing.{Plan, slice_loop}
 use Rattle.laws.specs.Booleans.{clash}
 use Rattle.laws.specs.Results.{not_done, refused_same}
-use Rattle.walk.specs.Entry.{network_refused, network_quiet, quiet_words, quiet_list, past_network, too_short, past_length, holds_first, passes_first}
+use Rattle.walk.specs.Entry.{Untouched, by_network, network_refused, network_quiet, quiet_words, quiet_list, past_network, too_short, past_length, holds_first, passes_first}
 use Rattle.reconf.specs.declared.Visited.{Visited}
 use Rattle.slicing.specs.Promise.{plan_with}
 use Rattle.slicing.specs.Turns.{Sliced as Turned}
@@ -50,6 +50,11 @@ module _ (N : Network) (improving : Bool) (target : ℕ) (kids : List ℕ) where
   pub call_refused : (words places : ℕ) (r : Refusal) → refusal_of N ≡ Some r → slice_call N improving target words places kids ≡ Err r
   unfolding slice_call
   call_refused words places r e = network_refused N (in_checks words places) sliced r e
+
+  -- with its number, and nothing is touched
+  pub refused_untouched : (words places k : ℕ) → k ≡ code_of (refusal_of N) → (k ≡ 0 → ⊥) → Untouched k (slice_call N improving target words places kids)
+  unfolding slice_call
+  refused_untouched words places k e z = by_network N (in_checks words places) sliced k e z
 
   pub call_accepted : (words places : ℕ) → refusal_of N ≡ None → slice_call N improving target words places kids ≡ slice_in words places
   unfolding slice_call slice_in

@@ -11,7 +11,7 @@ ghost use Rattle.slicetree.specs.Choices.{Stands, Taken, ChoicesMade};
 
 use network::Accepted;
 use pricing::list::PriceList;
-use reconf::{Search, Visited};
+use reconf::{Search, Task, Visited};
 use walk::Tree;
 
 // One pass at k = 8 with the limit that the widest table or the target sets.
@@ -44,7 +44,11 @@ fn improve_once(
         k: 8,
         limit: Some(slicing::limit(widest, target)),
     };
-    passes::improve(words, &mut list, kids, network, &search, 1)
+    let task = Task {
+        network: *network,
+        search,
+    };
+    passes::improve(words, &mut list, kids, &task, 1)
 }
 
 // A turn on the tree as it stands: flags one index more, unless slicing is done, and improves the tree; what the pass did.

@@ -121,7 +121,7 @@ fn slice_in(
 
 /// Slices the tree of an accepted network, as `slice` does. Refusals, in this order: `ShortBuffer`, `InvalidTree`, `TotalBeyond`, and with
 /// improvement `DanglingIndex`.
-// Stays: slicing of an accepted network's tree, no conversion.
+// Stays: `_of` an accepted network, as `slice` is of any; the tree is sliced where it stands.
 pub fn slice_of(
     network: &Accepted,
     improving: bool,

@@ -1,13 +1,13 @@
 -- The call of pricing for a list of records. Assumes nothing.
 use Rattle.std.specs.Prelude.{Bool, true, List, [], ◌∷◌, ◌≡◌, refl, ℕ, ◌*◌, ◌<◌, ◌≤◌, ltb, length, take, drop, Option, None, Some, Result, Err, Ok}
 use Rattle.std.proofs.Math.Bool.{false}
-use Rattle.std.proofs.Common.{sym, ap, ◌∙◌, arith, take_at, le-ltb}
+use Rattle.std.proofs.Common.{sym, ap, subst, ◌∙◌, arith, take_at, le-ltb}
 use Rattle.spec.specs.Lists.{anyb}
 use Rattle.spec.specs.Memory.{over}
 use Rattle.spec.specs.declared.Prices.{Prices}
 use Rattle.spec.specs.declared.Refusal.{Refusal}
 use Rattle.spec.specs.declared.Refusal.TheVariants.{ShortBuffer}
-use Rattle.spec.specs.Refusal.{check, decide, checked}
+use Rattle.spec.specs.Refusal.{code_of, check, decide, checked}
 use Rattle.spec.specs.Network.{Network, leaf_count, network_checks, refusal_of}
 use Rattle.spec.specs.Tree.{valid, pairs_of}
 use Rattle.spec.specs.Price as price
@@ -19,8 +19,11 @@ use Rattle.laws.specs.FileFields.{fails_tree}
 use Rattle.laws.specs.FileLists.{over_front}
 use Rattle.pricing.specs.Handed.{flat_length}
 use Rattle.cost.specs.Answers.{room, too_few}
-use Rattle.cost.specs.Checks.{call_few, long_enough}
+use Rattle.cost.specs.Checks.{refused_untouched, few_untouched, call_few, long_enough}
 use Rattle.memory.specs.Call.{checked-append}
+use Rattle.memory.specs.Numbers.{or_short}
+use Rattle.network.specs.Codes.{positive}
+use Rattle.walk.specs.Entry.{Untouched}
 
 -- the call with a list of so many records, five numbers a record
 abbrev pub records_call : Network → (words sets sizes works places : ℕ) → List ℕ → List ℕ → Result Prices Refusal
@@ -70,6 +73,19 @@ module _ (N : Network) (words sets sizes works : ℕ) (flags kids : List ℕ) wh
       call_few N flags kids words sets sizes works s (leaf_count N) refl e
       (by_cases (too_few (leaf_count N) words sets sizes works s) (λ t. t) (λ f.
       absurd (omega (arith, (long_enough (leaf_count N) words sets sizes works s f).for_steps))))
+
+  -- a list that is too short for an accepted network: refused with the network's number or with 7, and nothing is touched
+  short_cases : (o : Option Refusal) {r : ℕ} (s : ℕ) → refusal_of N ≡ o → s < step_places N * 5 → r ≡ or_short o → Untouched r (call s)
+  short_cases None s e h q =
+      subst (λ (k : ℕ). Untouched k (call s)) (sym q)
+      (few_untouched N flags kids words sets sizes works s (leaf_count N) refl e
+      (by_cases (too_few (leaf_count N) words sets sizes works s) (λ t. t) (λ f.
+      absurd (omega (arith, (long_enough (leaf_count N) words sets sizes works s f).for_steps)))))
+  short_cases (Some k) {r} s e h q =
+      refused_untouched N flags kids words sets sizes works s r (q ∙ sym (ap code_of e)) (λ z. omega (arith, positive k, q))
+
+  pub short_untouched : {r : ℕ} (s : ℕ) → s < step_places N * 5 → r ≡ or_short (refusal_of N) → Untouched r (call s)
+  short_untouched s = short_cases (refusal_of N) s refl
 
   -- where pricing answers, the tree is valid and the list has a place for each number
   pub answered : (s : ℕ) (p : Prices) → call s ≡ Ok p → (valid (leaf_count N) (pairs_of kids) ≡ true) × (step_places N * 5 ≤ s)

@@ -6,13 +6,14 @@ use mathlib.Core.List.{List, [], ◌∷◌}
 use Rattle.spec.specs.declared.Refusal.TheVariants.{InvalidTree, ShortBuffer}
 use Rattle.spec.specs.declared.Refusal.{Refusal}
 use borrow.Author.Tests.{lt-ltb, le-ltb, not-true, not-false}
-use Rattle.spec.specs.Refusal.{Check, check, checked}
+use Rattle.spec.specs.Lists.{anyb}
+use Rattle.spec.specs.Refusal.{code_of, Check, check, checked}
 use Rattle.spec.specs.Network.{Network, leaf_count, refusal_of}
 use Rattle.spec.specs.Memory.{cleared}
 use Rattle.spec.specs.Tree.{step_order, same_plan, pairs_of}
 use Rattle.spec.specs.Calls.{Lent, lent, length_check, plain_words, step_places, wrong_tree, tree_check, valid_call, order_call, same_call, workspace_after}
 use Rattle.laws.specs.Booleans.{clash}
-use Rattle.walk.specs.Entry.{network_refused, past_network, too_short, past_length, holds_first, passes_first}
+use Rattle.walk.specs.Entry.{Untouched, by_network, network_refused, past_network, by_length, too_short, past_length, holds_first, passes_first}
 
 -- ---- answers ----
 
@@ -61,9 +62,13 @@ long_words : (words : ℕ) → plain_words ≤ words → (ltb words plain_words 
 long_words words h = rw (le-ltb words plain_words h)
 
 module _ (n words : ℕ) (kids : List ℕ) where
-  pub valid_short : words < plain_words → valid_in n words kids ≡ Err ShortBuffer
+  pub valid_short : words < plain_words → Untouched 7 (valid_in n words kids)
   unfolding valid_in
-  valid_short h = too_short (lent words plain_words ∷ []) (right_tree n kids ∷ []) (Ok tt) (short_words words h)
+  valid_short h = by_length (lent words plain_words ∷ []) (right_tree n kids ∷ []) (Ok tt) (short_words words h)
+
+  pub valid_short_err : words < plain_words → valid_in n words kids ≡ Err ShortBuffer
+  unfolding valid_in
+  valid_short_err h = too_short (lent words plain_words ∷ []) (right_tree n kids ∷ []) (Ok tt) (short_words words h)
 
   module _ (h : plain_words ≤ words) (b : Bool) (e : b ≡ not (wrong_tree n kids)) where
     pub valid_done : b ≡ true → valid_in n words kids ≡ Ok tt
@@ -82,17 +87,28 @@ module _ (n words places : ℕ) (kids : List ℕ) where
   abbrev lents : List Lent
   lents = lent words plain_words ∷ lent places (n - 1) ∷ []
 
-  pub order_short : words < plain_words → order_in n words places kids ≡ Err ShortBuffer
+  pub order_short : words < plain_words → Untouched 7 (order_in n words places kids)
   unfolding order_in
-  order_short h = too_short lents (right_tree n kids ∷ []) (Ok (step_order kids n)) (rw (lt-ltb words plain_words h))
+  order_short h = by_length lents (right_tree n kids ∷ []) (Ok (step_order kids n)) (rw (lt-ltb words plain_words h))
 
-  pub order_few : plain_words ≤ words → places < n - 1 → order_in n words places kids ≡ Err ShortBuffer
+  pub order_short_err : words < plain_words → order_in n words places kids ≡ Err ShortBuffer
   unfolding order_in
-  order_few h q = too_short lents (right_tree n kids ∷ []) (Ok (step_order kids n)) (rw (le-ltb words plain_words h, lt-ltb places (n - 1) q))
+  order_short_err h = too_short lents (right_tree n kids ∷ []) (Ok (step_order kids n)) (rw (lt-ltb words plain_words h))
+
+  pub order_few : plain_words ≤ words → places < n - 1 → Untouched 7 (order_in n words places kids)
+  unfolding order_in
+  order_few h q = by_length lents (right_tree n kids ∷ []) (Ok (step_order kids n)) (rw (le-ltb words plain_words h, lt-ltb places (n - 1) q))
+
+  pub order_few_err : plain_words ≤ words → places < n - 1 → order_in n words places kids ≡ Err ShortBuffer
+  unfolding order_in
+  order_few_err h q = too_short lents (right_tree n kids ∷ []) (Ok (step_order kids n)) (rw (le-ltb words plain_words h, lt-ltb places (n - 1) q))
+
+  enough : plain_words ≤ words → n - 1 ≤ places → anyb (λ x. ltb x.has x.needs) lents ≡ false
+  enough h q = rw (le-ltb words plain_words h, le-ltb places (n - 1) q)
 
   pub order_ordered : plain_words ≤ words → n - 1 ≤ places → order_in n words places kids ≡ ordered n kids
   unfolding order_in ordered
-  order_ordered h q = past_length lents (right_tree n kids ∷ []) (Ok (step_order kids n)) (rw (le-ltb words plain_words h, le-ltb places (n - 1) q))
+  order_ordered h q = past_length lents (right_tree n kids ∷ []) (Ok (step_order kids n)) (enough h q)
 
 module _ (n : ℕ) (kids : List ℕ) where
   pub ordered_wrong : wrong_tree n kids ≡ true → ordered n kids ≡ Err InvalidTree
@@ -111,6 +127,16 @@ module _ (n : ℕ) (kids : List ℕ) where
   pub ordered_words : (ws : List ℕ) → workspace_after plain_words (ordered n kids) ws ≡ cleared ws plain_words
   unfolding ordered
   ordered_words ws = ordered_either (wrong_tree n kids) ws
+
+module _ (n words places : ℕ) (kids : List ℕ) (h : plain_words ≤ words) (q : n - 1 ≤ places) (b : Bool) (e : b ≡ not (wrong_tree n kids)) where
+  pub order_done : not b ≡ false → order_in n words places kids ≡ Ok (step_order kids n)
+  order_done f = order_ordered n words places kids h q ∙ ordered_right n kids (was_right b (wrong_tree n kids) e (not-false b f))
+
+  pub order_wrong : not b ≡ true → order_in n words places kids ≡ Err InvalidTree
+  order_wrong f = order_ordered n words places kids h q ∙ ordered_wrong n kids (was_wrong b (wrong_tree n kids) e (not-true b f))
+
+  pub order_right : not b ≡ false → wrong_tree n kids ≡ false
+  order_right f = was_right b (wrong_tree n kids) e (not-false b f)
 
 module _ (n : ℕ) (kids others : List ℕ) where
   abbrev verdict : Result Bool Refusal
@@ -140,9 +166,13 @@ module _ (n : ℕ) (kids others : List ℕ) where
   cleared_either false true stated ws = refl
   cleared_either false false stated ws = refl
 
-  pub same_short : (words : ℕ) → words < plain_words → same_in n words kids others ≡ Err ShortBuffer
+  pub same_short : (words : ℕ) → words < plain_words → Untouched 7 (same_in n words kids others)
   unfolding same_in
-  same_short words h = too_short (lent words plain_words ∷ []) (right_tree n kids ∷ right_tree n others ∷ []) verdict (short_words words h)
+  same_short words h = by_length (lent words plain_words ∷ []) (right_tree n kids ∷ right_tree n others ∷ []) verdict (short_words words h)
+
+  pub same_short_err : (words : ℕ) → words < plain_words → same_in n words kids others ≡ Err ShortBuffer
+  unfolding same_in
+  same_short_err words h = too_short (lent words plain_words ∷ []) (right_tree n kids ∷ right_tree n others ∷ []) verdict (short_words words h)
 
   pub same_compared : (words : ℕ) → plain_words ≤ words → same_in n words kids others ≡ compared n kids others
   unfolding same_in compared
@@ -155,9 +185,13 @@ module _ (n : ℕ) (kids others : List ℕ) where
 -- ---- the network decides first ----
 
 module _ (N : Network) (words : ℕ) (kids : List ℕ) where
-  pub valid_refused : (r : Refusal) → refusal_of N ≡ Some r → valid_call N words kids ≡ Err r
+  pub valid_refused : (k : ℕ) → k ≡ code_of (refusal_of N) → (k ≡ 0 → ⊥) → Untouched k (valid_call N words kids)
   unfolding valid_call
-  valid_refused r e = network_refused N (length_check (lent words plain_words ∷ []) ∷ tree_check N kids ∷ []) (Ok tt) r e
+  valid_refused k e z = by_network N (length_check (lent words plain_words ∷ []) ∷ tree_check N kids ∷ []) (Ok tt) k e z
+
+  pub valid_err : (r : Refusal) → refusal_of N ≡ Some r → valid_call N words kids ≡ Err r
+  unfolding valid_call
+  valid_err r e = network_refused N (length_check (lent words plain_words ∷ []) ∷ tree_check N kids ∷ []) (Ok tt) r e
 
   pub valid_accepted : (n : ℕ) → refusal_of N ≡ None → leaf_count N ≡ n → valid_call N words kids ≡ valid_in n words kids
   unfolding valid_call valid_in
@@ -169,9 +203,13 @@ module _ (N : Network) (words places : ℕ) (kids : List ℕ) where
   abbrev order_rest : List Check
   order_rest = length_check (lent words plain_words ∷ lent places (step_places N) ∷ []) ∷ tree_check N kids ∷ []
 
-  pub order_refused : (r : Refusal) → refusal_of N ≡ Some r → order_call N words places kids ≡ Err r
+  pub order_refused : (k : ℕ) → k ≡ code_of (refusal_of N) → (k ≡ 0 → ⊥) → Untouched k (order_call N words places kids)
   unfolding order_call
-  order_refused r e = network_refused N order_rest (Ok (step_order kids (leaf_count N))) r e
+  order_refused k e z = by_network N order_rest (Ok (step_order kids (leaf_count N))) k e z
+
+  pub order_err : (r : Refusal) → refusal_of N ≡ Some r → order_call N words places kids ≡ Err r
+  unfolding order_call
+  order_err r e = network_refused N order_rest (Ok (step_order kids (leaf_count N))) r e
 
   pub order_accepted : (n : ℕ) → refusal_of N ≡ None → leaf_count N ≡ n → order_call N words places kids ≡ order_in n words places kids
   unfolding order_call order_in
@@ -183,9 +221,13 @@ module _ (N : Network) (words : ℕ) (kids others : List ℕ) where
   abbrev same_rest : List Check
   same_rest = length_check (lent words plain_words ∷ []) ∷ tree_check N kids ∷ tree_check N others ∷ []
 
-  pub same_refused : (r : Refusal) → refusal_of N ≡ Some r → same_call N words kids others ≡ Err r
+  pub same_refused : (k : ℕ) → k ≡ code_of (refusal_of N) → (k ≡ 0 → ⊥) → Untouched k (same_call N words kids others)
   unfolding same_call
-  same_refused r e = network_refused N same_rest (verdict (leaf_count N) kids others) r e
+  same_refused k e z = by_network N same_rest (verdict (leaf_count N) kids others) k e z
+
+  pub same_err : (r : Refusal) → refusal_of N ≡ Some r → same_call N words kids others ≡ Err r
+  unfolding same_call
+  same_err r e = network_refused N same_rest (verdict (leaf_count N) kids others) r e
 
   pub same_accepted : (n : ℕ) → refusal_of N ≡ None → leaf_count N ≡ n → same_call N words kids others ≡ same_in n words kids others
   unfolding same_call same_in

@@ -10,4 +10,4 @@ use Rattle.passes.proofs.improve.Given as goal
 
 abbrev pub invariant-loop : goal.invariant-loop
 invariant-loop l = IsSameLoan l.initial.list l.list × IsAsLong l.initial.list l.list
-    × Going (net_in l.network) (flag_at l.search.flags.now) l.search.k l.search.limit l.most (improve_tree (net_in l.network) (flag_at l.search.flags.now) l.search.k l.search.limit l.most (tree_of (leaf_count (net_in l.network)) l.initial.kids)) l.kids l.list.sets.now l.list.sizes.now l.list.works.now l.rebuilt l.tried (l.most - l.counter)
+    × Going (net_in l.task.network) (flag_at l.task.search.flags.now) l.task.search.k l.task.search.limit l.most (improve_tree (net_in l.task.network) (flag_at l.task.search.flags.now) l.task.search.k l.task.search.limit l.most (tree_of (leaf_count (net_in l.task.network)) l.initial.kids)) l.kids l.list.sets.now l.list.sizes.now l.list.works.now l.rebuilt l.tried (l.most - l.counter)

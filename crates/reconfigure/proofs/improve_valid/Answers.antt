@@ -9,29 +9,29 @@ use mathlib.Core.Path.{◌≡◌, sym, subst, ◌∙◌}
 use Rattle.reconfigure.proofs.improve_valid.Goals as goal
 
 pub returns-then-is_total_beyond : goal.returns-then-is_total_beyond
-returns-then-is_total_beyond c = let a = c.args in let N = net_in a.network.now in let n : ℕ = c.leaf_count.result in
+returns-then-is_total_beyond c = let a = c.args in let N = net_in a.task.now.network in let n : ℕ = c.leaf_count.result in
     let right : wrong_tree n a.kids.now ≡ false = subst (λ (x : ℕ). wrong_tree x a.kids.now ≡ false) (sym c.leaf_count.ensures) c.requires.right in
     let is = beyond_is n (sym c.leaf_count.ensures) right c.price.ensures.held in
-    answered_refused TotalBeyond (last_beyond N a.search.now.k a.most a.search.now.limit a.search.now.flags.now a.kids.now (sym is ∙ sym c.is_total_beyond.ensures ∙ c.if-is_total_beyond.true))
+    answered_refused TotalBeyond (last_beyond N a.task.now.search.k a.most a.task.now.search.limit a.task.now.search.flags.now a.kids.now (sym is ∙ sym c.is_total_beyond.ensures ∙ c.if-is_total_beyond.true))
 
 pub returns-then-is_dangling : goal.returns-then-is_dangling
-returns-then-is_dangling c = let a = c.args in let N = net_in a.network.now in let n : ℕ = c.leaf_count.result in
+returns-then-is_dangling c = let a = c.args in let N = net_in a.task.now.network in let n : ℕ = c.leaf_count.result in
     let right : wrong_tree n a.kids.now ≡ false = subst (λ (x : ℕ). wrong_tree x a.kids.now ≡ false) (sym c.leaf_count.ensures) c.requires.right in
     let is = beyond_is n (sym c.leaf_count.ensures) right c.price.ensures.held in
     let off = sym is ∙ sym c.is_total_beyond.ensures ∙ c.if-is_total_beyond.false in
-    answered_refused DanglingIndex (last_dangling N a.search.now.k a.most a.search.now.limit a.search.now.flags.now a.kids.now off (sym c.is_dangling.ensures ∙ c.if-is_dangling.true))
+    answered_refused DanglingIndex (last_dangling N a.task.now.search.k a.most a.task.now.search.limit a.task.now.search.flags.now a.kids.now off (sym c.is_dangling.ensures ∙ c.if-is_dangling.true))
 
 pub improve-requires-clause-standing : goal.improve-requires-clause-standing
-improve-requires-clause-standing c = let a = c.args in let N = net_in a.network.now in let n : ℕ = c.leaf_count.result in
+improve-requires-clause-standing c = let a = c.args in let N = net_in a.task.now.network in let n : ℕ = c.leaf_count.result in
     let right : wrong_tree n a.kids.now ≡ false = subst (λ (x : ℕ). wrong_tree x a.kids.now ≡ false) (sym c.leaf_count.ensures) c.requires.right in
     let is = beyond_is n (sym c.leaf_count.ensures) right c.price.ensures.held in
     let off = sym is ∙ sym c.is_total_beyond.ensures ∙ c.if-is_total_beyond.false in
     standing_start n (sym c.leaf_count.ensures) right c.price.ensures.held off
 
 pub returns : goal.returns
-returns c = let a = c.args in let N = net_in a.network.now in let n : ℕ = c.leaf_count.result in
+returns c = let a = c.args in let N = net_in a.task.now.network in let n : ℕ = c.leaf_count.result in
     let right : wrong_tree n a.kids.now ≡ false = subst (λ (x : ℕ). wrong_tree x a.kids.now ≡ false) (sym c.leaf_count.ensures) c.requires.right in
     let is = beyond_is n (sym c.leaf_count.ensures) right c.price.ensures.held in
     let off = sym is ∙ sym c.is_total_beyond.ensures ∙ c.if-is_total_beyond.false in
-    answered_done N a.search.now.k a.most a.search.now.limit a.search.now.flags.now c.improve.result _ a.search.now.clamped.0 a.search.now.clamped.1 c.requires.right c.improve.auto.kids c.improve.ensures.improves
-    (last_done N a.search.now.k a.most a.search.now.limit a.search.now.flags.now a.kids.now off (sym c.is_dangling.ensures ∙ c.if-is_dangling.false))
+    answered_done N a.task.now.search.k a.most a.task.now.search.limit a.task.now.search.flags.now c.improve.result _ a.task.now.search.clamped.0 a.task.now.search.clamped.1 c.requires.right c.improve.auto.kids c.improve.ensures.improves
+    (last_done N a.task.now.search.k a.most a.task.now.search.limit a.task.now.search.flags.now a.kids.now off (sym c.is_dangling.ensures ∙ c.if-is_dangling.false))

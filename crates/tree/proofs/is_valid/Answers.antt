@@ -5,19 +5,19 @@ use Rattle.spec.specs.Calls.{plain_words, workspace_after}
 use Rattle.spec.specs.declared.Refusal.{Refusal}
 use Rattle.network.specs.Record.{net_of}
 use Rattle.walk.specs.Entry.{network_quiet, quiet_words}
-use Rattle.tree.specs.Answers.{valid_refused, valid_accepted}
+use Rattle.tree.specs.Answers.{valid_err, valid_accepted}
 use Rattle.tree.proofs.is_valid.Goals as goal
 
 pub returns-in_err-network-clause-answer : goal.returns-in_err-network-clause-answer
 returns-in_err-network-clause-answer c =
     let r = c.in_err-network.field-0.0 in
     let e : c.from_residual.result ≡ Err r = search rules in
-    e ∙ sym (valid_refused (net_of c.args.network.now) (length c.args.ws.now) c.args.tree.now r c.in_err-network.ensures.err)
+    e ∙ sym (valid_err (net_of c.args.network.now) (length c.args.ws.now) c.args.tree.now r c.in_err-network.ensures.err)
 
 pub returns-in_err-network-clause-words : goal.returns-in_err-network-clause-words
 returns-in_err-network-clause-words c =
     let r = c.in_err-network.field-0.0 in
-    quiet_words plain_words _ r c.args.ws.now (valid_refused (net_of c.args.network.now) (length c.args.ws.now) c.args.tree.now r c.in_err-network.ensures.err) (network_quiet (net_of c.args.network.now) r c.in_err-network.ensures.err)
+    quiet_words plain_words _ r c.args.ws.now (valid_err (net_of c.args.network.now) (length c.args.ws.now) c.args.tree.now r c.in_err-network.ensures.err) (network_quiet (net_of c.args.network.now) r c.in_err-network.ensures.err)
 
 pub returns-clause-answer : goal.returns-clause-answer
 returns-clause-answer c =

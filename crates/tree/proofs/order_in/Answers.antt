@@ -5,38 +5,38 @@ use Rattle.spec.specs.Calls.{plain_words, workspace_after, ordered_steps}
 use Rattle.spec.specs.declared.Refusal.{Refusal}
 use Rattle.spec.specs.declared.Refusal.TheVariants.{ShortBuffer}
 use Rattle.walk.specs.Entry.{quiet_words, quiet_list, lent_cleared}
-use Rattle.tree.specs.Answers.{counted, order_short, order_few, order_ordered, ordered_words}
+use Rattle.tree.specs.Answers.{counted, order_short_err, order_few_err, order_ordered, ordered_words}
 use Rattle.tree.proofs.order_in.Goals as goal
 
 pub returns-then-ws-words-clause-answer : goal.returns-then-ws-words-clause-answer
 returns-then-ws-words-clause-answer c =
     let a = c.args in
-    sym (ap counted (order_short a.n (length a.ws.now) (length a.out.now) a.tree.now (omega (arith, c.if-ws-words.true, c.stated-words.ensures))))
+    sym (ap counted (order_short_err a.n (length a.ws.now) (length a.out.now) a.tree.now (omega (arith, c.if-ws-words.true, c.stated-words.ensures))))
 
 pub returns-then-ws-words-clause-words : goal.returns-then-ws-words-clause-words
 returns-then-ws-words-clause-words c =
     let a = c.args in
-    quiet_words plain_words _ ShortBuffer a.ws.now (order_short a.n (length a.ws.now) (length a.out.now) a.tree.now (omega (arith, c.if-ws-words.true, c.stated-words.ensures))) refl
+    quiet_words plain_words _ ShortBuffer a.ws.now (order_short_err a.n (length a.ws.now) (length a.out.now) a.tree.now (omega (arith, c.if-ws-words.true, c.stated-words.ensures))) refl
 
 pub returns-then-ws-words-clause-steps : goal.returns-then-ws-words-clause-steps
 returns-then-ws-words-clause-steps c =
     let a = c.args in
-    quiet_list _ ShortBuffer (λ (steps : List ℕ). steps) a.out.now (order_short a.n (length a.ws.now) (length a.out.now) a.tree.now (omega (arith, c.if-ws-words.true, c.stated-words.ensures)))
+    quiet_list _ ShortBuffer (λ (steps : List ℕ). steps) a.out.now (order_short_err a.n (length a.ws.now) (length a.out.now) a.tree.now (omega (arith, c.if-ws-words.true, c.stated-words.ensures)))
 
 pub returns-then-out-saturating_sub-clause-answer : goal.returns-then-out-saturating_sub-clause-answer
 returns-then-out-saturating_sub-clause-answer c =
     let a = c.args in
-    sym (ap counted (order_few a.n (length a.ws.now) (length a.out.now) a.tree.now (omega (arith, c.if-ws-words.false, c.stated-words.ensures)) (omega (arith, c.if-out-saturating_sub.true, c.saturating_sub.ensures))))
+    sym (ap counted (order_few_err a.n (length a.ws.now) (length a.out.now) a.tree.now (omega (arith, c.if-ws-words.false, c.stated-words.ensures)) (omega (arith, c.if-out-saturating_sub.true, c.saturating_sub.ensures))))
 
 pub returns-then-out-saturating_sub-clause-words : goal.returns-then-out-saturating_sub-clause-words
 returns-then-out-saturating_sub-clause-words c =
     let a = c.args in
-    quiet_words plain_words _ ShortBuffer a.ws.now (order_few a.n (length a.ws.now) (length a.out.now) a.tree.now (omega (arith, c.if-ws-words.false, c.stated-words.ensures)) (omega (arith, c.if-out-saturating_sub.true, c.saturating_sub.ensures))) refl
+    quiet_words plain_words _ ShortBuffer a.ws.now (order_few_err a.n (length a.ws.now) (length a.out.now) a.tree.now (omega (arith, c.if-ws-words.false, c.stated-words.ensures)) (omega (arith, c.if-out-saturating_sub.true, c.saturating_sub.ensures))) refl
 
 pub returns-then-out-saturating_sub-clause-steps : goal.returns-then-out-saturating_sub-clause-steps
 returns-then-out-saturating_sub-clause-steps c =
     let a = c.args in
-    quiet_list _ ShortBuffer (λ (steps : List ℕ). steps) a.out.now (order_few a.n (length a.ws.now) (length a.out.now) a.tree.now (omega (arith, c.if-ws-words.false, c.stated-words.ensures)) (omega (arith, c.if-out-saturating_sub.true, c.saturating_sub.ensures)))
+    quiet_list _ ShortBuffer (λ (steps : List ℕ). steps) a.out.now (order_few_err a.n (length a.ws.now) (length a.out.now) a.tree.now (omega (arith, c.if-ws-words.false, c.stated-words.ensures)) (omega (arith, c.if-out-saturating_sub.true, c.saturating_sub.ensures)))
 
 pub returns-clause-answer : goal.returns-clause-answer
 returns-clause-answer c =

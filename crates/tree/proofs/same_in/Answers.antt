@@ -5,16 +5,16 @@ use Rattle.spec.specs.Calls.{plain_words, workspace_after}
 use Rattle.spec.specs.declared.Refusal.{Refusal}
 use Rattle.spec.specs.declared.Refusal.TheVariants.{ShortBuffer}
 use Rattle.walk.specs.Entry.{quiet_words, lent_cleared}
-use Rattle.tree.specs.Answers.{same_short, same_compared, compared_words}
+use Rattle.tree.specs.Answers.{same_short_err, same_compared, compared_words}
 use Rattle.tree.proofs.same_in.Goals as goal
 
 pub returns-then-ws-words-clause-answer : goal.returns-then-ws-words-clause-answer
-returns-then-ws-words-clause-answer c = let a = c.args in sym (same_short a.n a.tree.now a.other.now (length a.ws.now) (omega (arith, c.if-ws-words.true, c.stated-words.ensures)))
+returns-then-ws-words-clause-answer c = let a = c.args in sym (same_short_err a.n a.tree.now a.other.now (length a.ws.now) (omega (arith, c.if-ws-words.true, c.stated-words.ensures)))
 
 pub returns-then-ws-words-clause-words : goal.returns-then-ws-words-clause-words
 returns-then-ws-words-clause-words c =
     let a = c.args in
-    quiet_words plain_words _ ShortBuffer a.ws.now (same_short a.n a.tree.now a.other.now (length a.ws.now) (omega (arith, c.if-ws-words.true, c.stated-words.ensures))) refl
+    quiet_words plain_words _ ShortBuffer a.ws.now (same_short_err a.n a.tree.now a.other.now (length a.ws.now) (omega (arith, c.if-ws-words.true, c.stated-words.ensures))) refl
 
 pub returns-clause-answer : goal.returns-clause-answer
 returns-clause-answer c =

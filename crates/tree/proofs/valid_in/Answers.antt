@@ -5,16 +5,16 @@ use Rattle.spec.specs.Memory.{cleared}
 use Rattle.spec.specs.Calls.{plain_words, wrong_tree}
 use Rattle.spec.specs.declared.Refusal.TheVariants.{ShortBuffer, InvalidTree}
 use Rattle.walk.specs.Entry.{quiet_words, done_words, refused_words, lent_cleared}
-use Rattle.tree.specs.Answers.{valid_in, valid_short, valid_done, valid_wrong}
+use Rattle.tree.specs.Answers.{valid_in, valid_short_err, valid_done, valid_wrong}
 use Rattle.tree.proofs.valid_in.Goals as goal
 
 pub returns-then-ws-words-clause-answer : goal.returns-then-ws-words-clause-answer
-returns-then-ws-words-clause-answer c = let a = c.args in sym (valid_short a.n (length a.ws.now) a.tree.now (omega (arith, c.if-ws-words.true, c.stated-words.ensures)))
+returns-then-ws-words-clause-answer c = let a = c.args in sym (valid_short_err a.n (length a.ws.now) a.tree.now (omega (arith, c.if-ws-words.true, c.stated-words.ensures)))
 
 pub returns-then-ws-words-clause-words : goal.returns-then-ws-words-clause-words
 returns-then-ws-words-clause-words c =
     let a = c.args in
-    quiet_words plain_words _ ShortBuffer a.ws.now (valid_short a.n (length a.ws.now) a.tree.now (omega (arith, c.if-ws-words.true, c.stated-words.ensures))) refl
+    quiet_words plain_words _ ShortBuffer a.ws.now (valid_short_err a.n (length a.ws.now) a.tree.now (omega (arith, c.if-ws-words.true, c.stated-words.ensures))) refl
 
 pub returns-in_err-checked-clause-answer : goal.returns-in_err-checked-clause-answer
 returns-in_err-checked-clause-answer c =
