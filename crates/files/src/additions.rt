@@ -6,7 +6,7 @@ use network::Network;
 use spec::Refusal;
 use std::io::{self, Read, Write};
 
-// Stays: `input: &mut R, out: &mut W`: what a run reads and what it writes; half of the functions here take one of them.
+// Stays: `input: &mut R, out: &mut W`: what a run reads and what it writes; two functions below a case take the input alone.
 
 // Stays: a line of the output has a number here in both cases, as the stored answers have.
 // The number of what a check or an addition answers: 0 where nothing is refused.
@@ -76,7 +76,7 @@ fn take_turn<R: Read, W: Write>(
 
 // Stays: a case of its own form; the input says how many turns follow, and there is no list of them.
 /// One case: its turns, the check, and a sum over the record.
-pub fn next_case<R: Read, W: Write>(input: &mut R, out: &mut W) -> io::Result<()> {
+pub(crate) fn next_case<R: Read, W: Write>(input: &mut R, out: &mut W) -> io::Result<()> {
     write!(out, "added")?;
     let mut network = Network::empty();
     for _ in 0..stored::next_number(input) {

@@ -82,7 +82,7 @@ fn attempt<W: Write>(
 
 // Stays: the tree is what a file gave; it is the writer that checks it.
 /// Behind the cursor the buffer has a byte less than the file, then three more.
-pub fn write<W: Write>(
+pub(crate) fn write<W: Write>(
     out: &mut W,
     file: &[u8],
     network: &Network,

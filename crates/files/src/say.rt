@@ -22,7 +22,7 @@ fn asked<W: Write>(out: &mut W, ask: Ask) -> io::Result<()> {
 }
 
 /// What was read.
-pub fn read<W: Write>(out: &mut W, network: &Network, given: Given) -> io::Result<()> {
+pub(crate) fn read<W: Write>(out: &mut W, network: &Network, given: Given) -> io::Result<()> {
     let (leaves, indices, outputs) = (
         network.leaf_count,
         network.index_count,

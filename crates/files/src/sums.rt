@@ -6,19 +6,19 @@ use stored::sums::{with, with_all};
 
 // Stays: other numbers, so that a node's mark is no byte's; the remainder keeps it below the cast's limit.
 /// The mark of place i of a list of nodes: 50000 + i mod 1000.
-pub fn wide_mark(i: usize) -> u16 {
+pub(crate) fn wide_mark(i: usize) -> u16 {
     (50000 + i % 1000) as u16
 }
 
 // Stays: other numbers, so that a byte's mark is above each flag; the remainder keeps it below the cast's limit.
 /// The mark of place i of a list of bytes: 100 + i mod 100.
-pub fn mark(i: usize) -> u8 {
+pub(crate) fn mark(i: usize) -> u8 {
     (100 + i % 100) as u8
 }
 
 // Stays: std's fill_with hands its closure no place.
 /// Puts the mark of its place at every place of a list.
-pub fn fill<T: Drop, F: Fn(usize) -> T>(list: &mut [T], mark: F)
+pub(crate) fn fill<T: Drop, F: Fn(usize) -> T>(list: &mut [T], mark: F)
     requires { F.IsAlwaysCallable mark }
 {
     for (i, place) in list.iter_mut().enumerate() {
@@ -40,7 +40,7 @@ fn with_leaf(sum: u64, count: u8, legs: &[u16], i: usize) -> u64
 
 // Stays: a leaf's count and its indices lie in two lists of the record; std has no From of usize for u64.
 /// The sum with a record: its counts, and its lists as far as they are counted.
-pub fn record(sum: u64, network: &Network) -> u64 {
+pub(crate) fn record(sum: u64, network: &Network) -> u64 {
     let leaves = network.leaf_count;
     let indices = network.index_count;
     let outputs = network.output_count;
@@ -57,6 +57,6 @@ pub fn record(sum: u64, network: &Network) -> u64 {
 
 // Stays: the lists are summed as they were lent, whether or not one holds a tree.
 /// The sum over a record and two lists.
-pub fn of(network: &Network, tree: &[u16], flags: &[u8]) -> u64 {
+pub(crate) fn of(network: &Network, tree: &[u16], flags: &[u8]) -> u64 {
     with_all(with_all(record(0, network), tree), flags)
 }

@@ -34,7 +34,7 @@ fn put_words(words: &mut [u64], step: u64) {
 
 // Stays: a case of its own form; it reads words and a network, and writes a line.
 /// One case: the words that it says, the network after them, and its plan.
-pub fn next_case<R: Read, W: Write>(input: &mut R, out: &mut W) -> io::Result<()> {
+pub(crate) fn next_case<R: Read, W: Write>(input: &mut R, out: &mut W) -> io::Result<()> {
     let mut words = [0u64; 65536];
     let asked = stored::next_number(input);
     let count = stored::next_number(input).min(65536);

@@ -23,7 +23,7 @@ fn plan<W: Write>(out: &mut W, network: &Network) -> io::Result<()> {
 
 // Stays: a case of its own form; it reads a network and writes a line.
 /// One case: the network, and its plan.
-pub fn next_case<R: Read, W: Write>(input: &mut R, out: &mut W) -> io::Result<()> {
+pub(crate) fn next_case<R: Read, W: Write>(input: &mut R, out: &mut W) -> io::Result<()> {
     let network = stored::next_network(input, out);
     plan(out, &network)
 }

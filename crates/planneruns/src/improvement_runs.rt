@@ -73,7 +73,7 @@ fn run<W: Write>(out: &mut W, file: &[u8], asked: Asked) -> io::Result<()> {
 
 // Stays: a case of its own form; it reads a question and a file, and writes a line.
 /// One case: what is asked, the file after it, and its tree improved. A limit of 65,535 is none.
-pub fn next_case<R: Read, W: Write>(input: &mut R, out: &mut W) -> io::Result<()> {
+pub(crate) fn next_case<R: Read, W: Write>(input: &mut R, out: &mut W) -> io::Result<()> {
     let mut bytes = [0u8; 131072];
     let number = stored::next_number(input);
     let count = stored::next_number(input);

@@ -46,7 +46,7 @@ fn slice<W: Write>(
 
 // Stays: the remainder is below the cast's limit.
 /// One question: two bytes that are 0 where no improvement is asked, two of the target, a network and a tree.
-pub fn answer_next<R: Read, W: Write>(input: &mut R, out: &mut W) -> io::Result<()> {
+pub(crate) fn answer_next<R: Read, W: Write>(input: &mut R, out: &mut W) -> io::Result<()> {
     let mut tree = [0u16; 512];
     let question = stored::next_number(input);
     let (improving, target) = (question / 65536 != 0, (question % 65536) as u16);

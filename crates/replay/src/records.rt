@@ -61,7 +61,7 @@ fn price_given<W: Write>(
 }
 
 /// What pricing with records answers of a file.
-pub fn write<W: Write>(out: &mut W, file: &[u8]) -> io::Result<()> {
+pub(crate) fn write<W: Write>(out: &mut W, file: &[u8]) -> io::Result<()> {
     let mut network = Network::empty();
     let mut tree = [0u16; 254];
     let mut flags = [0u8; 256];

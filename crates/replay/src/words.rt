@@ -5,7 +5,7 @@ use stored::sums::with;
 
 // Stays: the bytes of a listing say by 0 or 1 whether a total and a widest are there; then come five numbers a step.
 /// The listing of a priced tree: how many steps, total, widest, slice bits, and a sum over the numbers of all steps.
-pub fn write<W: Write>(out: &mut W, listing: &[u8]) -> io::Result<()> {
+pub(crate) fn write<W: Write>(out: &mut W, listing: &[u8]) -> io::Result<()> {
     let mut rest = listing;
     let steps = rest.read_u16::<BigEndian>()?;
     let beyond = rest.read_u8()?;

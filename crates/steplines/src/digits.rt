@@ -49,10 +49,9 @@ impl<'a> Text<'a> {
         requires { (self.old.len ≤ 8589934592) × (length word.now ≤ 64) }
         ensures { Puts self.old word.now self.new }
     {
-        let at = self.len;
-        let buffer = &mut *self.buffer;
-        cells::place(buffer, at, word);
-        self.len = at + word.len();
+        let Text { buffer, len } = self;
+        cells::place(buffer, *len, word);
+        *len += word.len();
     }
 
     /// Puts a number in decimal.

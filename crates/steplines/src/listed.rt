@@ -48,7 +48,7 @@ impl<'a> Listed<'a> {
         }
     }
 
-    // Stays: the indices are numbers from 0 on, of which there is no list; a set is bits, and std has no iterator over the bits of a word.
+    // Stays: the indices are numbers from 0 on, of which there is no list; each below the count is looked up, as the definition has it, in a set of any width.
     // Puts the indices in node v's set, rising.
     fn put_kept(&self, text: &mut Text, v: u16)
         requires { text.old.len ≤ 1000000 }

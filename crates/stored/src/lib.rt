@@ -1,6 +1,14 @@
 #![tactic(auto)]
 // What the programs that run stored cases share: numbers, files and trees that are read, lists that are written.
-ghost use Rattle.std.specs.Prelude.{◌<◌, ◌≤◌, length};
+ghost use Rattle.std.specs.Prelude.{◌≡◌, ℕ, ◌<◌, ◌≤◌, length, min, OnOk};
+ghost use Rattle.std.specs.Io.Chain.{chain_first, chain_second};
+ghost use Rattle.std.specs.Io.Repeat.{repeat_byte};
+ghost use Rattle.std.specs.Io.KnownBytes.{Appends};
+ghost use Rattle.network.specs.Record.{net_of};
+ghost use Rattle.spec.specs.File.{read_of};
+ghost use Rattle.netfile.specs.Answers.{network_in};
+ghost use Rattle.stored.specs.Cases.{NumberRead, Gives, GiveOk};
+ghost use Rattle.stored.specs.Written.{spaced, flagged};
 
 pub mod sums; // sums.rt: sums over lists
 
@@ -11,7 +19,10 @@ use std::io::{self, Chain, Input, Print, Printer, Read, Repeat, Write};
 // Stays: `input: &mut R, out: &mut W`: what a run reads and what it writes; most functions below a case take one of them.
 
 /// An input that goes on with zeros where its bytes end.
-pub fn with_zeros<R: Read>(input: R) -> Chain<R, Repeat> {
+pub fn with_zeros<R: Read>(input: R) -> Chain<R, Repeat>
+    ensures first { chain_first result ≡ input }
+    ensures then_zeros { repeat_byte (chain_second result) ≡ 0 }
+{
     input.chain(io::repeat(0))
 }
 
@@ -22,41 +33,33 @@ pub fn run<
     F: Fn(&mut Chain<H::Reader, Repeat>, &mut Printer<'a, H>) -> io::Result<()>,
 >(host: &'a H, all: F)
     requires { F.IsAlwaysCallable all }
+    ensures { (before : _) × (answer : _) × (after : _)
+        × Gives F.Fn all before answer after × (repeat_byte (chain_second before.0) ≡ 0) }
 {
     let mut input = with_zeros(host.reader());
     let mut out = io::writer(host);
     let _ = all(&mut input, &mut out);
 }
 
-/// Runs a program of one kind of cases in the same way: the input says how many there are.
-pub fn run_cases<
-    'a,
-    H: Input + Print,
-    F: Fn(&mut Chain<H::Reader, Repeat>, &mut Printer<'a, H>) -> io::Result<()>,
->(host: &'a H, case: F)
-    requires { F.IsAlwaysCallable case }
-{
-    let mut input = with_zeros(host.reader());
-    let mut out = io::writer(host);
-    let _ = each_case(&mut input, &mut out, case);
-}
-
 // Stays: std has no From of u32 for usize.
 /// A number of four bytes, high byte first. A read that fails gives 0.
 pub fn next_number<R: Read>(input: &mut R) -> usize
-    ensures { result < 4294967296 }
+    ensures fits { result < 4294967296 }
+    ensures number { NumberRead R.remaining input.old input.new result }
 {
     input.read_u32::<BigEndian>().unwrap_or(0) as usize
 }
 
 // Stays: the input says how many cases follow; there is no list of them.
-/// Reads how many cases there are, and runs each.
+/// Reads how many cases there are, and runs each. One that fails ends the run, with its error.
 pub fn each_case<R: Read, W: Write, F: Fn(&mut R, &mut W) -> io::Result<()>>(
     input: &mut R,
     out: &mut W,
     run: F,
 ) -> io::Result<()>
     requires { F.IsAlwaysCallable run }
+    ensures { OnOk result ((n : ℕ) × (cases : R) × NumberRead R.remaining input.old cases n
+        × GiveOk F.Fn run n (cases, out.old) (input.new, out.new)) }
 {
     for _ in 0..next_number(input) {
         run(input, out)?;
@@ -67,7 +70,8 @@ pub fn each_case<R: Read, W: Write, F: Fn(&mut R, &mut W) -> io::Result<()>>(
 // Stays: the count is the input's, and may be more than the list has room for.
 /// Reads so many bytes to the front of a list, or as many as there is room for, and returns how many. A read that fails is not told.
 pub fn take<R: Read>(input: &mut R, bytes: &mut [u8], count: usize) -> usize
-    ensures { result ≤ length bytes.new }
+    ensures fits { result ≤ length bytes.new }
+    ensures count { result ≡ min count (length bytes.old) }
 {
     let n = count.min(bytes.len());
     let _ = input.read_exact(&mut bytes[..n]);
@@ -76,7 +80,9 @@ pub fn take<R: Read>(input: &mut R, bytes: &mut [u8], count: usize) -> usize
 
 /// The network of a file: a number of bytes, then the bytes. Of a refused file, which is told, the empty one; a write that fails is not told.
 /// A file's tree and flags are left.
-pub fn next_network<R: Read, W: Write>(input: &mut R, out: &mut W) -> Network {
+pub fn next_network<R: Read, W: Write>(input: &mut R, out: &mut W) -> Network
+    ensures { (file : _) × (length file ≤ 131072) × (net_of result ≡ network_in (read_of 254 256 file)) }
+{
     let mut bytes = [0u8; 131072];
     let mut tree = [0u16; 254];
     let mut flags = [0u8; 256];
@@ -106,7 +112,9 @@ pub fn next_tree<R: Read>(input: &mut R, tree: &mut [u16]) -> usize
 }
 
 /// The numbers of a list, each after a space.
-pub fn write_numbers<W: Write>(out: &mut W, list: &[u16]) -> io::Result<()> {
+pub fn write_numbers<W: Write>(out: &mut W, list: &[u16]) -> io::Result<()>
+    ensures { OnOk result (Appends (W.contents out.old) (W.contents out.new) (spaced list.now)) }
+{
     for x in list {
         write!(out, " {x}")?;
     }
@@ -114,7 +122,9 @@ pub fn write_numbers<W: Write>(out: &mut W, list: &[u16]) -> io::Result<()> {
 }
 
 /// The places of a list that are flagged, each after a space.
-pub fn write_flagged<W: Write>(out: &mut W, flags: &[u8]) -> io::Result<()> {
+pub fn write_flagged<W: Write>(out: &mut W, flags: &[u8]) -> io::Result<()>
+    ensures { OnOk result (Appends (W.contents out.old) (W.contents out.new) (spaced (flagged flags.now))) }
+{
     for (i, flag) in flags.iter().enumerate() {
         if *flag != 0 {
             write!(out, " {i}")?;

@@ -54,7 +54,7 @@ fn run<W: Write>(out: &mut W, network: &Network, tree: &[u16], other: &[u16]) ->
 }
 
 // A network and two trees.
-// Stays: each program has its own case; two trees of one length are read.
+// Stays: each program has its own case; two trees are read, each into a list of its own, as long as the other.
 fn next_case<R: Read, W: Write>(input: &mut R, out: &mut W) -> io::Result<()> {
     let mut tree = [0u16; 512];
     let mut other = [0u16; 512];
@@ -64,7 +64,13 @@ fn next_case<R: Read, W: Write>(input: &mut R, out: &mut W) -> io::Result<()> {
     run(out, &network, &tree[..places], &other[..others])
 }
 
-// Stays: where a program begins. What programs share stands in `stored::run_cases`; what is left names what this one runs.
+// Stays: each program hands over its own case. One function that takes the case and runs the program was tried in `stored`: the borrow checker takes no closure over the case there.
+// All cases.
+fn run_all<R: Read, W: Write>(input: &mut R, out: &mut W) -> io::Result<()> {
+    stored::each_case(input, out, next_case)
+}
+
+// Stays: where a program begins. What programs share stands in `stored::run`; what is left names what this one runs.
 fn main(rt: HostRuntime) {
-    stored::run_cases(&rt, next_case);
+    stored::run(&rt, run_all);
 }
