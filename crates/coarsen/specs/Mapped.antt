@@ -1,7 +1,7 @@
 -- Each net's pins, mapped to coarse vertices. Assumes nothing.
-use Rattle.std.specs.Prelude.{false, ◌||◌, ◌≡◌, List, [], ◌∷◌, map, length, get_or}
+use Rattle.std.specs.Prelude.{false, ◌||◌, ◌≡◌, List, [], ◌∷◌, map, length, get_or, take}
 use Rattle.std.proofs.Math.Path.{refl}
-use Rattle.std.proofs.Common.{sym, ap, ◌∙◌, arith, zero-add}
+use Rattle.std.proofs.Common.{sym, ap, ◌∙◌, arith, zero-add, get_or-take, length-take-le}
 use Prim.Native.Nat.{ℕ, zero, suc, ◌+◌, ◌*◌, ◌≤◌, ◌<◌}
 use Rattle.std.proofs.Math.Decide.{ℕ_discrete}
 use Rattle.std.proofs.lemmas.List.{length-map}
@@ -17,13 +17,18 @@ use Rattle.mesh.specs.Crossed.{among_all}
 abbrev pub images : List ℕ → List ℕ → List ℕ
 images places l = map (λ v. get_or places v 0) l
 
-pub image_at : (places l : List ℕ) (k : ℕ) → k < length l → get_or (images places l) (0 + k) 0 ≡ get_or places (get_or l k 0) 0
-image_at places l k h = rw (zero-add k) (at l k h)
+-- of the whole list
+pub image_there : (places l : List ℕ) (k : ℕ) → k < length l → get_or (images places l) (0 + k) 0 ≡ get_or places (get_or l k 0) 0
+image_there places l k h = rw (zero-add k) (at l k h)
   where
     at : (t : List ℕ) (k : ℕ) → k < length t → get_or (images places t) k 0 ≡ get_or places (get_or t k 0) 0
     at [] k h = absurd (omega arith)
     at (x ∷ t) zero h = refl
     at (x ∷ t) (suc k) h = at t k (omega arith)
+
+-- of its first n
+pub image_at : (places l : List ℕ) (n k : ℕ) → k < n → n ≤ length l → get_or (images places (take n l)) (0 + k) 0 ≡ get_or places (get_or l k 0) 0
+image_at places l n k h b = image_there places (take n l) k (omega (arith, length-take-le n l b)) ∙ ap (λ (v : ℕ). get_or places v 0) (get_or-take n l k 0 h)
 
 -- slot s holds the images of a list, put there after it was emptied
 pub images_put : (ws g r places pins l : List ℕ) (s : ℕ) → pins ≡ l → g ≡ with_set ws 2 s (λ j. false)

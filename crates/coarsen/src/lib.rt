@@ -9,7 +9,7 @@ ghost use Rattle.coarsen.specs.Pairs.{Paired};
 ghost use Rattle.coarsen.specs.Joined.{weight_in, joined_of, joined_one, joined};
 ghost use Rattle.coarsen.specs.Mapped.{images, mapped_net, mapped};
 ghost use Rattle.coarsen.specs.Level.{Coarser, enough};
-ghost use Rattle.coarsen.specs.Sizes.{HasRoom, ByTry, BySize, Made};
+ghost use Rattle.coarsen.specs.Sizes.{HasRoom, BySize, MadeOf};
 
 // Stays: `limit: f64, draws: &mut Draws`: a number that stays and draws that go on; nothing else is made of the two.
 // Stays: `words: &mut [u64], layout: &Layout`: the layout stays as it is, and holds no words, since it is read while the words are written.
@@ -33,7 +33,7 @@ fn weight_of(vw: &[f64], mates: &[u16], v: usize) -> f64
 }
 
 // `v` becomes part of the next coarse vertex, `c`, unless its mate is lower: then of its mate's. Returns how many coarse vertices there are then.
-// Stays: one index names a vertex in lists that are lent by different callers, two to read and two to write.
+// Stays: one index names a vertex in lists of different owners, two to read and two to write.
 fn join(
     vw: &[f64],
     mates: &[u16],
@@ -171,7 +171,7 @@ fn is_worthwhile(n: usize, left: usize) -> bool
 /// list `mates` is for the matching. Returns how many nets and vertices the coarser hypergraph has: `Ok` where it is
 /// worthwhile, and `Err` where more than 95 of 100 vertices are left. The size in `Err` is as good as that in `Ok`: the hypergraph is laid in both.
 // Stays: asks no more of its callers than lists that fit.
-pub fn try_coarsen(
+pub fn coarsen(
     words: &mut [u64],
     layout: &Layout,
     limit: f64,
@@ -183,7 +183,7 @@ pub fn try_coarsen(
     mates: &mut [u16],
 ) -> Result<Size, Size>
     requires { HasRoom words.old layout.now slots weights2.old vw2.old places.old mates.old }
-    ensures { BySize (λ found m n. Made words.old layout.now.nets layout.now.net_weights.now layout.now.net_count layout.now.vertex_weights.now limit draws.old draws.new mates.new slots.nets slots.vertices words.new weights2.new vw2.new places.new found m n) result }
+    ensures { BySize (MadeOf words.old words.new layout.now slots limit draws.old draws.new weights2.new vw2.new places.new mates.new) result }
 {
     let graph = Graph {
         words,
@@ -195,26 +195,4 @@ pub fn try_coarsen(
         return Ok(size);
     }
     Err(size)
-}
-
-/// The same, with no size where too many vertices are left.
-// Stays: asks no more of its callers than lists that fit.
-pub fn coarsen(
-    words: &mut [u64],
-    layout: &Layout,
-    limit: f64,
-    draws: &mut Draws,
-    slots: Slots,
-    weights2: &mut [u8],
-    vw2: &mut [f64],
-    places: &mut [u16],
-    mates: &mut [u16],
-) -> Option<Size>
-    requires { HasRoom words.old layout.now slots weights2.old vw2.old places.old mates.old }
-    ensures { ByTry (λ found m n. Made words.old layout.now.nets layout.now.net_weights.now layout.now.net_count layout.now.vertex_weights.now limit draws.old draws.new mates.new slots.nets slots.vertices words.new weights2.new vw2.new places.new found m n) result }
-{
-    try_coarsen(
-        words, layout, limit, draws, slots, weights2, vw2, places, mates,
-    )
-    .ok()
 }

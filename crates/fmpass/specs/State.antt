@@ -2,10 +2,11 @@
 use Rattle.std.specs.Prelude.{Bool, true, false, ◌≡◌, List, ℕ, ◌+◌, ◌*◌, ◌≤◌, ◌<◌, eqb, Float, length, get_or}
 use Rattle.spec.specs.Lists.{memb, keep, range}
 use Rattle.spec.specs.Hypergraph.{Hypergraph}
-use Rattle.spec.specs.Fm.{Pass}
+use Rattle.spec.specs.Fm.{Pass, run_pass}
 use Rattle.slots.specs.Slots.{held}
 use Rattle.spec.specs.Draws.{Words}
-use Rattle.partition.specs.Layout.{graph_in}
+use Rattle.partition.specs.Layout.{graph_in, place_of}
+use Rattle.partition.specs.declared.layout.Layout.{Layout}
 use Rattle.queue.specs.declared.entries.Entry.{Entry}
 use Rattle.queue.specs.Queues.{queue_of, keys_of, stamps_of, waits_of}
 use Rattle.partition.specs.declared.place.Place.{Place}
@@ -53,9 +54,9 @@ IsSameLoan old new =
     (new.words.ghost_name ≡ old.words.ghost_name) × (new.part.ghost_name ≡ old.part.ghost_name) × (new.loads.ghost_name ≡ old.loads.ghost_name)
     × (new.moves.ghost_name ≡ old.moves.ghost_name)
 
--- likewise of a partition and a pass that have two loads and 128 moves
-abbrev pub lists_in : Bipartition → List Entry → Counts → Lists
-lists_in b l p = lists b.words.now b.part.now b.loads (keys_of l) (stamps_of l) (waits_of l) p.moves
+-- the lists where the partition has its two loads in itself
+abbrev pub lists_in : Bipartition → List Entry → List ℕ → Lists
+lists_in b l moves = lists b.words.now b.part.now b.loads (keys_of l) (stamps_of l) (waits_of l) moves
 
 abbrev pub run_in : Counts → Words → Run
 run_in p words = run p.count p.sum p.best p.peak words p.over
@@ -89,3 +90,7 @@ pub record Brings (weights : List ℕ) (vw : List Float) (o : Place) (f : Hyperg
   pub pass : pass_in M' R' ≡ f (graph_in M.graph o.nets weights o.net_count vw) (pass_in M R)
   pub stands : Stands o M' R'
   pub kept : Kept (o.sides * 2) M.graph M'.graph
+
+-- the same where f is the whole pass on the hypergraph of a layout, and no side may weigh more than `most`
+abbrev pub Ran : Layout → Float → Lists → Lists → Run → Run → Type 0
+Ran y most M M' R R' = Brings y.net_weights.now y.vertex_weights.now (place_of y) (λ H p. run_pass H most p) M M' R R'

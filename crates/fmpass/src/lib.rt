@@ -2,7 +2,7 @@
 // A pass of refinement: turn after turn, the vertex of the first entry moves, if the other side can take it.
 ghost use Rattle.std.specs.Prelude.{false, ◌≡◌, ℕ, ◌+◌, ◌<◌, ◌≤◌, length, Float, IfSome};
 ghost use Rattle.spec.specs.Lists.{memb};
-ghost use Rattle.spec.specs.Fm.{waits, largest, pass_turn, run_pass};
+ghost use Rattle.spec.specs.Fm.{waits, largest, pass_turn};
 ghost use Rattle.moves.specs.Split.{Moved, sides_as};
 ghost use Rattle.moves.specs.Sums.{Fits};
 ghost use Rattle.partition.specs.Layout.{place_of, Placed};
@@ -11,7 +11,7 @@ ghost use Rattle.queue.specs.Queues.{stamps_of, queue_in, no_words, first_of};
 ghost use Rattle.fm.specs.Again.{Stamped};
 ghost use Rattle.fm.specs.Neighbours.{NeighboursAgain};
 ghost use Rattle.moves.specs.Loans.{IsSameLoan as IsSameSplit};
-ghost use Rattle.fmpass.specs.State.{lists_of, lists_in, IsSameLoan, run_in, moves_in, Stands, Brings};
+ghost use Rattle.fmpass.specs.State.{lists_of, lists_in, IsSameLoan, run_in, moves_in, Stands, Brings, Ran};
 ghost use Rattle.fmpass.specs.Makes.{made_move};
 
 use draws::Draws;
@@ -19,10 +19,9 @@ use moves::{Bipartition, Pass};
 use partition::{Hypergraph, Layout};
 use queue::Entry;
 
-// Stays: `entries: &mut [Entry], draws: &mut Draws`: the entries are a local list of one pass and the draws go on behind it; a struct of the two would be made for each pass and taken apart at each call below.
+// Stays: `entries: &mut [Entry], draws: &mut Draws`: the entries are emptied for each pass and the draws go on behind it; a struct of the two would be made for each pass and taken apart at each call below.
 // Stays: `IsSameLoan work.old work.new`: what each step that is lent the lists promises; no value could hold it, as it is of two times.
-// Stays: `pass.new.moves ≡ pass.old.moves`: what each step that is lent the pass promises; no value could hold it, as it is of two times.
-// Stays: `Stands (place_of layout.now) (lists_of work.old entries.old) (run_in pass.old draws.old)`: one fact of four values that are lent apart, broken and restored within a turn.
+// Stays: `Stands (place_of layout.now) (lists_of work.old entries.old) (run_in pass.old draws.old)`: one fact of five values that are lent apart, broken and restored within a turn.
 // Stays: `Stamped 1073741824 (stamps_of entries.old)`, `layout.now.sides < 32766`, `v < length layout.now.vertex_weights.now`: bounds of numbers, so that a slot and a stamp fit a word; types of their own would be unwrapped at each use.
 
 /// What a pass works on: the words that hold the hypergraph, the sides and the vertices that have moved; the side of each vertex; what the sides weigh; and the
@@ -83,7 +82,6 @@ fn make_move(
 )
     requires { (v < length layout.now.vertex_weights.now) × (memb v (moves_in (lists_of work.old entries.old) (run_in pass.old draws.old)) ≡ false) × (waits (queue_in entries.old draws.old) v ≡ false) × Stands (place_of layout.now) (lists_of work.old entries.old) (run_in pass.old draws.old) }
     ensures lent { IsSameLoan work.old work.new }
-    ensures moves { pass.new.moves ≡ pass.old.moves }
     ensures made { (most : Float) → Brings layout.now.net_weights.now layout.now.vertex_weights.now (place_of layout.now) (made_move most v) (lists_of work.old entries.old) (lists_of work.new entries.new) (run_in pass.old draws.old) (run_in pass.new draws.new) }
 {
     let key = cells::get_or(entries, v, Entry::NONE).key;
@@ -118,7 +116,6 @@ fn turn(
 )
     requires { Stands (place_of layout.now) (lists_of work.old entries.old) (run_in pass.old draws.old) }
     ensures lent { IsSameLoan work.old work.new }
-    ensures moves { pass.new.moves ≡ pass.old.moves }
     ensures turned { Brings layout.now.net_weights.now layout.now.vertex_weights.now (place_of layout.now) (λ H p. pass_turn H most_weight p) (lists_of work.old entries.old) (lists_of work.new entries.new) (run_in pass.old draws.old) (run_in pass.new draws.new) }
 {
     let Some(v) = first(layout, work, entries) else {
@@ -133,7 +130,7 @@ fn turn(
     pass.over = false;
 }
 
-/// Turn after turn until the pass is over, as often as (n + 1)² at most. The vertices that are moved go to the list of `work`; that of `pass` stays.
+/// Turn after turn until the pass is over, as often as (n + 1)² at most. The vertices that are moved go to the list of `work`.
 // Stays: the loop ends early where the pass does; the turns lend lists, which a closure of `any` would hold.
 pub fn run_pass(
     layout: &Layout,
@@ -145,8 +142,7 @@ pub fn run_pass(
 )
     requires { Stands (place_of layout.now) (lists_of work.old entries.old) (run_in pass.old draws.old) }
     ensures lent { IsSameLoan work.old work.new }
-    ensures moves { pass.new.moves ≡ pass.old.moves }
-    ensures ran { Brings layout.now.net_weights.now layout.now.vertex_weights.now (place_of layout.now) (λ H p. run_pass H most_weight p) (lists_of work.old entries.old) (lists_of work.new entries.new) (run_in pass.old draws.old) (run_in pass.new draws.new) }
+    ensures ran { Ran layout.now most_weight (lists_of work.old entries.old) (lists_of work.new entries.new) (run_in pass.old draws.old) (run_in pass.new draws.new) }
 {
     let n = layout.vertex_count();
     // Stays: a number of turns, over no list.
@@ -158,28 +154,30 @@ pub fn run_pass(
     }
 }
 
-/// The same on a partition, with the vertices that are moved in the list of the pass.
+/// The same on a partition; the vertices that are moved go to the list `moves`.
+// Stays: what a pass writes is lent one by one, since its caller reads the moves and the sums by themselves after it.
 pub fn run_on(
     layout: &Layout,
     split: &mut Bipartition,
     most_weight: f64,
     entries: &mut [Entry],
     draws: &mut Draws,
+    moves: &mut [u16],
     pass: &mut Pass,
 )
-    requires { Stands (place_of layout.now) (lists_in split.old entries.old pass.old) (run_in pass.old draws.old) }
+    requires { Stands (place_of layout.now) (lists_in split.old entries.old moves.old) (run_in pass.old draws.old) }
     ensures lent { IsSameSplit split.old split.new }
-    ensures ran { Brings layout.now.net_weights.now layout.now.vertex_weights.now (place_of layout.now) (λ H p. run_pass H most_weight p) (lists_in split.old entries.old pass.old) (lists_in split.new entries.new pass.new) (run_in pass.old draws.old) (run_in pass.new draws.new) }
+    ensures ran { Ran layout.now most_weight (lists_in split.old entries.old moves.old) (lists_in split.new entries.new moves.new) (run_in pass.old draws.old) (run_in pass.new draws.new) }
 {
-    let mut moves = pass.moves;
+    let mut loads = split.loads;
     let words = &mut *split.words;
     let part = &mut *split.part;
     let mut work = Work {
         words,
         part,
-        loads: &mut split.loads,
-        moves: &mut moves,
+        loads: &mut loads,
+        moves,
     };
     run_pass(layout, &mut work, most_weight, entries, draws, pass);
-    pass.moves = moves;
+    split.loads = loads;
 }

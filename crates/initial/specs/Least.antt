@@ -1,15 +1,13 @@
 -- The first try of the least cut is kept. Assumes nothing.
 use Rattle.std.specs.Prelude.{Bool, false, cond, ◌≡◌, refl, List, ℕ, suc, ◌+◌, ◌-◌, ◌*◌, ◌≤◌, ◌<◌, Float, length, Option, None, Some}
 use Rattle.std.proofs.Math.Bool.{true}
-use Rattle.std.proofs.Common.{sym, ◌∙◌, ext_get_or}
+use Rattle.std.proofs.Common.{sym, ◌∙◌}
 use Rattle.std.proofs.Math.Path.{ap, subst}
 use native.Mathlib.Omega.{arith}
 use Rattle.std.specs.Float.Ieee.{lt}
-use Rattle.spec.specs.Memory.{copied}
 use Rattle.spec.specs.Draws.{Words, Drawn, drawn}
 use Rattle.spec.specs.Hypergraph.{Hypergraph, cut}
 use Rattle.spec.specs.Bisection.{Candidate, better, candidate_of, candidate, tries, part_of, initial}
-use Rattle.cells.specs.Cells.{copied_length, copied_at}
 use Rattle.partition.specs.Layout.{graph_in, place}
 use Rattle.partition.specs.declared.place.Place.{Place}
 use Rattle.moves.specs.Kept.{Kept, kept_all, kept_then, graph_kept, Site}

@@ -10,12 +10,14 @@ ghost use Rattle.initial.specs.Least.{candidate_as, best_of, Initial};
 use draws::Draws;
 use matching::Graph;
 use partition::Layout;
+use refine::Scratch;
 
 // Stays: `words: &mut [u64], layout: &Layout`: the one is written and the other read; a struct of both would be taken apart at each call below.
 // Stays: `goal: f64, draws: &mut Draws`: a number that stays and draws that go on; nothing else is made of the two.
 // Stays: `0 < length layout.now.vertex_weights.now`, `Site words.old (place_of layout.now)`: facts of a layout and of the words lent beside it; `Layout` holds no words, and one of no vertices is taken elsewhere.
 
-// One try, in the list `trial`: a growth, refined in at most eight passes. Returns the weight of its cut nets.
+// One try, in the list `trial`: a growth, refined in at most eight passes, which work in `scratch`. Returns the weight of its cut nets.
+// Stays: what `initial` is lent and a list of its own; a struct of these would be made for each try.
 fn try_once(
     words: &mut [u64],
     layout: &Layout,
@@ -23,6 +25,7 @@ fn try_once(
     goal: f64,
     draws: &mut Draws,
     trial: &mut [u8],
+    scratch: &mut Scratch,
 ) -> f64
     requires { (length trial.old ≡ length layout.now.vertex_weights.now) × (0 < length layout.now.vertex_weights.now) × Site words.old (place_of layout.now) × (goal ≡ half (graph_in words.old layout.now.nets layout.now.net_weights.now layout.now.net_count layout.now.vertex_weights.now)) }
     ensures { Tried layout.now.net_weights.now layout.now.vertex_weights.now (place_of layout.now) most_weight draws.old draws.new words.old words.new trial.new result }
@@ -32,7 +35,7 @@ fn try_once(
         layout: *layout,
     };
     growth::grown(&graph, goal, draws, trial);
-    refine::fm(layout, words, trial, most_weight, 8, draws);
+    refine::fm_in(layout, words, trial, most_weight, 8, draws, scratch);
     layout.place().cut(words, layout.net_weights)
 }
 
@@ -64,10 +67,11 @@ pub fn initial(
     requires { (length trial.old ≡ length layout.now.vertex_weights.now) × (0 < length layout.now.vertex_weights.now) × Site words.old (place_of layout.now) × (goal ≡ half (graph_in words.old layout.now.nets layout.now.net_weights.now layout.now.net_count layout.now.vertex_weights.now)) × (length part.old ≡ length layout.now.vertex_weights.now) }
     ensures { Initial layout.now.net_weights.now layout.now.vertex_weights.now layout.now.nets layout.now.vertices layout.now.sides layout.now.net_count most_weight words.old draws.old words.new part.new draws.new }
 {
+    let mut scratch = Scratch::NEW;
     let mut best = None;
     // Stays: eight tries, over no list.
     for _ in 0usize..8 {
-        let cut = try_once(words, layout, most_weight, goal, draws, trial);
+        let cut = try_once(words, layout, most_weight, goal, draws, trial, &mut scratch);
         best = Some(keep_better(part, trial, best, cut));
     }
 }

@@ -41,7 +41,7 @@ pub struct Weights<'a> {
 
 /// A level: its number, and how many nets and vertices its hypergraph has.
 #[derive(Clone, Copy)]
-// Stays: no twin: a level's number and its size.
+// Stays: where a level's lists begin and how far they go; a type for this and for another number with a size would name neither.
 pub struct Level {
     pub number: usize,
     pub size: Size,
@@ -59,7 +59,7 @@ impl<'a> Levels<'a> {
     }
 
     /// The vertex of the next level that each vertex is part of, to be read.
-    // Stays: no conversion: it lends one of the lists.
+    // Stays: it lends one of three lists to be read; a `From` of all three would not say which.
     pub fn to_next(&self) -> &[u16]
         ensures { result.now ≡ self.now.places.now }
     {
@@ -142,7 +142,7 @@ pub fn side_limit(total: f64, eps: f64) -> f64
 }
 
 // Each vertex comes to the side of the coarse vertex that it is part of.
-// Stays: a place of the map past its end counts as 0, as the definition has it; a zip of the two lists would end there.
+// Stays: by place, as of a list that is written through a zip only the length is known afterwards.
 fn project(part: &mut [u8], coarse: &[u8], places: &[u16])
     requires { length part.old ≡ length places.now }
     ensures { part.new ≡ map (side_of coarse.now) places.now }
@@ -246,7 +246,7 @@ fn coarsen_lists(
         nets: next * 512,
         vertices: next * 256 + 128,
     };
-    let coarse = coarsen::try_coarsen(
+    let coarse = coarsen::coarsen(
         words,
         &layout,
         limit,

@@ -21,11 +21,11 @@ pub struct Bipartition<'a> {
 }
 
 impl<'a> Bipartition<'a> {
-    /// Takes back the moves after the largest sum, the last one first.
-    pub fn roll_back(&mut self, layout: &Layout, pass: &Pass)
-        requires { (layout.now.sides < 32766) × (length layout.now.vertex_weights.now ≤ 128) × (layout.now.sides * 2 + 6 ≤ length self.old.words.now) × Split self.old.words.now layout.now.sides (length layout.now.vertex_weights.now) self.old.part.now × Under (length layout.now.vertex_weights.now) pass.now.count pass.now.moves }
+    /// Takes back the moves after the largest sum, the last one first; `moves` lists the vertices that were moved.
+    pub fn roll_back(&mut self, layout: &Layout, moves: &[u16], pass: &Pass)
+        requires { (layout.now.sides < 32766) × (length layout.now.vertex_weights.now ≤ 128) × (layout.now.sides * 2 + 6 ≤ length self.old.words.now) × Split self.old.words.now layout.now.sides (length layout.now.vertex_weights.now) self.old.part.now × Under (length layout.now.vertex_weights.now) pass.now.count moves.now }
         ensures lent { IsSameLoan self.old self.new }
-        ensures rolled { Rolled self.old.words.now self.new.words.now layout.now.sides layout.now.vertex_weights.now pass.now.moves pass.now.count (pass.now.count - pass.now.peak) (sides_at self.old) (sides_at self.new) }
+        ensures rolled { Rolled self.old.words.now self.new.words.now layout.now.sides layout.now.vertex_weights.now moves.now pass.now.count (pass.now.count - pass.now.peak) (sides_at self.old) (sides_at self.new) }
     {
         crate::roll_back(
             self.words,
@@ -33,7 +33,7 @@ impl<'a> Bipartition<'a> {
             layout.vertex_weights,
             self.part,
             &mut self.loads,
-            &pass.moves,
+            moves,
             pass.count,
             pass.peak,
         );

@@ -3,12 +3,10 @@ ghost use Rattle.moves.specs.Sums.{Counted};
 
 // Stays: `n ≤ 128`: a bound of a number, so that the sum fits a machine word; a type of its own would be unwrapped at each use.
 
-/// A pass: the vertices that were moved and how many they are, the sum of their gains, the largest sum, after how many moves it was reached, and whether the pass is
-/// over.
+/// A pass: how many vertices were moved, the sum of their gains, the largest sum, after how many moves it was reached, and whether the pass is over.
 #[derive(Clone, Copy)]
 // Stays: the sums are read after the pass is over too, so they are no `Option` in the place of the flag.
 pub struct Pass {
-    pub moves: [u16; 128],
     pub count: usize,
     pub sum: f64,
     pub best: f64,
@@ -17,10 +15,9 @@ pub struct Pass {
 }
 
 impl Pass {
-    /// Counts a move of a vertex that was taken with this key; the vertex itself is put into the list by the caller.
+    /// Counts a move of a vertex that was taken with this key; the vertex itself is put into a list by the caller.
     pub fn counted(&mut self, key: f64)
         requires { self.old.count < 65536 }
-        ensures moves { self.new.moves ≡ self.old.moves }
         ensures count { self.new.count ≡ self.old.count + 1 }
         ensures sums { Counted self.old.count self.old.sum self.old.best self.old.peak key self.new.sum self.new.best self.new.peak }
     {

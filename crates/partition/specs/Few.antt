@@ -6,6 +6,7 @@ use Rattle.std.specs.Int.Count.{ones}
 use Rattle.bits.specs.Lowest.{drop_less, places_step, places_ones}
 use Rattle.bits.specs.Splits.{ones-zero}
 use Rattle.partition.specs.Common.{common_of, common_next, common_end}
+use Rattle.partition.specs.declared.Pair.{Pair}
 
 -- 2 stands for two or more
 abbrev pub capped : ℕ → ℕ
@@ -47,6 +48,10 @@ two_set x f b g =
     sym (ap capped (ones_step x (omega (arith, f)) b ∙ ap suc (ones_step (bit_and x (x - 1)) (omega (arith, g)) y)))
 
 -- ---- two slots of two words ----
+
+-- a pair has the words of its slot
+abbrev pub AreRead : List ℕ → Pair → Type 0
+AreRead ws p = (p.low ≡ get_or ws (p.slot * 2) 0) × (p.high ≡ get_or ws (p.slot * 2 + 1) 0)
 
 plus_zero : (x y : ℕ) → x + y ≡ 0 + x + y
 plus_zero x y = omega arith

@@ -1,10 +1,12 @@
 -- Folds over a lent list's first members, and over a range. Assumes nothing.
-use Rattle.std.specs.Prelude.{◌≡◌, refl, List, [], ◌∷◌, ◌++◌, map, ℕ, ◌+◌, ◌*◌, ◌<◌, length, get_or, take}
+use Rattle.std.specs.Prelude.{◌≡◌, refl, List, [], ◌∷◌, ◌++◌, map, ℕ, ◌+◌, ◌-◌, ◌*◌, ◌^◌, ◌<◌, length, get_or, take}
 use Rattle.std.proofs.Common.{sym, ◌∙◌, arith, add-one, take-suc}
 use Rattle.std.proofs.Math.Path.{ap}
+use Rattle.std.specs.Int.Bits.{bit_and}
+use Rattle.std.specs.Int.Count.{count_trailing_zeros}
 use Rattle.spec.specs.Lists.{keep, range}
 use Rattle.spec.specs.Hypergraph.{fold_over}
-use Rattle.bits.specs.Lowest.{places}
+use Rattle.bits.specs.Lowest.{places, places_step, places_none}
 use Rattle.slots.specs.Slots.{held}
 use Rattle.slots.specs.Rising.{rising_of, word_more, held_tests}
 use Rattle.laws.specs.ListLaws.{from_last}
@@ -41,6 +43,17 @@ module _ {S : Type 0} (f : ℕ → S → S) where
 
   pub fold_stop : (l : List ℕ) (g z : S) → l ≡ [] → fold_over f l g ≡ z → g ≡ z
   fold_stop l g z e h = sym (ap (λ k. fold_over f k g) e) ∙ h
+
+  -- from a word's lowest set digit to the next
+  pub fold_place : (base rest t : ℕ) (g r z : S) → 0 < rest → rest < 2 ^ 64 → t ≡ count_trailing_zeros 64 rest → r ≡ f (base + t) g
+      → fold_over f (places base 64 rest) g ≡ z → fold_over f (places base 64 (bit_and rest (rest - 1))) r ≡ z
+  fold_place base rest t g r z pos lt e q h =
+      ap (fold_over f (places base 64 (bit_and rest (rest - 1)))) (q ∙ ap (λ (k : ℕ). f (base + k) g) e)
+      ∙ sym (ap (λ l. fold_over f l g) (places_step base 64 rest pos lt))
+      ∙ h
+
+  pub fold_places : (base rest : ℕ) (g z : S) → rest ≡ 0 → fold_over f (places base 64 rest) g ≡ z → g ≡ z
+  fold_places base rest g z e h = sym (ap (λ (k : ℕ). fold_over f (places base 64 k) g) e ∙ ap (λ l. fold_over f l g) (places_none base 64)) ∙ h
 
   -- one word more
   pub fold_word : (ws : List ℕ) (W s k x : ℕ) (z g r : S) → g ≡ fold_over f (keep (held ws W s) (range (k * 64))) z → x ≡ get_or ws (s * W + k) 0

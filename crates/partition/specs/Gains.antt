@@ -1,5 +1,5 @@
 -- The gain of a vertex's move by the slots of a hypergraph that is laid out. Assumes nothing.
-use Rattle.std.specs.Prelude.{Bool, true, false, ◌≡◌, ◌&&◌, refl, ℕ, ◌+◌, ◌-◌, ◌≤◌, ◌<◌, ltb}
+use Rattle.std.specs.Prelude.{Bool, true, false, ◌≡◌, refl, ℕ, ◌+◌, ◌-◌, ◌≤◌, ◌<◌, ltb}
 use Rattle.std.proofs.Math.Bool.{cond}
 use Rattle.std.proofs.Math.Path.{sym, ap}
 use Rattle.std.proofs.Common.{◌∙◌, arith}

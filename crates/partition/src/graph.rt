@@ -2,6 +2,7 @@ ghost use Rattle.partition.specs.Layout.{Placed};
 
 // Stays: `e < 65536`, `here < 65536`, `there < 65536`: bounds of numbers, so that a place fits a machine word; a type of its own would be unwrapped at each use.
 
+use crate::Pair;
 use crate::place::Place;
 use bits::Digits;
 
@@ -22,22 +23,23 @@ impl<'a> Hypergraph<'a> {
     ghost use Rattle.slots.specs.Rising.{rising_of};
     ghost use Rattle.partition.specs.Layout.{gain_step, gain_sum};
     ghost use Rattle.partition.specs.Gains.{IsGain};
+    ghost use Rattle.partition.specs.Few.{AreRead};
 
-    /// The gain with net `e`: slots `here` and `there` are the vertex's side and the other.
-    fn gain_step(&self, here: usize, there: usize, e: usize, g: f64) -> f64
-        requires { (here < 65536) × (there < 65536) × (e < 65536) }
-        ensures { result ≡ gain_step self.now.words.now self.now.place.nets here there self.now.weights.now e g }
+    /// The gain with net `e`: `here` and `there` are the vertex's side and the other.
+    fn gain_step(&self, here: Pair, there: Pair, e: usize, g: f64) -> f64
+        requires { (e < 65536) × AreRead self.now.words.now here × AreRead self.now.words.now there }
+        ensures { result ≡ gain_step self.now.words.now self.now.place.nets here.slot there.slot self.now.weights.now e g }
     {
-        let nets = self.place.nets;
-        let x = crate::few(self.words, nets + e, here);
-        let y = crate::few(self.words, nets + e, there);
+        let net = crate::read(self.words, self.place.nets + e);
+        let x = crate::few(net, here);
+        let y = crate::few(net, there);
         crate::gain_net(x, y, cells::get_or(self.weights, e, 0), g)
     }
 
     /// The gain `g` with the nets `base` + i for each set digit i of `x`.
-    fn gain_word(&self, here: usize, there: usize, base: usize, x: u64, g: f64) -> f64
-        requires { (here < 65536) × (there < 65536) × (base ≤ 192) }
-        ensures { result ≡ fold_over (gain_step self.now.words.now self.now.place.nets here there self.now.weights.now) (places base 64 x) g }
+    fn gain_word(&self, here: Pair, there: Pair, base: usize, x: u64, g: f64) -> f64
+        requires { (base ≤ 192) × AreRead self.now.words.now here × AreRead self.now.words.now there }
+        ensures { result ≡ fold_over (gain_step self.now.words.now self.now.place.nets here.slot there.slot self.now.weights.now) (places base 64 x) g }
     {
         let mut sum = g;
         for e in Digits::above(base, x) {
@@ -53,10 +55,12 @@ impl<'a> Hypergraph<'a> {
         ensures { result ≡ gain_sum self.now.words.now self.now.place.nets here there self.now.weights.now (rising_of self.now.words.now 4 s) }
     {
         let p = s * 4;
+        let side = crate::read(self.words, here);
+        let other = crate::read(self.words, there);
         let mut g = 0.0;
         for k in 0..4 {
             let x = cells::get_or(self.words, p + k, 0);
-            g = self.gain_word(here, there, k * 64, x, g);
+            g = self.gain_word(side, other, k * 64, x, g);
         }
         g
     }

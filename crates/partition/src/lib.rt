@@ -1,11 +1,11 @@
 #![tactic(auto)]
 //! Hypergraphs in slots of lent words, and partitions of their vertices: gains and cuts.
-ghost use Rattle.std.specs.Prelude.{◌≡◌, ◌<◌, ◌≤◌, length};
+ghost use Rattle.std.specs.Prelude.{◌≡◌, ◌<◌, ◌≤◌, ℕ, List, length};
 ghost use Rattle.std.specs.Int.Count.{ones};
 ghost use Rattle.spec.specs.Floats.{whole_float};
 ghost use Rattle.spec.specs.Fm.{gain_net};
 ghost use Rattle.partition.specs.Common.{common_of};
-ghost use Rattle.partition.specs.Few.{capped, Few};
+ghost use Rattle.partition.specs.Few.{capped, Few, AreRead};
 
 // Stays: `words: &[u64], w: usize`, `w: usize, a: usize`, `a: usize, b: usize`: two slots of the same words; a struct of words, width and slots would be made at each read.
 // Stays: `w ≤ 16`, `a < 1048576`, `b < 1048576`: bounds of numbers, so that a place fits a machine word; a type of its own would be unwrapped at each use.
@@ -48,17 +48,35 @@ fn few_ones(x: u64) -> usize
     2
 }
 
-/// Have slots `a` and `b` of two words no member in common, just one, or more: 0, 1, or above.
-// Stays: a slot is a place in lent words of the workspace that the C interface states.
-fn few(words: &[u64], a: usize, b: usize) -> usize
-    requires { (a < 1048576) × (b < 1048576) }
-    ensures { Few result (length (common_of words.now 2 a b)) }
+/// A slot of two words, with what stands in them: it is read once, and met with several others.
+#[derive(Clone, Copy)]
+// Stays: a slot and what was read there; counts and scores that are as many numbers have another meaning.
+struct Pair {
+    slot: usize,
+    low: u64,
+    high: u64,
+}
+
+/// Reads slot `s`.
+// Stays: a slot is a place in lent words of the workspace that the C interface states, and may reach past their end, where a read gives 0; so it is no slice.
+fn read(words: &[u64], s: usize) -> Pair
+    requires { s < 1048576 }
+    ensures slot { result.slot ≡ s }
+    ensures words { AreRead words.now result }
 {
-    let p = a * 2;
-    let q = b * 2;
-    let x = few_ones(cells::get_or(words, p, 0) & cells::get_or(words, q, 0));
-    let y = few_ones(cells::get_or(words, p + 1, 0) & cells::get_or(words, q + 1, 0));
-    x + y
+    let at = s * 2;
+    Pair {
+        slot: s,
+        low: cells::get_or(words, at, 0),
+        high: cells::get_or(words, at + 1, 0),
+    }
+}
+
+/// Have two slots of two words no member in common, just one, or more: 0, 1, or above.
+fn few(a: Pair, b: Pair) -> usize
+    ensures { (ws : List ℕ) → AreRead ws a → AreRead ws b → Few result (length (common_of ws 2 a.slot b.slot)) }
+{
+    few_ones(a.low & b.low) + few_ones(a.high & b.high)
 }
 
 /// The gain with one net of weight `w`, that has `here` pins on the vertex's side and `there` on the other.

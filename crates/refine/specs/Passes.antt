@@ -9,7 +9,8 @@ use Rattle.spec.specs.Hypergraph.{Hypergraph, Sides, fold_over, moved}
 use Rattle.spec.specs.Fm.{Pass, Refined, run_pass, start_pass, rolled_back, end_pass, passes, fm}
 use Rattle.partition.specs.Layout.{graph_in}
 use Rattle.partition.specs.declared.place.Place.{Place}
-use Rattle.partition.specs.Layout.{place}
+use Rattle.partition.specs.Layout.{place, place_of}
+use Rattle.partition.specs.declared.layout.Layout.{Layout}
 use Rattle.queue.specs.declared.entries.Entry.{Entry}
 use Rattle.queue.specs.Queues.{keys_of, stamps_of, waits_of}
 use Rattle.moves.specs.Kept.{Kept, kept_all, kept_then, graph_kept, Site}
@@ -116,6 +117,10 @@ pub record Halves (weights : List ℕ) (vw : List Float) (o : Place) (maxw : Flo
   pub refined : drawn part' w' ≡ fm (graph_in ws o.nets weights o.net_count vw) maxw n part w
   pub split : Split ws' o.sides o.vertex_count part'
   pub kept : Kept (o.sides * 2) ws ws'
+
+-- the same of the hypergraph of a layout
+abbrev pub Refines : Layout → Float → ℕ → List ℕ → List ℕ → List ℕ → List ℕ → Words → Words → Type 0
+Refines y maxw n ws ws' part part' w w' = Halves y.net_weights.now y.vertex_weights.now (place_of y) maxw n ws ws' part part' w w'
 
 pub split_as : (ws : List ℕ) (sides k n : ℕ) (part : List ℕ) → k ≡ n → Split ws sides k part → Split ws sides n part
 split_as ws sides k n part e h = subst (λ (z : ℕ). Split ws sides z part) e h

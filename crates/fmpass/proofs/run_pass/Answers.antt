@@ -9,7 +9,7 @@ returns-then-pass-clause-ran c =
     let g = a.layout.now in
     let l = c.loop in
     runs_over g.net_weights.now g.vertex_weights.now a.most_weight g.nets g.vertices g.sides g.net_count (lists_of a.work.now a.entries.now) (run_in a.pass.now a.draws.now)
-    (lists_of l.work l.entries) (run_in l.pass l.draws) l.counter c.if-pass.true l.invariant.4
+    (lists_of l.work l.entries) (run_in l.pass l.draws) l.counter c.if-pass.true l.invariant.3
 
 pub loop-preserved : goal.loop-preserved
 loop-preserved c =
@@ -20,9 +20,8 @@ loop-preserved c =
       omega (arith, c.loop-test.true),
       l.invariant.1,
       (t.lent.0 ∙ l.invariant.2.0, t.lent.1 ∙ l.invariant.2.1, t.lent.2 ∙ l.invariant.2.2, t.lent.3 ∙ l.invariant.2.3),
-      t.moves ∙ l.invariant.3,
       runs_next g.net_weights.now g.vertex_weights.now a.most_weight g.nets g.vertices g.sides g.net_count (lists_of a.work.now a.entries.now) (run_in a.pass.now a.draws.now)
-          (lists_of l.work l.entries) _ (run_in l.pass l.draws) _ l.counter (omega (arith, c.loop-test.true, l.invariant.1)) c.if-pass.false l.invariant.4 t.turned,
+          (lists_of l.work l.entries) _ (run_in l.pass l.draws) _ l.counter (omega (arith, c.loop-test.true, l.invariant.1)) c.if-pass.false l.invariant.3 t.turned,
     )
 
 pub returns-clause-ran : goal.returns-clause-ran
@@ -31,4 +30,4 @@ returns-clause-ran c =
     let g = a.layout.now in
     let l = c.loop in
     runs_end g.net_weights.now g.vertex_weights.now a.most_weight g.nets g.vertices g.sides g.net_count (lists_of a.work.now a.entries.now) (run_in a.pass.now a.draws.now)
-    (lists_of l.work l.entries) (run_in l.pass l.draws) l.counter (omega (arith, l.invariant.1)) l.invariant.4
+    (lists_of l.work l.entries) (run_in l.pass l.draws) l.counter (omega (arith, l.invariant.1)) l.invariant.3

@@ -15,7 +15,7 @@ returns c =
     let l = a.level.number in
     let s = c.requires in
     let k = c.layout-layout.ensures in
-    let o = c.try_coarsen-coarse in
+    let o = c.coarsen-coarse in
     let z : n ≡ l * 128 + n - l * 128 = omega arith in
     let lp = o.auto.places ∙ span_length (l * 128) n a.places.now (omega (arith, s.low, s.room, s.places_fit)) ∙ z in
     sized_as (λ (found : Bool) (i j : ℕ) (q : Made _ _ _ _ _ _ _ o.new.draws o.new.mates _ _ o.new.words o.new.weights2 o.new.vw2 o.new.places found i j).

@@ -5,4 +5,11 @@ use native.Mathlib.Omega.{arith}
 use Rattle.partition.proofs.few.Goals as goal
 
 pub returns : goal.returns
-returns c = let a = c.args in let x₀ = c.get_or.result in let y₀ = c.get_or-2.result in let x₁ = c.get_or-3.result in let y₁ = c.get_or-4.result in let b₀ : bit_and x₀ y₀ ≤ y₀ = and_le_r x₀ y₀ in let b₁ : bit_and x₁ y₁ ≤ y₁ = and_le_r x₁ y₁ in let lo : bit_and x₀ y₀ < 2 ^ 64 = omega arith in let hi : bit_and x₁ y₁ < 2 ^ 64 = omega arith in few_common a.words.now a.a a.b x₀ y₀ x₁ y₁ c.few_ones-x.result c.few_ones-y.result c.get_or.ensures c.get_or-2.ensures c.get_or-3.ensures c.get_or-4.ensures lo hi c.few_ones-x.ensures.0 c.few_ones-y.ensures.0
+returns c ws p q =
+    let a = c.args.a in
+    let b = c.args.b in
+    let b₀ : bit_and a.low b.low ≤ b.low = and_le_r a.low b.low in
+    let b₁ : bit_and a.high b.high ≤ b.high = and_le_r a.high b.high in
+    let lo : bit_and a.low b.low < 2 ^ 64 = omega arith in
+    let hi : bit_and a.high b.high < 2 ^ 64 = omega arith in
+    few_common ws a.slot b.slot a.low b.low a.high b.high c.few_ones.result c.few_ones-2.result p.0 q.0 p.1 q.1 lo hi c.few_ones.ensures.0 c.few_ones-2.ensures.0

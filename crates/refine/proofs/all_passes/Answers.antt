@@ -7,8 +7,13 @@ use Rattle.refine.proofs.all_passes.Goals as goal
 pub one_pass-requires : goal.one_pass-requires
 one_pass-requires c =
     let a = c.args in
-    let p = c.loop.invariant.2 in
-    (site_kept a.split.now.words.now c.loop.split.words.now (place_of a.layout.now) c.requires.0 p.kept, p.split)
+    let i = c.loop.invariant in
+    let p = i.2 in (
+      site_kept a.split.now.words.now c.loop.split.words.now (place_of a.layout.now) c.requires.0 p.kept,
+      p.split,
+      i.3 ∙ c.requires.2,
+      omega (arith, i.4, c.requires.3),
+    )
 
 pub returns-then-not-one_pass-clause-leads : goal.returns-then-not-one_pass-clause-leads
 returns-then-not-one_pass-clause-leads c =
@@ -38,4 +43,6 @@ loop-preserved c =
           c.one_pass.new.draws c.one_pass.result true (l.counter + 1) c.if-not-one_pass.false
           (passes_next g.net_weights.now g.vertex_weights.now g.nets g.vertices g.sides g.net_count a.most_weight a.most a.split.now.words.now x l.split.words.now s.words.now
           l.split.part.now l.split.loads l.draws _ l.counter c.requires.0 c.loop-test.true l.invariant.2 e.leads),
+      c.one_pass.auto.entries ∙ l.invariant.3,
+      c.one_pass.auto.moves ∙ l.invariant.4,
     )

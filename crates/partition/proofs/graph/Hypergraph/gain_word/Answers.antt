@@ -14,6 +14,6 @@ loop-e-init c =
     let e : places it.base 64 it.rest ≡ places d.base 64 d.x
     = (λ j. places (same j).base 64 (same j).rest) ∙ (λ j. places (c.above-e-items.ensures.0 j) 64 (c.above-e-items.ensures.1 j)) in (
       tt,
-      ap (λ l. fold_over (gain_step d.self.now.words.now d.self.now.place.nets d.here d.there d.self.now.weights.now) l d.g) e,
-      subst (λ l. All (λ k. k < 65536) l) (sym e) (places_below d.base d.x 65536 (omega (arith, c.requires.2))),
+      ap (λ l. fold_over (gain_step d.self.now.words.now d.self.now.place.nets d.here.slot d.there.slot d.self.now.weights.now) l d.g) e,
+      subst (λ l. All (λ k. k < 65536) l) (sym e) (places_below d.base d.x 65536 (omega (arith, c.requires.0))),
     )

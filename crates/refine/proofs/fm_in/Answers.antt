@@ -1,8 +1,8 @@
-use Rattle.std.proofs.Common.{length, ◌∷◌, [], rules}
+use Rattle.std.proofs.Common.{arith, length, length-take-le, ◌∷◌, [], rules}
 use Rattle.partition.specs.Layout.{place_of}
 use Rattle.moves.specs.Kept.{site_kept}
 use Rattle.refine.specs.Passes.{split_as, halves, halves_as}
-use Rattle.refine.proofs.fm.Goals as goal
+use Rattle.refine.proofs.fm_in.Goals as goal
 
 pub all_passes-requires : goal.all_passes-requires
 all_passes-requires c =
@@ -10,7 +10,12 @@ all_passes-requires c =
     let g = a.layout.now in
     let p = c.requires in
     let l = c.lay_sides in
-    (site_kept a.words.now _ (place_of g) p.0 l.ensures.1, split_as _ g.sides (length a.part.now) (length g.vertex_weights.now) a.part.now p.1 l.ensures.0)
+    let f = p.0.mesh.few.1 in (
+      site_kept a.words.now _ (place_of g) p.0 l.ensures.1,
+      split_as _ g.sides (length a.part.now) (length g.vertex_weights.now) a.part.now p.1 l.ensures.0,
+      length-take-le (length g.vertex_weights.now) _ (omega (arith, f)),
+      omega (arith, f),
+    )
 
 pub returns : goal.returns
 returns c =

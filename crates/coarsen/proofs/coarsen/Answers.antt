@@ -1,6 +1,6 @@
 use Rattle.std.proofs.Common.{◌∙◌, sym}
 use Rattle.coarsen.specs.Level.{drawn_paired, coarsened}
-use Rattle.coarsen.proofs.try_coarsen.Goals as goal
+use Rattle.coarsen.proofs.coarsen.Goals as goal
 
 pub level-size-requires : goal.level-size-requires
 level-size-requires c =
