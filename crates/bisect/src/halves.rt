@@ -39,7 +39,7 @@ fn pick(out: &mut [u16], leaves: &[u16], part: &[u8], left: bool) -> usize
 }
 
 /// Puts the leaves of side 0 before the others, each in their order, and returns how many are on side 0. The list `others` is for a copy.
-// Stays: a list of leaves, no tree.
+// Stays: `leaves` is a list of leaf numbers that is written; a `Tree` is a list of children that is only read.
 pub fn halve(leaves: &mut [u16], part: &[u8], others: &mut [u16]) -> usize
     requires { (length leaves.old ≤ length others.old) × (length leaves.old ≤ 65536) }
     ensures { (result ≡ length (left_half part.now leaves.old)) × (leaves.new ≡ left_half part.now leaves.old ++ right_half part.now leaves.old) }

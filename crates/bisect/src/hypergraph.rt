@@ -45,7 +45,7 @@ fn put_leaves(words: &mut [u64], nets: usize, leg_counts: &[u8], legs: &[u16], l
 
 /// The hypergraph of `leaves`, in slots of its own, with `weights2` and `vw`. Returns how many nets it has. The lists are those of a network: what its indices weigh,
 /// how many each leaf names, and which, from place 32 i on for leaf i.
-// Stays: asks no more of its callers than lists that fit. No conversion: it fills lent words.
+// Stays: asks no more of its callers than lists that fit; it fills lent words, of which a `From` would have no value to give.
 pub fn hypergraph_of(
     words: &mut [u64],
     slots: Slots,

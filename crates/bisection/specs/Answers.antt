@@ -1,6 +1,6 @@
 -- What the entry answers: the values of each case; the call once the network is accepted; laws of both. Assumes nothing.
 use Rattle.std.specs.Prelude.{Bool, true, false, ◌≡◌, refl, List, [], ◌∷◌, ◌++◌, ℕ, ◌-◌, ◌≤◌, ◌<◌, ltb, length, None, Some, Result, Err, Ok}
-use Rattle.std.proofs.Common.{sym, ap, ◌∙◌, arith}
+use Rattle.std.proofs.Common.{sym, ap, subst, ◌∙◌, arith}
 use Rattle.spec.specs.declared.Refusal.{Refusal}
 use Rattle.spec.specs.declared.Refusal.TheVariants.{TooLarge, ShortBuffer}
 use borrow.Author.Tests.{lt-ltb, le-ltb}
@@ -8,12 +8,12 @@ use Rattle.spec.specs.Memory.{copied, cleared}
 use Rattle.spec.specs.Network.{Network, network_checks, refusal_of}
 use Rattle.spec.specs.Draws.{Words}
 use Rattle.spec.specs.Tree.{flat_of}
-use Rattle.spec.specs.Refusal.{checked}
+use Rattle.spec.specs.Refusal.{code_of, checked}
 use Rattle.spec.specs.Calls.{Lent, lent, length_check, bisection_words, tree_places, bisection_call, touches, workspace_after, bisected_tree}
 use Rattle.spec.specs.Bisection as spec
 use Rattle.spec.specs.Bisection.{bisection}
 use Rattle.merging.specs.Removed.{flat_length}
-use Rattle.walk.specs.Entry.{past_network, past_length, network_refused, too_short, quiet_words, quiet_list, done_words, refused_words}
+use Rattle.walk.specs.Entry.{Untouched, by_network, by_length, past_network, past_length, network_refused, too_short, quiet_words, quiet_list, done_words, refused_words}
 use Rattle.bisect.specs.Cases.{ok_or_err, same_err}
 use Rattle.bisection.specs.Whole.{Whole, is_refused, is_plan, copied_out}
 
@@ -39,6 +39,15 @@ module _ (N : Network) (i cutoff : ℕ) (draws : List ℕ) (words places : ℕ) 
   unfolding bisection_in
   few_places h q = too_short lents [] (bisection N i cutoff draws) (rw (le-ltb words bisection_words h, lt-ltb places (tree_places N) q))
 
+  -- with its number, and nothing is touched
+  few_words_untouched : words < bisection_words → Untouched 7 (bisection_in N i cutoff draws words places)
+  unfolding bisection_in
+  few_words_untouched h = by_length lents [] (bisection N i cutoff draws) (rw (lt-ltb words bisection_words h))
+
+  few_places_untouched : bisection_words ≤ words → places < tree_places N → Untouched 7 (bisection_in N i cutoff draws words places)
+  unfolding bisection_in
+  few_places_untouched h q = by_length lents [] (bisection N i cutoff draws) (rw (le-ltb words bisection_words h, lt-ltb places (tree_places N) q))
+
   bisection_runs : bisection_words ≤ words → tree_places N ≤ places → bisection_in N i cutoff draws words places ≡ bisection N i cutoff draws
   unfolding bisection_in
   bisection_runs h q = past_length lents [] (bisection N i cutoff draws) (rw (le-ltb words bisection_words h, le-ltb places (tree_places N) q))
@@ -54,6 +63,10 @@ module _ (N : Network) (i cutoff : ℕ) (draws : List ℕ) (words places : ℕ) 
       holds_large : (b : Bool) → b ≡ true → checked (network_checks b N ++ (length_check lents ∷ [])) (bisection N i cutoff draws) ≡ Err TooLarge
       holds_large b e = rw e
 
+  -- with its number, and nothing is touched
+  pub large_untouched : 1000 < i → Untouched 3 whole
+  large_untouched h = record { refusal = TooLarge; is = call_large h; number = refl; quiet = refl }
+
   module _ (few : i ≤ 1000) where
     balanced : whole ≡ checked (network_checks false N ++ (length_check lents ∷ [])) (bisection N i cutoff draws)
     unfolding bisection_call
@@ -62,6 +75,10 @@ module _ (N : Network) (i cutoff : ℕ) (draws : List ℕ) (words places : ℕ) 
     -- the network is refused, or accepted
     pub call_refused : (r : Refusal) → refusal_of N ≡ Some r → whole ≡ Err r
     call_refused r e = balanced ∙ network_refused N (length_check lents ∷ []) (bisection N i cutoff draws) r e
+
+    -- with its number, and nothing is touched
+    pub refused_untouched : (k : ℕ) → k ≡ code_of (refusal_of N) → (k ≡ 0 → ⊥) → Untouched k whole
+    refused_untouched k e z = subst (Untouched k) (sym balanced) (by_network N (length_check lents ∷ []) (bisection N i cutoff draws) k e z)
 
     pub call_accepted : refusal_of N ≡ None → whole ≡ bisection_in N i cutoff draws words places
     unfolding bisection_in

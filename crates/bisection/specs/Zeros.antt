@@ -1,9 +1,11 @@
 -- Words that are 0: what the union of all of them shows, and zeros behind zeros. Assumes nothing.
 use Rattle.std.specs.Prelude.{◌≡◌, refl, List, [], ◌∷◌, ◌++◌, ℕ, zero, suc, ◌+◌, ◌-◌, ◌≤◌, ◌<◌, ltb, length, get_or, take, drop}
-use Rattle.std.proofs.Common.{sym, ap, ◌∙◌, append-nil, arith, ltb-true, ltb-false, length-drop, drop_of_length-le, ext_get_or, length-take-le}
+use Rattle.std.proofs.Common.{sym, ap, ◌∙◌, subst, append-nil, arith, take_all, ltb-true, ltb-false, length-drop, drop_of_length-le, ext_get_or, length-take-le}
 use Rattle.std.specs.Int.Bits.{bit_or, or_add_and}
 use Rattle.std.proofs.lemmas.Nat.{and_le_l, and_le_r}
+use Rattle.std.specs.List.{fold}
 use Rattle.std.proofs.lemmas.List.{replicate-append-replicate}
+use Rattle.std.proofs.lemmas.List.Sums.{fold_more}
 use Rattle.spec.specs.Memory.{filled, over, cleared}
 use Rattle.laws.specs.Booleans.{by_cases}
 use Rattle.cells.specs.Cells.{filled_length, filled_at, cleared_length}
@@ -28,6 +30,21 @@ seen_more ws seen i h e k l =
 pub seen_all : (ws : List ℕ) (seen : ℕ) → Seen ws seen (length ws) → seen ≡ 0 → ws ≡ filled (length ws) 0
 seen_all ws seen h e =
     ext_get_or 0 ws (filled (length ws) 0) (sym (filled_length (length ws) 0)) (λ k l. h e k l ∙ sym (filled_at (length ws) k 0 0 l))
+
+-- the union of the first words tells of them, and that of all words of all
+union_front : (ws : List ℕ) (i : ℕ) → i ≤ length ws → Seen ws (fold bit_or 0 (take i ws)) i
+union_front ws zero h = seen_none ws
+union_front ws (suc i) h =
+    let e : i + 1 ≡ suc i = omega arith in
+    let step : fold bit_or 0 (take (i + 1) ws) ≡ bit_or (fold bit_or 0 (take i ws)) (get_or ws i 0) = fold_more bit_or 0 ws i 0 (omega arith) in
+    subst (λ (k : ℕ). Seen ws (fold bit_or 0 (take k ws)) k) e
+    (subst (λ (x : ℕ). Seen ws x (i + 1)) (sym step) (seen_more ws (fold bit_or 0 (take i ws)) i (union_front ws i (omega arith))))
+
+pub union_zero : (ws : List ℕ) → fold bit_or 0 ws ≡ 0 → ws ≡ filled (length ws) 0
+union_zero ws e =
+    let all : Seen ws (fold bit_or 0 ws) (length ws) =
+    subst (λ (l : List ℕ). Seen ws (fold bit_or 0 l) (length ws)) (take_all (length ws) ws (omega arith)) (union_front ws (length ws) (omega arith)) in
+    seen_all ws (fold bit_or 0 ws) all e
 
 -- ---- zeros behind zeros ----
 

@@ -15,7 +15,7 @@ use network::Accepted;
 // Stays: `32768 ≤ length ws.old`: a bound of a number, so that the words have room for all levels; a type of its own would be unwrapped at each use.
 
 // A partition of the leaves, to the front of `part`. The local lists hold the weights of nets and of vertices and the map to the next level, of each level.
-// Stays: no conversion: it runs the partition and fills a lent list.
+// Stays: it takes draws and fills a lent list; a `From` would have no value to give.
 fn partition_of(
     ws: &mut [u64],
     network: &Accepted,

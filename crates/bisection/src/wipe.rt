@@ -1,17 +1,22 @@
 // The stated words made 0 at the end. Words that came as 0 and were not written are 0 still, and to look at them is faster than to write them.
 ghost use Rattle.std.specs.Prelude.{false, ◌≡◌, length};
+ghost use Rattle.std.specs.Int.Bits.{bit_or};
+ghost use Rattle.std.specs.List.{fold};
 ghost use Rattle.spec.specs.Memory.{filled, cleared};
+
+// The bits that some word has.
+fn union(words: &[u64]) -> u64
+    ensures { result ≡ fold bit_or 0 words.now }
+{
+    words.iter().fold(0, |all, &word| all | word)
+}
 
 // Is a word not 0. All words are looked at, with no branch between them.
 // Stays: tried `any`, which leaves at the first word that is set: over so many words it took four times as long.
 fn any_set(words: &[u64]) -> bool
     ensures { result ≡ false → words.now ≡ filled (length words.now) 0 }
 {
-    let mut seen = 0;
-    for &word in words {
-        seen |= word;
-    }
-    seen != 0
+    union(words) != 0
 }
 
 // Makes the words 0. The first 24,576, for levels of a hypergraph past the fourth, are written only if one of them is not; behind them stand the sides.

@@ -1,12 +1,12 @@
 -- What bisection of a network in memory promises: the number, the tree, the workspace, the answer. Assumes nothing.
-use Rattle.std.specs.Prelude.{◌≡◌, Bool, cond, ℕ, ◌≤◌, ◌<◌, ltb, length, set, Some, Result, Err, Ok, unwrap_or}
+use Rattle.std.specs.Prelude.{◌≡◌, ℕ, ◌≤◌, ◌<◌, ltb, length, set, Some, Result, Err, Ok, unwrap_or}
 use Rattle.std.proofs.Math.Path.{refl, sym, ap}
-use Rattle.std.proofs.Common.{◌∙◌, lt-ltb, le-ltb}
+use Rattle.std.proofs.Common.{◌∙◌}
 use Rattle.std.proofs.Math.Bool.{true, false}
 use mathlib.Core.List.{List, [], ◌∷◌, ◌++◌}
 use Rattle.spec.specs.declared.Refusal.{Refusal}
 use Rattle.spec.specs.declared.Refusal.TheVariants.{TooLarge, ShortBuffer}
-use Rattle.spec.specs.Memory.{cleared, over}
+use Rattle.spec.specs.Memory.{over}
 use Rattle.spec.specs.Refusal.{number_of, code_of, Check, checked}
 use Rattle.spec.specs.FileClaims.{refusal_in}
 use Rattle.spec.specs.Network.{Network, leaf_count, network_checks, refusal_of}
@@ -17,8 +17,9 @@ use Rattle.spec.specs.Calls.{lent, length_check, tree_places, touches, bisection
 use Rattle.spec.specs.Host.{memory_bisection_call, taken_after}
 use Rattle.laws.specs.Results.{checked_done}
 use Rattle.laws.specs.BisectionLaws.{bisection_valid}
-use Rattle.memory.specs.Call.{own_refused, no_room, own_is_call}
+use Rattle.memory.specs.Call.{own_refused, no_room}
 use Rattle.host.specs.Made.{made_refused, made_done}
+use Rattle.host.specs.Own.{workspace_stays, own_beyond, own_within, within_is_call}
 use Rattle.bisection.specs.Answers.{taken_of}
 
 -- every list follows the call c, and an answered tree is valid
@@ -67,8 +68,7 @@ module _ (N : Network) (i cutoff : ℕ) (draws tree₀ ws₀ answer₀ : List �
       record {
         number = q ∙ sym (ap (λ (c : Result spec.Bisected Refusal). code_of (refusal_in c)) e);
         plan = sym (ap (λ (c : Result spec.Bisected Refusal). bisected_tree c tree₀) e);
-        workspace =
-            sym (ap (λ (c : Result spec.Bisected Refusal). workspace_after bisection_words c ws₀) e ∙ ap (λ (b : Bool). cond b (cleared ws₀ bisection_words) ws₀) t);
+        workspace = workspace_stays bisection_words ws₀ x e t;
         answer_is = sym (ap (λ (c : Result spec.Bisected Refusal). taken_after c answer₀) e);
         sound = sound_of;
       }
@@ -76,23 +76,19 @@ module _ (N : Network) (i cutoff : ℕ) (draws tree₀ ws₀ answer₀ : List �
   -- too much imbalance
   pub too_uneven : 1000 < i → MemoryBisects N i cutoff draws tree₀ ws₀ answer₀ tree₀ ws₀ answer₀ 3
   unfolding memory_bisection_call
-  too_uneven h = stays TooLarge (large (ltb 1000 i) (lt-ltb 1000 i h)) refl refl
-    where
-      large : (b : Bool) → b ≡ true → checked (network_checks b N ++ short) bisecting ≡ Err TooLarge
-      large b e = rw e
+  too_uneven h = stays TooLarge (own_beyond N 1000 i (length answer₀) 1 bisecting h) refl refl
 
   module _ (few : i ≤ 1000) where
     own_checks : own ≡ checked (network_checks false N ++ short) bisecting
     unfolding memory_bisection_call
-    own_checks = ap (λ (b : Bool). checked (network_checks b N ++ short) bisecting) (le-ltb 1000 i few)
+    own_checks = own_within N 1000 i (length answer₀) 1 bisecting few
 
     -- with room for the answer the call is bisection's
     as_bisecting : 1 ≤ length answer₀ → own ≡ bisecting
-    unfolding bisection_call
+    unfolding memory_bisection_call bisection_call
     as_bisecting h =
         let rest : List Check = length_check (lent (length ws₀) bisection_words ∷ lent (length tree₀) (tree_places N) ∷ []) ∷ [] in
-        own_is_call N (length answer₀) 1 own bisecting own_checks rest (bisection N i cutoff draws)
-        (ap (λ (b : Bool). checked (network_checks b N ++ rest) (bisection N i cutoff draws)) (le-ltb 1000 i few)) h
+        within_is_call N 1000 i (length answer₀) 1 bisecting few rest (bisection N i cutoff draws) refl h
 
     -- a count above its limit
     pub large_network : refusal_of N ≡ Some TooLarge → MemoryBisects N i cutoff draws tree₀ ws₀ answer₀ tree₀ ws₀ answer₀ 3

@@ -1,12 +1,12 @@
 -- What improvement on a network in memory promises: the number, the tree, the workspace, the answer. Assumes nothing.
-use Rattle.std.specs.Prelude.{◌≡◌, Bool, cond, ℕ, ◌≤◌, ◌<◌, ltb, length, Option, None, Some, Result, Err, Ok, unwrap_or}
+use Rattle.std.specs.Prelude.{◌≡◌, Bool, cond, ℕ, ◌≤◌, ◌<◌, length, Option, None, Some, Result, Err, Ok, unwrap_or}
 use Rattle.std.proofs.Math.Path.{refl, sym, ap}
 use Rattle.std.proofs.Common.{◌∙◌, subst, lt-ltb, le-ltb}
-use Rattle.std.proofs.Math.Bool.{true, false}
+use Rattle.std.proofs.Math.Bool.{false}
 use mathlib.Core.List.{List, [], ◌∷◌, ◌++◌}
 use Rattle.spec.specs.declared.Refusal.{Refusal}
 use Rattle.spec.specs.declared.Refusal.TheVariants.{TooLarge, ShortBuffer}
-use Rattle.spec.specs.Memory.{cleared, over}
+use Rattle.spec.specs.Memory.{over}
 use Rattle.spec.specs.Refusal.{number_of, code_of, Check, checked}
 use Rattle.spec.specs.FileClaims.{refusal_in}
 use Rattle.spec.specs.Network.{Network, network_checks, refusal_of}
@@ -15,8 +15,9 @@ use Rattle.spec.specs.Improve as spec
 use Rattle.spec.specs.Improve.{improve}
 use Rattle.spec.specs.Calls.{lent, length_check, tree_check, flags_check, beyond_check, dangling_check, flag_at, touches, improve_words, improve_call, workspace_after, improved_tree}
 use Rattle.spec.specs.Host.{limit_number, memory_improve_call, improve_after}
-use Rattle.memory.specs.Call.{own_refused, no_room, own_is_call}
+use Rattle.memory.specs.Call.{own_refused, no_room}
 use Rattle.host.specs.Made.{made_refused, made_done}
+use Rattle.host.specs.Own.{workspace_stays, own_beyond, own_within, within_is_call}
 use Rattle.reconf.specs.declared.Visited.{Visited}
 use Rattle.reconfigure.specs.Answers.{given, counts_of, Improving}
 
@@ -59,27 +60,23 @@ module _ (N : Network) (k passes : ℕ) (limit : Option ℕ) (flags kids₀ ws�
       record {
         number = q ∙ sym (ap (λ (c : Result spec.Improved Refusal). code_of (refusal_in c)) e);
         tree = sym (ap (λ (c : Result spec.Improved Refusal). improved_tree c kids₀) e);
-        workspace =
-            sym (ap (λ (c : Result spec.Improved Refusal). workspace_after (improve_words k) c ws₀) e ∙ ap (λ (b : Bool). cond b (cleared ws₀ (improve_words k)) ws₀) t);
+        workspace = workspace_stays (improve_words k) ws₀ x e t;
         answer_is = sym (ap (λ (c : Result spec.Improved Refusal). improve_after c answer₀) e);
       }
 
   -- too many passes
   pub many_passes : 255 < passes → MemoryReconfigures N k passes limit flags kids₀ ws₀ answer₀ kids₀ ws₀ answer₀ 3
   unfolding memory_improve_call
-  many_passes h = stays TooLarge (large (ltb 255 passes) (lt-ltb 255 passes h)) refl refl
-    where
-      large : (b : Bool) → b ≡ true → checked (network_checks b N ++ short) improving ≡ Err TooLarge
-      large b e = rw e
+  many_passes h = stays TooLarge (own_beyond N 255 passes (length answer₀) 2 improving h) refl refl
 
   module _ (few : passes ≤ 255) where
     own_checks : own ≡ checked (network_checks false N ++ short) improving
     unfolding memory_improve_call
-    own_checks = ap (λ (b : Bool). checked (network_checks b N ++ short) improving) (le-ltb 255 passes few)
+    own_checks = own_within N 255 passes (length answer₀) 2 improving few
 
     -- with room for the answer the call is improvement's
     as_improving : 2 ≤ length answer₀ → own ≡ improving
-    unfolding improve_call
+    unfolding memory_improve_call improve_call
     as_improving h =
         let rest : List Check =
         length_check (lent (length ws₀) (improve_words k) ∷ [])
@@ -89,7 +86,7 @@ module _ (N : Network) (k passes : ℕ) (limit : Option ℕ) (flags kids₀ ws�
         ∷ dangling_check N
         ∷ [] in
         let p : Result spec.Improved Refusal = Ok (improve N k passes limit (flag_at flags) (pairs_of kids₀)) in
-        own_is_call N (length answer₀) 2 own improving own_checks rest p (ap (λ (b : Bool). checked (network_checks b N ++ rest) p) (le-ltb 255 passes few)) h
+        within_is_call N 255 passes (length answer₀) 2 improving few rest p refl h
 
     -- a count above its limit
     pub large_network : refusal_of N ≡ Some TooLarge → MemoryReconfigures N k passes limit flags kids₀ ws₀ answer₀ kids₀ ws₀ answer₀ 3

@@ -1,12 +1,12 @@
 -- What slicing of a network in memory promises: the number, the tree, the flags, the workspace, the answer. Assumes nothing.
-use Rattle.std.specs.Prelude.{◌≡◌, refl, Bool, cond, ℕ, ◌≤◌, ◌<◌, length, Some, Result, Err, Ok, unwrap_or}
+use Rattle.std.specs.Prelude.{◌≡◌, refl, Bool, ℕ, ◌≤◌, ◌<◌, length, Some, Result, Err, Ok, unwrap_or}
 use Rattle.std.proofs.Math.Path.{sym, ap}
 use Rattle.std.proofs.Common.{◌∙◌}
 use Rattle.std.proofs.Math.Bool.{false}
 use mathlib.Core.List.{List, [], ◌∷◌, ◌++◌}
 use Rattle.spec.specs.declared.Refusal.{Refusal}
 use Rattle.spec.specs.declared.Refusal.TheVariants.{TooLarge, ShortBuffer}
-use Rattle.spec.specs.Memory.{cleared, over}
+use Rattle.spec.specs.Memory.{over}
 use Rattle.spec.specs.Refusal.{number_of, code_of, Check, checked}
 use Rattle.spec.specs.FileClaims.{refusal_in}
 use Rattle.spec.specs.Network.{Network, index_count, network_checks, refusal_of}
@@ -16,6 +16,7 @@ use Rattle.spec.specs.Calls.{lent, length_check, tree_check, beyond_check, dangl
 use Rattle.spec.specs.Host.{memory_slice_call, slice_after}
 use Rattle.memory.specs.Call.{own_refused, no_room, own_is_call}
 use Rattle.host.specs.Made.{made_refused, made_done}
+use Rattle.host.specs.Own.{workspace_stays}
 use Rattle.reconf.specs.declared.Visited.{Visited}
 use Rattle.slicetree.specs.Answers.{counts}
 
@@ -53,8 +54,7 @@ module _ (N : Network) (improving : Bool) (target : ℕ) (kids₀ flags₀ ws₀
         number = q ∙ sym (ap (λ (c : Result Plan Refusal). code_of (refusal_in c)) e);
         tree = sym (ap (λ (c : Result Plan Refusal). sliced_tree c kids₀) e);
         flags_are = sym (ap (λ (c : Result Plan Refusal). sliced_flags N c flags₀) e);
-        workspace =
-            sym (ap (λ (c : Result Plan Refusal). workspace_after (slice_words improving) c ws₀) e ∙ ap (λ (b : Bool). cond b (cleared ws₀ (slice_words improving)) ws₀) t);
+        workspace = workspace_stays (slice_words improving) ws₀ x e t;
         answer_is = sym (ap (λ (c : Result Plan Refusal). slice_after c answer₀) e);
       }
 

@@ -63,7 +63,7 @@ pub fn bisect(
     let network = memory::record_of(lists);
     check_room(&network, answer.len(), 1)?;
     let taken = bisection::plan(&network, imbalance, cutoff, draws, tree, ws)?;
-    // Stays: u64 has no From<usize>, and TryFrom would add an error that cannot come
+    // Stays: u64 has no From<usize>, and TryFrom would add an error that never comes.
     cells::put(answer, 0, taken as u64);
     Ok(())
 }

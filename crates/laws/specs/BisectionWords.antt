@@ -11,69 +11,39 @@ use Rattle.spec.specs.Hypergraph.{until, fold_over, Hypergraph, vertex_count, ve
 use Rattle.spec.specs.Fm.{Entry, Queue, largest, taken_out, entered_as, entered_again, Gains, counted, Pass, Refined, move_limit, fits_in, after_move, turn_of, pass_turn, run_pass, start_pass, end_pass, fm}
 use Rattle.spec.specs.Coarsen.{swapped, shuffled, Choice, Level, unmatched, ratings, looked_at, mated, matched, matching, level_of, worthwhile, coarsen}
 use Rattle.spec.specs.Bisection.{Growth, Strongest, offered, linked_by, half, grown_on, grown_by, growth_turn, ended, grown, Candidate, better, candidate_of, tries, part_of, initial, side_limit, refined_from, through_level, multilevel, bisect}
-use Rattle.laws.specs.WordLaws.{Held, drawn_held, Goes, still, stays, either, after, over, turns_go, drawing}
+use Rattle.laws.specs.WordLaws.{Held, held, drawn_held, Goes, still, stays, either, after, over, turns_go, drawing}
 
 -- ---- the states ----
 
 abbrev queue_held : Held Queue
 queue_held =
-    record {
-      get = λ q. q.words;
-      put = λ ws q. record { keys = q.keys; stamps = q.stamps; waiting = q.waiting; words = ws };
-      get-put = λ ws q. refl;
-      put-put = λ ws ws' q. refl;
-      put-get = λ q. refl;
-    }
+    held (λ q. q.words) (λ ws q. record { keys = q.keys; stamps = q.stamps; waiting = q.waiting; words = ws })
+    (λ ws q. refl) (λ ws ws' q. refl) (λ q. refl)
 
 abbrev pass_held : Held Pass
 pass_held =
-    record {
-      get = λ p. p.queue.words;
-      put = λ ws p. record { sides = p.sides; queue = queue_held.put ws p.queue; gains = p.gains; over = p.over };
-      get-put = λ ws p. refl;
-      put-put = λ ws ws' p. refl;
-      put-get = λ p. refl;
-    }
+    held (λ p. p.queue.words) (λ ws p. record { sides = p.sides; queue = queue_held.put ws p.queue; gains = p.gains; over = p.over })
+    (λ ws p. refl) (λ ws ws' p. refl) (λ p. refl)
 
 abbrev refined_held : Held Refined
 refined_held =
-    record {
-      get = λ r. r.words;
-      put = λ ws r. record { sides = r.sides; better = r.better; words = ws };
-      get-put = λ ws r. refl;
-      put-put = λ ws ws' r. refl;
-      put-get = λ r. refl;
-    }
+    held (λ r. r.words) (λ ws r. record { sides = r.sides; better = r.better; words = ws })
+    (λ ws r. refl) (λ ws ws' r. refl) (λ r. refl)
 
 abbrev choice_held : Held Choice
 choice_held =
-    record {
-      get = λ c. c.words;
-      put = λ ws c. record { best = c.best; mate = c.mate; rating = c.rating; words = ws };
-      get-put = λ ws c. refl;
-      put-put = λ ws ws' c. refl;
-      put-get = λ c. refl;
-    }
+    held (λ c. c.words) (λ ws c. record { best = c.best; mate = c.mate; rating = c.rating; words = ws })
+    (λ ws c. refl) (λ ws ws' c. refl) (λ c. refl)
 
 abbrev strongest_held : Held Strongest
 strongest_held =
-    record {
-      get = λ c. c.words;
-      put = λ ws c. record { link = c.link; vertex = c.vertex; words = ws };
-      get-put = λ ws c. refl;
-      put-put = λ ws ws' c. refl;
-      put-get = λ c. refl;
-    }
+    held (λ c. c.words) (λ ws c. record { link = c.link; vertex = c.vertex; words = ws })
+    (λ ws c. refl) (λ ws ws' c. refl) (λ c. refl)
 
 abbrev growth_held : Held Growth
 growth_held =
-    record {
-      get = λ g. g.words;
-      put = λ ws g. record { part = g.part; weight = g.weight; links = g.links; next = g.next; words = ws };
-      get-put = λ ws g. refl;
-      put-put = λ ws ws' g. refl;
-      put-get = λ g. refl;
-    }
+    held (λ g. g.words) (λ ws g. record { part = g.part; weight = g.weight; links = g.links; next = g.next; words = ws })
+    (λ ws g. refl) (λ ws ws' g. refl) (λ g. refl)
 
 abbrev part_held : Held (Drawn (List ℕ))
 part_held = drawn_held (List ℕ)

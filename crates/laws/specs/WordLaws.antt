@@ -25,15 +25,20 @@ pub record Held (T : Type 0) : Type 0 where
   pub put-put : (ws ws' : Words) (t : T) → put ws (put ws' t) ≡ put ws t
   pub put-get : (t : T) → put (get t) t ≡ t
 
-abbrev pub drawn_held : (A : Type 0) → Held (Drawn A)
-drawn_held A =
+-- the state whose words are read by one function and put by the other; of a record all three laws are refl
+abbrev pub held : {T : Type 0} (read : T → Words) (write : Words → T → T) → ((ws : Words) (t : T) → read (write ws t) ≡ ws)
+    → ((ws ws' : Words) (t : T) → write ws (write ws' t) ≡ write ws t) → ((t : T) → write (read t) t ≡ t) → Held T
+held read write read_written written_twice written_read =
     record {
-      get = λ d. d.words;
-      put = λ ws d. drawn d.value ws;
-      get-put = λ ws t. refl;
-      put-put = λ ws ws' t. refl;
-      put-get = λ t. refl;
+      get = read;
+      put = write;
+      get-put = read_written;
+      put-put = written_twice;
+      put-get = written_read;
     }
+
+abbrev pub drawn_held : (A : Type 0) → Held (Drawn A)
+drawn_held A = held (λ d. d.words) (λ ws d. drawn d.value ws) (λ ws d. refl) (λ ws ws' d. refl) (λ d. refl)
 
 -- some of the words l are taken, or a draw was due and none was left
 abbrev pub Past : List ℕ → Words → Type 0

@@ -5,12 +5,15 @@ use Rattle.spec.specs.Memory.{over}
 use Rattle.spec.specs.Layout.{network_of}
 use Rattle.spec.specs.Network.{Network, leaf_count, index_count, Sliceable}
 use Rattle.spec.specs.NetworkClaims.{Accepted}
-use Rattle.spec.specs.Tree.{Pair}
+use Rattle.spec.specs.Tree.{Pair, step_order}
 use Rattle.spec.specs.Price.{Step, list_at, listing, flat_steps, size_at, work_at, price_of}
 use Rattle.spec.specs.Calls.{node_places, step_places}
 use Rattle.spec.specs.RunClaims.{RunsToDirectSum}
 use Rattle.laws.specs.Integers.{ℤ_semiring}
+use Rattle.walk.specs.declared.valid.Tree.{Tree}
+use Rattle.network.specs.declared.accepted.Accepted.{Accepted as Lists}
 use Rattle.network.specs.Checks.{Rows}
+use Rattle.network.specs.Views.{net_in}
 use Rattle.slots.specs.Slots.{held}
 use Rattle.nodesets.specs.Passes.{nodes, with_sets}
 use Rattle.nodesets.specs.Lists.{Ordered}
@@ -26,6 +29,18 @@ pub record Priceable (W m n o : ℕ) (weights counts rows outputs kids order : L
   pub row_places : Rows n counts rows
   pub accepted : Accepted (network_of m n o weights counts rows outputs)
   pub ordered : Ordered n kids order
+
+-- a set of W words has at most M places for indices, of 1,024 that are always enough
+abbrev pub FitsIn : (M W : ℕ) → Type 0
+FitsIn M W = (W * 64 ≤ M) × (M ≤ 1024)
+
+-- the tree is one of as many leaves as the network has
+abbrev pub HasLeavesOf : Lists → Tree → Type 0
+HasLeavesOf network tree = tree.leaves ≡ leaf_count (net_in network)
+
+-- the order is that of the tree's steps
+abbrev pub IsOrderOf : Tree → List ℕ → Type 0
+IsOrderOf tree order = order ≡ step_order tree.kids.now tree.leaves
 
 -- the lists that are filled are long enough
 pub record Room (W n : ℕ) (kids order : List ℕ) (outside sets sizes works steps : ℕ) : Type 0 where

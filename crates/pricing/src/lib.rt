@@ -16,7 +16,7 @@ ghost use Rattle.pricing.specs.Answers.{widest_in};
 ghost use Rattle.pricing.specs.Sums.{work_sum, slice_share};
 ghost use Rattle.pricing.specs.Lines.{lines};
 ghost use Rattle.pricing.specs.Lists.{IsSameLoan};
-ghost use Rattle.pricing.specs.Promise.{Priceable, Room, Pricing};
+ghost use Rattle.pricing.specs.Promise.{FitsIn, Priceable, Room, Pricing};
 
 pub mod list; // list.rt: the price list
 
@@ -43,7 +43,7 @@ pub fn total_of(works: &[u16], n: usize, c: usize) -> Total
 }
 
 /// The size bits of the widest of the first `m` nodes; none without nodes.
-// Stays: the widest of some tables, no conversion; `m` nodes are priced in a list that is lent longer.
+// Stays: the `widest` of the first `m` nodes, as the definition names it; they are priced in a list that is lent longer.
 pub fn widest_of(sizes: &[u16], m: usize) -> Option<u16>
     requires { m ≤ length sizes.now }
     ensures { result ≡ widest_in (firsts m sizes.now) }
@@ -126,7 +126,7 @@ pub fn price<const M: usize>(
     kids: &[u16],
     order: &[u16],
 ) -> Prices
-    requires width { (w * 64 ≤ M) × (M ≤ 1024) }
+    requires width { FitsIn M w }
     requires priceable { Priceable w m n o weights.now counts.now legs.now outputs.now kids.now order.now }
     requires room { Room w n kids.now order.now (length outside.old) (length list.old.sets.now) (length list.old.sizes.now) (length list.old.works.now) (length steps.old) }
     ensures lent { IsSameLoan list.old list.new }

@@ -1,15 +1,15 @@
 // The price list: an entry for each node, in lists that are lent together.
 ghost use Rattle.std.specs.Prelude.{◌≡◌, ◌+◌, ◌*◌, ◌≤◌, length};
 ghost use Rattle.spec.specs.Layout.{firsts, network_of};
-ghost use Rattle.spec.specs.Tree.{pairs_of, step_order};
-ghost use Rattle.spec.specs.Network.{leaf_count, index_count};
+ghost use Rattle.spec.specs.Tree.{pairs_of};
+ghost use Rattle.spec.specs.Network.{index_count};
 ghost use Rattle.spec.specs.Calls.{flag_at, node_places, step_places};
 ghost use Rattle.spec.specs.Price.{up_to};
 ghost use Rattle.network.specs.Views.{net_in};
 ghost use Rattle.pricing.specs.Answers.{widest_in};
 ghost use Rattle.pricing.specs.Sums.{work_sum};
 ghost use Rattle.nodesets.specs.Passes.{nodes};
-ghost use Rattle.pricing.specs.Promise.{Priceable, Filled, Pricing};
+ghost use Rattle.pricing.specs.Promise.{FitsIn, HasLeavesOf, IsOrderOf, Priceable, Filled, Pricing};
 ghost use Rattle.pricing.specs.Lists.{IsSameLoan, HasRoom};
 
 use network::Accepted;
@@ -31,7 +31,7 @@ pub struct PriceList<'a> {
 impl<'a> PriceList<'a> {
     /// Prices the nodes of a network's tree in step order: each node's set of `w` words, its size bits and its work bits with the given flags.
     /// A set has at most `M` places for indices, `w * 64 ≤ M`; `outside` is worked in.
-    // Stays: workspace, flags and tree are lent apart by the C interface; the order is in a list of the caller's, who prices more than once with it.
+    // Stays: workspace, flags and tree are lent apart by the C interface; the order is in a list of the caller's.
     pub fn price<const M: usize>(
         &mut self,
         outside: &mut [u64],
@@ -41,10 +41,10 @@ impl<'a> PriceList<'a> {
         tree: &Tree,
         order: &[u16],
     )
-        requires width { (w * 64 ≤ M) × (M ≤ 1024) }
+        requires width { FitsIn M w }
         requires fits { index_count (net_in network.now) ≤ w * 64 }
-        requires leaves { tree.now.leaves ≡ leaf_count (net_in network.now) }
-        requires order { order.now ≡ step_order tree.now.kids.now tree.now.leaves }
+        requires leaves { HasLeavesOf network.now tree.now }
+        requires order { IsOrderOf tree.now order.now }
         requires outside { node_places (net_in network.now) * w ≤ length outside.old }
         requires room { HasRoom w (node_places (net_in network.now)) self.old }
         ensures lent { IsSameLoan self.old self.new }
@@ -71,10 +71,10 @@ impl<'a> PriceList<'a> {
         tree: &Tree,
         order: &[u16],
     ) -> Prices
-        requires width { (w * 64 ≤ M) × (M ≤ 1024) }
+        requires width { FitsIn M w }
         requires fits { index_count (net_in network.now) ≤ w * 64 }
-        requires leaves { tree.now.leaves ≡ leaf_count (net_in network.now) }
-        requires order { order.now ≡ step_order tree.now.kids.now tree.now.leaves }
+        requires leaves { HasLeavesOf network.now tree.now }
+        requires order { IsOrderOf tree.now order.now }
         requires outside { node_places (net_in network.now) * w ≤ length outside.old }
         requires room { HasRoom w (node_places (net_in network.now)) self.old }
         requires steps { step_places (net_in network.now) * 5 ≤ length steps.old }
@@ -107,7 +107,7 @@ impl<'a> PriceList<'a> {
         kids: &[u16],
         order: &[u16],
     )
-        requires width { (w * 64 ≤ M) × (M ≤ 1024) }
+        requires width { FitsIn M w }
         requires priceable { Priceable w m n o weights.now counts.now legs.now outputs.now kids.now order.now }
         requires outside { nodes n kids.now * w ≤ length outside.old }
         requires room { HasRoom w (nodes n kids.now) self.old }

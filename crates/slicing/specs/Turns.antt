@@ -1,5 +1,5 @@
 -- One turn of slicing, and turn after turn, in the terms of a lent list of flags. Assumes nothing.
-use Rattle.std.specs.Prelude.{Bool, true, false, cond, ◌≡◌, refl, List, [], ◌∷◌, ℕ, zero, suc, ◌^◌, ◌≤◌, ◌<◌, length, get_or, set, Option, None, Some}
+use Rattle.std.specs.Prelude.{Bool, true, false, cond, ◌≡◌, refl, List, [], ◌∷◌, ℕ, zero, suc, ◌*◌, ◌^◌, ◌≤◌, ◌<◌, length, get_or, set, Option, None, Some}
 use Rattle.std.proofs.Common.{sym, ◌∙◌, ap, arith, length-set, get_or-set_same, get_or-set_other, eq-eqb, ne_eqb, lt-ltb}
 use Rattle.std.proofs.Math.Path.{fun_ext}
 use Rattle.std.proofs.Math.Decide.{ℕ_discrete}
@@ -8,8 +8,11 @@ use Rattle.spec.specs.Network.{Network, index_count}
 use Rattle.spec.specs.Tree.{pairs_of}
 use Rattle.spec.specs.Price.{up_to, listing, work}
 use Rattle.spec.specs.declared.Total.{Total}
-use Rattle.spec.specs.Calls.{flag_at}
+use Rattle.spec.specs.Calls.{flag_at, node_places}
 use Rattle.spec.specs.Slicing.{Plan, FollowUp, within_target, also, widest_of, candidate, candidates, best, chosen, choose, slice_loop, as_is}
+use Rattle.network.specs.Views.{net_in}
+use Rattle.network.specs.declared.accepted.Accepted.{Accepted}
+use Rattle.pricing.specs.Promise.{Priceable, Room}
 use Rattle.cost.specs.Back.{exact_of}
 use Rattle.laws.specs.Booleans.{clash, and_right}
 use Rattle.laws.specs.ListLaws.{memb-keep, from_memb}
@@ -32,6 +35,18 @@ is_index (Some f) = true
 abbrev pub with_flag : Option Found → List ℕ → List ℕ
 with_flag None l = l
 with_flag (Some f) l = set l f.index 1
+
+-- what a turn prices: an accepted network, a valid tree and its step order, in lent lists; four words a set
+abbrev pub TurnPriceable : (m n o : ℕ) (weights counts rows outputs kids order : List ℕ) → Type 0
+TurnPriceable m n o weights counts rows outputs kids order = Priceable 4 m n o weights counts rows outputs kids order
+
+-- the words that are worked in suffice for the nodes, and so do a turn's own lists
+abbrev pub TurnRoom : (n : ℕ) (kids order : List ℕ) (outside : ℕ) → Type 0
+TurnRoom n kids order outside = Room 4 n kids order outside 1024 256 256 640
+
+-- the words that are worked in have four for each node of a tree of the network
+abbrev pub HasOutside : Accepted → List ℕ → Type 0
+HasOutside network outside = node_places (net_in network) * 4 ≤ length outside
 
 -- the flags have a place an index, each 0 or 1, and with them the total is exact
 pub record Within (N : Network) (kids flags : List ℕ) : Type 0 where

@@ -1,14 +1,12 @@
 #![tactic(auto)]
 //! Slicing on lent lists: turn after turn one index more is flagged, until the widest table is within the target or no candidate is left.
-ghost use Rattle.std.specs.Prelude.{◌≡◌, ◌*◌, ◌≤◌, max, length};
-ghost use Rattle.spec.specs.Network.{leaf_count, index_count};
+ghost use Rattle.std.specs.Prelude.{◌≡◌, max, length};
+ghost use Rattle.spec.specs.Network.{index_count};
 ghost use Rattle.spec.specs.Layout.{network_of};
-ghost use Rattle.spec.specs.Calls.{node_places};
-ghost use Rattle.spec.specs.Tree.{step_order};
 ghost use Rattle.spec.specs.Slicing.{or_zero, within_target};
 ghost use Rattle.network.specs.Views.{net_in};
-ghost use Rattle.pricing.specs.Promise.{Priceable, Room};
-ghost use Rattle.slicing.specs.Turns.{with_flag, is_index, Within, Turned, Sliced};
+ghost use Rattle.pricing.specs.Promise.{HasLeavesOf, IsOrderOf};
+ghost use Rattle.slicing.specs.Turns.{with_flag, is_index, TurnPriceable, TurnRoom, HasOutside, Within, Turned, Sliced};
 
 mod ranks; // ranks.rt: the index that is sliced next
 mod tallies; // tallies.rt: sums by index over the steps and the tables of a tree
@@ -62,8 +60,8 @@ pub fn turn(
     order: &[u16],
     target: u16,
 ) -> bool
-    requires priceable { Priceable 4 m n o weights.now counts.now legs.now outputs.now kids.now order.now }
-    requires room { Room 4 n kids.now order.now (length outside.old) 1024 256 256 640 }
+    requires priceable { TurnPriceable m n o weights.now counts.now legs.now outputs.now kids.now order.now }
+    requires room { TurnRoom n kids.now order.now (length outside.old) }
     requires within { Within (network_of m n o weights.now counts.now legs.now outputs.now) kids.now flags.old }
     ensures { Turned (network_of m n o weights.now counts.now legs.now outputs.now) target kids.now flags.old flags.new result }
 {
@@ -99,9 +97,9 @@ pub fn turn_of(
     order: &[u16],
     target: u16,
 ) -> bool
-    requires leaves { tree.now.leaves ≡ leaf_count (net_in network.now) }
-    requires order { order.now ≡ step_order tree.now.kids.now tree.now.leaves }
-    requires outside { node_places (net_in network.now) * 4 ≤ length outside.old }
+    requires leaves { HasLeavesOf network.now tree.now }
+    requires order { IsOrderOf tree.now order.now }
+    requires outside { HasOutside network.now outside.old }
     requires within { Within (net_in network.now) tree.now.kids.now flags.old }
     ensures { Turned (net_in network.now) target tree.now.kids.now flags.old flags.new result }
 {
@@ -130,8 +128,8 @@ pub fn slice(
     order: &[u16],
     target: u16,
 )
-    requires priceable { Priceable 4 m n o weights.now counts.now legs.now outputs.now kids.now order.now }
-    requires room { Room 4 n kids.now order.now (length outside.old) 1024 256 256 640 }
+    requires priceable { TurnPriceable m n o weights.now counts.now legs.now outputs.now kids.now order.now }
+    requires room { TurnRoom n kids.now order.now (length outside.old) }
     requires within { Within (network_of m n o weights.now counts.now legs.now outputs.now) kids.now flags.old }
     ensures { Sliced (network_of m n o weights.now counts.now legs.now outputs.now) target kids.now flags.old m flags.new }
 {
@@ -154,9 +152,9 @@ pub fn slice_of(
     order: &[u16],
     target: u16,
 )
-    requires leaves { tree.now.leaves ≡ leaf_count (net_in network.now) }
-    requires order { order.now ≡ step_order tree.now.kids.now tree.now.leaves }
-    requires outside { node_places (net_in network.now) * 4 ≤ length outside.old }
+    requires leaves { HasLeavesOf network.now tree.now }
+    requires order { IsOrderOf tree.now order.now }
+    requires outside { HasOutside network.now outside.old }
     requires within { Within (net_in network.now) tree.now.kids.now flags.old }
     ensures { Sliced (net_in network.now) target tree.now.kids.now flags.old (index_count (net_in network.now)) flags.new }
 {
