@@ -4,7 +4,7 @@ ghost use Rattle.std.specs.Iterator.{YieldsFirst, item_count};
 ghost use Rattle.bits.specs.Lowest.{places};
 
 /// The numbers `base` + i for the places i of a word's set digits, from the lowest up.
-// Stays: an iterator over digits; that others have two numbers too is chance.
+// Stays: the number where the places begin, and the digits that are left; one type for this and for another two numbers could name neither.
 #[derive(Clone, Copy)]
 pub struct Digits {
     base: usize,
@@ -22,7 +22,7 @@ impl Digits {
     }
 
     /// The numbers `base` + i for the places i of the set digits of `x`, from the lowest up.
-    // Stays: no comparison: it makes the iterator. `base ≤ 65536` is the ghost field, asked for where the value is made.
+    // Stays: it makes the iterator, and `above` says where its numbers begin. `base ≤ 65536` is the ghost field, asked for where the value is made.
     #[inline]
     pub fn above(base: usize, x: u64) -> Digits
         requires { base ≤ 65536 }

@@ -52,7 +52,7 @@ refused None y k e = clash k tt e
 refused (Some j) y k e = let w : k ≡ j = cc in ap Err (sym w)
 
 -- a network, and nothing more
-abbrev after : Due → Network → Reading
+abbrev pub after : Due → Network → Reading
 after d N = record { due = d; read = record { network = N; tree = None; ask = plain } }
 
 -- a refusal by the first of two checks, or none at all
@@ -90,31 +90,30 @@ module _ (p : List ℕ) where
   unfolding outputs_refusal
   outputs_fit m e = ltb-false 32 (length p) (cond_none (ltb 32 (length p)) TooLarge _ (passed (outputs_refusal m p) e))
 
-  module _ (R : Record) where
-    pub leaf_decide : take_leaf (net_of R) p
-        ≡ decide (leaf_refusal R.index_count R.leaf_count p) (Ok (after leaves_due (record { leaves = (net_of R).leaves ++ (p ∷ []); outputs = []; weights = (net_of R).weights })))
-    unfolding leaf_refusal
-    leaf_decide =
-        let y = Ok (after leaves_due (record { leaves = (net_of R).leaves ++ (p ∷ []); outputs = []; weights = (net_of R).weights })) in
-        ap₂ (λ i j. decide (leaf_refusal i j p) y) (indices R) (leaves R)
+  pub leaf_decide : (N : Network) (m k : ℕ) → index_count N ≡ m → leaf_count N ≡ k
+      → take_leaf N p ≡ decide (leaf_refusal m k p) (Ok (after leaves_due (record { leaves = N.leaves ++ (p ∷ []); outputs = []; weights = N.weights })))
+  unfolding leaf_refusal
+  leaf_decide N m k a b =
+      let y = Ok (after leaves_due (record { leaves = N.leaves ++ (p ∷ []); outputs = []; weights = N.weights })) in
+      ap₂ (λ i j. decide (leaf_refusal i j p) y) a b
 
-    pub outputs_decide : take_outputs (net_of R) p
-        ≡ decide (outputs_refusal R.index_count p) (Ok (after tree_due (record { leaves = (net_of R).leaves; outputs = p; weights = (net_of R).weights })))
-    unfolding outputs_refusal
-    outputs_decide =
-        let y = Ok (after tree_due (record { leaves = (net_of R).leaves; outputs = p; weights = (net_of R).weights })) in
-        ap (λ i. decide (outputs_refusal i p) y) (indices R)
+  pub outputs_decide : (N : Network) (m : ℕ) → index_count N ≡ m
+      → take_outputs N p ≡ decide (outputs_refusal m p) (Ok (after tree_due (record { leaves = N.leaves; outputs = p; weights = N.weights })))
+  unfolding outputs_refusal
+  outputs_decide N m a =
+      let y = Ok (after tree_due (record { leaves = N.leaves; outputs = p; weights = N.weights })) in
+      ap (λ i. decide (outputs_refusal i p) y) a
 
-    pub tree_decide : take_tree (net_of R) p
-        ≡ decide (tree_refusal R.leaf_count p) (Ok (record { due = ask_due; read = record { network = net_of R; tree = Some p; ask = plain } }))
-    unfolding tree_refusal
-    tree_decide = ap (λ i. decide (tree_refusal i p) (Ok (record { due = ask_due; read = record { network = net_of R; tree = Some p; ask = plain } }))) (leaves R)
+  pub tree_decide : (N : Network) (k : ℕ) → leaf_count N ≡ k
+      → take_tree N p ≡ decide (tree_refusal k p) (Ok (record { due = ask_due; read = record { network = N; tree = Some p; ask = plain } }))
+  unfolding tree_refusal
+  tree_decide N k a = ap (λ i. decide (tree_refusal i p) (Ok (record { due = ask_due; read = record { network = N; tree = Some p; ask = plain } }))) a
 
-    pub flags_decide : (tree : Option (List ℕ)) → take_flags (net_of R) tree p
-        ≡ decide (flags_refusal R.index_count p) (Ok (record { due = end_due; read = record { network = net_of R; tree = tree; ask = flagged p } }))
-    unfolding flags_refusal
-    flags_decide tree =
-        ap (λ i. decide (flags_refusal i p) (Ok (record { due = end_due; read = record { network = net_of R; tree = tree; ask = flagged p } }))) (indices R)
+  pub flags_decide : (N : Network) (tree : Option (List ℕ)) (m : ℕ) → index_count N ≡ m
+      → take_flags N tree p ≡ decide (flags_refusal m p) (Ok (record { due = end_due; read = record { network = N; tree = tree; ask = flagged p } }))
+  unfolding flags_refusal
+  flags_decide N tree m a =
+      ap (λ i. decide (flags_refusal i p) (Ok (record { due = end_due; read = record { network = N; tree = tree; ask = flagged p } }))) a
 
 -- a target field not of one byte
 pub target_not : (N : Network) (tree : Option (List ℕ)) (p : List ℕ) → (length p ≡ 1 → ⊥) → take_target N tree p ≡ Err TooLarge
@@ -124,41 +123,69 @@ target_not N tree (w ∷ v ∷ p) n = refl
 
 -- ---- what has been read where they pass ----
 
+-- a record without a tree stands for what has been read, and it is sound
+abbrev pub Taken : Result Reading Refusal → Due → Record → Type 0
+Taken R d n = (R ≡ Ok (after d (net_of n))) × Sound n
+
 -- the record with the weights of a file
 pub weights_taken : (p weights counts cells outputs : List ℕ) → length p ≤ length weights → Ok tt ≡ verdict (weights_refusal p)
-    → take_weights p ≡ Ok (after leaves_due (network_of (length p) 0 0 (placed weights 0 p) counts cells outputs))
-unfolding network_of firsts
-weights_taken p weights counts cells outputs h e =
-    weights_decide p
-    ∙ decided (weights_refusal p) _ e
-    ∙ ap (λ l. Ok (after leaves_due (record { leaves = []; outputs = []; weights = l }))) (sym (firsts_whole weights p h))
+    → Taken (take_weights p) leaves_due
+    (record { index_count = length p; leaf_count = 0; output_count = 0; weights = placed weights 0 p; leg_counts = counts; legs = cells; outputs = outputs })
+unfolding net_of network_of firsts
+weights_taken p weights counts cells outputs h e = (
+  weights_decide p
+      ∙ decided (weights_refusal p) _ e
+      ∙ ap (λ l. Ok (after leaves_due (record { leaves = []; outputs = []; weights = l }))) (sym (firsts_whole weights p h)),
+  record { leaves = omega arith; few = λ i k. absurd (omega arith) },
+)
 
-module _ (R : Record) (sound : Sound R) (p : List ℕ) where
-  pub leaf_taken : 128 ≤ length R.leg_counts → 4096 ≤ length R.legs → Ok tt ≡ verdict (leaf_refusal R.index_count R.leaf_count p)
-      → take_leaf (net_of R) p
-      ≡ Ok (after leaves_due (network_of R.index_count (R.leaf_count + 1) 0 R.weights (set R.leg_counts R.leaf_count (length p)) (placed R.legs (R.leaf_count * 32) p) R.outputs))
-  unfolding net_of network_of firsts
-  leaf_taken c d e =
-      let (f, g) = leaf_fits p R.index_count R.leaf_count e in
-      leaf_decide p R
-      ∙ decided (leaf_refusal R.index_count R.leaf_count p) _ e
-      ∙ ap (λ N. Ok (after leaves_due N)) (sym (layout_more_leaves R.index_count R.leaf_count 0 R.weights R.leg_counts R.legs R.outputs p sound.few (omega arith) (omega arith) f))
-
+module _ (R : Record) (sound : Sound R) where
   -- the counts with one leaf more
-  pub few_more : Ok tt ≡ verdict (leaf_refusal R.index_count R.leaf_count p) → R.leaf_count < length R.leg_counts
-      → (i : ℕ) → i < R.leaf_count + 1 → get_or (set R.leg_counts R.leaf_count (length p)) i 0 ≤ 32
-  few_more e b i k =
+  pub few_more : (n : ℕ) → n ≤ 32 → R.leaf_count < length R.leg_counts
+      → (i : ℕ) → i < R.leaf_count + 1 → get_or (set R.leg_counts R.leaf_count n) i 0 ≤ 32
+  few_more n a b i k =
       elim (dec_le R.leaf_count i) [
-        | yes q ↦ let z : i ≡ R.leaf_count = omega arith in rw (z, get_or-set_same R.leg_counts R.leaf_count (length p) 0 b) (leaf_fits p R.index_count R.leaf_count e).0
-        | no q ↦ rw (get_or-set_other R.leg_counts R.leaf_count i (length p) 0 (λ z. omega arith)) (sound.few i (omega arith))
+        | yes q ↦ let z : i ≡ R.leaf_count = omega arith in rw (z, get_or-set_same R.leg_counts R.leaf_count n 0 b) a
+        | no q ↦ rw (get_or-set_other R.leg_counts R.leaf_count i n 0 (λ z. omega arith)) (sound.few i (omega arith))
       ]
 
-  pub outputs_taken : 32 ≤ length R.outputs → Ok tt ≡ verdict (outputs_refusal R.index_count p)
-      → take_outputs (net_of R) p
-      ≡ Ok (after tree_due (network_of R.index_count R.leaf_count (length p) R.weights R.leg_counts R.legs (placed R.outputs 0 p)))
-  unfolding net_of network_of
-  outputs_taken c e =
-      let f : length p ≤ 32 = outputs_fit p R.index_count e in
-      outputs_decide p R
-      ∙ decided (outputs_refusal R.index_count p) _ e
-      ∙ ap (λ l. Ok (after tree_due (record { leaves = (net_of R).leaves; outputs = l; weights = (net_of R).weights }))) (sym (firsts_whole R.outputs p (omega arith)))
+  module _ (p : List ℕ) where
+    pub leaf_taken : 128 ≤ length R.leg_counts → 4096 ≤ length R.legs → Ok tt ≡ verdict (leaf_refusal R.index_count R.leaf_count p)
+        → Taken (take_leaf (net_of R) p) leaves_due
+        (record {
+          index_count = R.index_count;
+          leaf_count = R.leaf_count + 1;
+          output_count = 0;
+          weights = R.weights;
+          leg_counts = set R.leg_counts R.leaf_count (length p);
+          legs = placed R.legs (R.leaf_count * 32) p;
+          outputs = R.outputs;
+        })
+    unfolding net_of network_of firsts
+    leaf_taken c d e =
+        let (f, g) = leaf_fits p R.index_count R.leaf_count e in (
+          leaf_decide p (net_of R) R.index_count R.leaf_count (indices R) (leaves R)
+              ∙ decided (leaf_refusal R.index_count R.leaf_count p) _ e
+              ∙ ap (λ N. Ok (after leaves_due N)) (sym (layout_more_leaves R.index_count R.leaf_count 0 R.weights R.leg_counts R.legs R.outputs p sound.few (omega arith) (omega arith) f)),
+          record { leaves = omega arith; few = few_more (length p) f (omega arith) },
+        )
+
+    pub outputs_taken : 32 ≤ length R.outputs → Ok tt ≡ verdict (outputs_refusal R.index_count p)
+        → Taken (take_outputs (net_of R) p) tree_due
+        (record {
+          index_count = R.index_count;
+          leaf_count = R.leaf_count;
+          output_count = length p;
+          weights = R.weights;
+          leg_counts = R.leg_counts;
+          legs = R.legs;
+          outputs = placed R.outputs 0 p;
+        })
+    unfolding net_of network_of
+    outputs_taken c e =
+        let f : length p ≤ 32 = outputs_fit p R.index_count e in (
+          outputs_decide p (net_of R) R.index_count (indices R)
+              ∙ decided (outputs_refusal R.index_count p) _ e
+              ∙ ap (λ l. Ok (after tree_due (record { leaves = (net_of R).leaves; outputs = l; weights = (net_of R).weights }))) (sym (firsts_whole R.outputs p (omega arith))),
+          record { leaves = sound.leaves; few = sound.few },
+        )

@@ -1,6 +1,6 @@
 -- The loop over the members for the one of most work. Assumes nothing.
-use Rattle.std.specs.Prelude.{List, ◌≡◌, ℕ, ◌+◌, ◌≤◌, ◌<◌, length, get_or, drop, Option, None, Some}
-use Rattle.std.proofs.Common.{sym, ap, ◌∙◌, add-one, drop_of_length-le, drop-cons}
+use Rattle.std.specs.Prelude.{List, ◌≡◌, ℕ, ◌+◌, ◌≤◌, ◌<◌, length, get_or, take, drop, Option, None, Some}
+use Rattle.std.proofs.Common.{sym, ap, ◌∙◌, add-one, drop_of_length-le, drop-cons, get_or-take}
 use borrow.Author.Tests.{lt-ltb, le-ltb}
 use Rattle.frontier.specs.Opens.{more_than, more_rank, ranks}
 use Rattle.frontier.specs.declared.Most.{Most}
@@ -46,3 +46,7 @@ module _ (n : ℕ) (works : List ℕ) (l : List ℕ) where
 
   pub ranking_end : (s : Option Most) (p : ℕ) → length l ≤ p → Ranking s p → s ≡ ranks n works None 0 l
   ranking_end s p h k = sym (ap (ranks n works s p) (drop_of_length-le l h)) ∙ k
+
+-- a member of the front
+pub front_at : (members : List ℕ) (m p v : ℕ) → p < m → v ≡ get_or members p 0 → v ≡ get_or (take m members) p 0
+front_at members m p v h e = e ∙ sym (get_or-take m members p 0 h)

@@ -6,7 +6,7 @@ ghost use Rattle.frontier.specs.Costs.{cost_below};
 ghost use Rattle.frontier.specs.Opens.{more_rank, ranks, state, open_at, open_most, openings};
 
 /// A member's place, and its work bits.
-// Stays: a place and its work; that others have two numbers too is chance.
+// Stays: a member's place and its work bits; one type for this and for another two numbers could name neither.
 #[derive(Clone, Copy)]
 pub struct Most {
     pub place: usize,

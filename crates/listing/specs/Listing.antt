@@ -25,7 +25,7 @@ use Rattle.network.specs.Record.{net_of}
 use Rattle.network.specs.Layouts.{leaf_count_lem}
 use Rattle.network.specs.declared.Network.{Network as Record}
 use Rattle.pricing.specs.Handed.{flat_length}
-use Rattle.cost.specs.Answers.{told, TreeCost}
+use Rattle.cost.specs.Answers.{room, told, TreeCost}
 use Rattle.listing.specs.Head.{head_length}
 
 -- the lists that pricing fills have the places of the largest network
@@ -121,30 +121,45 @@ module _ (R : Record) (flags kids out : List ℕ) where
   tells_short e h =
       tells_refused ShortBuffer out (no_room (net_of R) flags kids (length out) (omega (arith, leaf_count_lem R)))
 
-  -- with the lists that pricing fills
-  module _ {ws sets sizes works steps ws' sets' sizes' works' steps' : List ℕ} (full : FullRoom ws sets sizes works steps) {x : Result Prices Refusal}
-      (cost : TreeCost (net_of R) flags kids ws sets sizes works steps ws' sets' sizes' works' steps' x) where
-    its : x ≡ price_call (net_of R) plain_words full_room flags kids
-    its = let e = cost.answered.answer in cc
+  pub enough : {n : ℕ} → n ≡ R.leaf_count - 1 → 16 + n * 10 ≤ length out → listing_length (net_of R) ≤ length out
+  enough e h = omega (arith, leaf_count_lem R)
+
+  -- with the lists that pricing fills; c is its call
+  module _ {ws sets sizes works steps : List ℕ} (full : FullRoom ws sets sizes works steps) {c : Result Prices Refusal}
+      (own : c ≡ price_call (net_of R) (length ws) (room (length sets) (length sizes) (length works) (length steps)) flags kids) where
+    pub same_call : c ≡ price_call (net_of R) plain_words full_room flags kids
+    same_call = cc
 
     module _ {n : ℕ} (e : n ≡ R.leaf_count - 1) (h : 16 + n * 10 ≤ length out) where
-      enough : listing_length (net_of R) ≤ length out
-      enough = omega (arith, leaf_count_lem R)
+      pub answer_refused : {r : Refusal} → c ≡ Err r → Tells (listing_call (length out) (net_of R) flags kids) (Err r) out out
+      answer_refused {r} q = tells_refused r out (not_priced (net_of R) flags kids (length out) (enough e h) r (sym same_call ∙ q))
 
-      pub tells_priced_not : {r : Refusal} → x ≡ Err r → Tells (listing_call (length out) (net_of R) flags kids) (Err r) out out
-      tells_priced_not {r} q = tells_refused r out (not_priced (net_of R) flags kids (length out) enough r (sym its ∙ q))
-
-      pub tells_priced : {p : Prices} {after : List ℕ} → R.leaf_count ≤ 128 → x ≡ Ok p
-          → after ≡ placed (placed out 0 (head_bytes n p)) 16 (two_each (take (n * 5) steps'))
+      pub answer_done : {p : Prices} {t after : List ℕ} → R.leaf_count ≤ 128 → c ≡ Ok p
+          → t ≡ priced_steps (net_of R) flags kids c steps
+          → after ≡ placed (placed out 0 (head_bytes n p)) 16 (two_each (take (n * 5) t))
           → Tells (listing_call (length out) (net_of R) flags kids) (Ok tt) out after
-      tells_priced {p} {after} few q a =
+      answer_done {p} {t} {after} few q s a =
           let N : Network = net_of R in
-          let y : price_call N plain_words full_room flags kids ≡ Ok p = sym its ∙ q in
+          let y : price_call N plain_words full_room flags kids ≡ Ok p = sym same_call ∙ q in
           let m : n ≡ step_places N = omega (arith, leaf_count_lem R) in
           tells_done (listing_bytes N (flag_at flags) (pairs_of kids)) out
-          (is_priced N flags kids (length out) enough p y)
-          (listing_placed N flags kids plain_words full_room p y out steps steps'
+          (is_priced N flags kids (length out) (enough e h) p y)
+          (listing_placed N flags kids plain_words full_room p y out steps t
           (omega (arith, leaf_count_lem R, full.step_numbers))
-          (cost.answered.steps_are ∙ ap (λ z. priced_steps N flags kids z steps) (sym cost.answered.answer ∙ q))
+          (s ∙ ap (λ z. priced_steps N flags kids z steps) q)
           refl
-          (a ∙ ap (λ k. placed (placed out 0 (head_bytes k p)) 16 (two_each (take (k * 5) steps'))) m))
+          (a ∙ ap (λ k. placed (placed out 0 (head_bytes k p)) 16 (two_each (take (k * 5) t))) m))
+
+  -- the same where c is what pricing promises
+  module _ {ws sets sizes works steps ws' sets' sizes' works' steps' : List ℕ} (full : FullRoom ws sets sizes works steps) {x : Result Prices Refusal}
+      (cost : TreeCost (net_of R) flags kids ws sets sizes works steps ws' sets' sizes' works' steps' x)
+      {n : ℕ} (e : n ≡ R.leaf_count - 1) (h : 16 + n * 10 ≤ length out) where
+    pub tells_priced_not : {r : Refusal} → x ≡ Err r → Tells (listing_call (length out) (net_of R) flags kids) (Err r) out out
+    tells_priced_not q = answer_refused full cost.answered.answer e h q
+
+    pub tells_priced : {p : Prices} {after : List ℕ} → R.leaf_count ≤ 128 → x ≡ Ok p
+        → after ≡ placed (placed out 0 (head_bytes n p)) 16 (two_each (take (n * 5) steps'))
+        → Tells (listing_call (length out) (net_of R) flags kids) (Ok tt) out after
+    tells_priced few q a =
+        answer_done full cost.answered.answer e h few q
+        (cost.answered.steps_are ∙ ap (λ z. priced_steps (net_of R) flags kids z steps) (sym cost.answered.answer)) a

@@ -74,7 +74,7 @@ pub fn local_indices(
 }
 
 /// The same of all members of a list.
-// Stays: of all of a list by its name, no search; a set stands in its slot of a lent list, whose width a caller picks.
+// Stays: `all` says that the whole list is taken: this is `local_indices` for a list of members; a set stands in its slot of a lent list, whose width a caller picks.
 pub fn all_local_indices(
     words: &mut [u64],
     w: usize,
@@ -137,7 +137,7 @@ pub fn local_sets(
 }
 
 /// The same of all members and all local indices of lists.
-// Stays: of all of both lists by its name, no search.
+// Stays: `all` says that both lists are taken whole: this is `local_sets` for a list of members.
 pub fn all_local_sets(
     united: &mut [[u64; 2]],
     sets: &[u64],
@@ -174,7 +174,7 @@ pub fn local_weights(out: &mut [u8], weights: &[u8], local: &[u16], c: usize)
 }
 
 /// The weights of all local indices of a list, and 0 past them.
-// Stays: of all of a list by its name, no search.
+// Stays: `all` says that the whole list is taken: this is `local_weights` for a list of indices.
 pub fn all_local_weights(out: &mut [u8], weights: &[u8], local: &[u16])
     ensures { (i : ℕ) → i < length out.old → get_or out.new i 0 ≡ local_weight weights.now local.now (length local.now) i }
 {

@@ -1,7 +1,7 @@
 -- The choice of a mate in lent lists, and a matching by slots. Assumes nothing.
-use Rattle.std.specs.Prelude.{Bool, true, false, ◌&&◌, cond, ◌≡◌, List, ℕ, get_or, set, Float, Option, None, Some}
+use Rattle.std.specs.Prelude.{Bool, true, false, ◌&&◌, cond, ◌≡◌, List, ℕ, length, get_or, set, Float, Option, None, Some}
 use Rattle.std.proofs.Math.Bool.{and-false}
-use Rattle.std.proofs.Common.{sym, ap, ◌∙◌}
+use Rattle.std.proofs.Common.{sym, ap, ◌∙◌, length-set}
 use Rattle.std.specs.Float.{binary64}
 use Rattle.std.specs.Float.Ieee.{add, mul, lt, le}
 use Rattle.spec.specs.Floats.{zero_float, micro, whole_float}
@@ -62,3 +62,9 @@ module _ (vw : List Float) (limit : Float) (ws ws' : Words) (rating rating' : Li
       → choice_of best mate rating' ws' ≡ looked vw limit v u (choice_of best mate rating ws)
   looked_heavy y z ey ez q =
       looked_by false (ap (λ t. lt best (noisy g noise) && t) (sym (λ i. le (add binary64 (ey i) (ez i)) limit) ∙ q) ∙ and-false (lt best (noisy g noise)))
+
+-- ---- a pair, by the list of mates ----
+
+pub mated_length : (v : ℕ) (mate : Option ℕ) (mates mates' : List ℕ) → mates' ≡ mated_in v mate mates → length mates' ≡ length mates
+mated_length v (Some u) mates mates' e = ap length e ∙ length-set (set mates v u) u v ∙ length-set mates v u
+mated_length v None mates mates' e = ap length e ∙ length-set mates v v

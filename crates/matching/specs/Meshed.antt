@@ -1,19 +1,18 @@
 -- A hypergraph in slots, without sides: the nets of a vertex, and a matching by them. Assumes nothing.
-use Rattle.std.specs.Prelude.{◌&&◌, ◌≡◌, refl, ℕ, ◌+◌, ◌-◌, ◌≤◌, ◌<◌, ltb, Float, get_or, take, None, Option, Some}
+use Rattle.std.specs.Prelude.{◌≡◌, refl, ℕ, ◌+◌, ◌-◌, ◌≤◌, ◌<◌, Float, get_or, take, None, Option, Some}
 use Rattle.std.proofs.Math.Bool.{cond}
 use Rattle.std.proofs.Math.Path.{sym, ap}
-use Rattle.std.proofs.Common.{◌∙◌, subst, arith, length-take-le, lt-ltb, le-ltb, eq-eqb, ne_eqb}
-use mathlib.Core.List.{List, [], ◌∷◌, ◌++◌, map, append-nil}
+use Rattle.std.proofs.Common.{◌∙◌, subst, arith, length-take-le, eq-eqb, ne_eqb}
+use mathlib.Core.List.{List, [], ◌∷◌, map}
 use Rattle.std.proofs.Math.ListN.{length, replicate}
-use Rattle.spec.specs.Lists.{memb, keep, range}
+use Rattle.spec.specs.Lists.{range}
 use Rattle.spec.specs.Memory.{filled}
 use Rattle.spec.specs.Floats.{zero_float}
 use Rattle.spec.specs.Draws.{Words, Drawn, drawn}
 use Rattle.spec.specs.Hypergraph.{fold_over, Net, Hypergraph, nets_at}
 use Rattle.spec.specs.Coarsen.{Ratings, Choice, rated_by, ratings, looked_at, mated, matched, shuffled, matching}
-use Rattle.laws.specs.ListLaws.{keep_ext_from, keep_none_from, range_length, keep-map}
-use Rattle.slots.specs.Slots.{held}
-use Rattle.slots.specs.Rising.{rising_of, memb_rising, keep-add}
+use Rattle.laws.specs.ListLaws.{range_length}
+use Rattle.slots.specs.Rising.{rising_of}
 use Rattle.partition.specs.Layout.{net_in, graph_in, Crossed}
 use Rattle.partition.specs.Folds.{fold_map}
 use Rattle.partition.specs.Gains.{fold_cong, nets_crossed}
@@ -27,6 +26,10 @@ pub record Meshed (ws : List ℕ) (nets vertices m n : ℕ) : Type 0 where
   pub crossed : Crossed ws nets vertices m n
 
 -- ---- lists ----
+
+fold_ext : {A S : Type 0} (f g : A → S → S) (l : List A) (s : S) → ((x : A) (t : S) → f x t ≡ g x t) → fold_over f l s ≡ fold_over g l s
+fold_ext f g [] s h = refl
+fold_ext f g (x ∷ l) s h = ap (fold_over f l) (h x s) ∙ fold_ext f g l (g x s) h
 
 -- how long the front of an array of 128 places is
 pub front_long : (n : ℕ) → n ≤ 128 → length {A = ℕ} (take n (replicate 128 0)) ≡ n

@@ -1,6 +1,6 @@
 -- The drawn order of the vertices, place by place. Assumes nothing.
 use Rattle.std.specs.Prelude.{◌≡◌, List, [], ◌∷◌, ◌++◌, ℕ, zero, suc, ◌+◌, ◌-◌, ◌≤◌, ◌<◌, length, get_or, set, take}
-use Rattle.std.proofs.Common.{sym, ap, ◌∙◌, arith, add-one, take-suc-set}
+use Rattle.std.proofs.Common.{sym, ap, ◌∙◌, arith, add-one, length-set, take-suc-set}
 use Rattle.std.proofs.Math.Seq.{take-length}
 use Rattle.spec.specs.Lists.{from, range}
 use Rattle.spec.specs.Draws.{Words, Drawn, drawn, draw, index_draw}
@@ -31,9 +31,21 @@ drawn_swap i d =
     let w = index_draw (suc i) d.words in
     drawn (swapped i w.value d.value) w.words
 
-pub swap_is : (words words' : Words) (l l' : List ℕ) (i n j : ℕ) → n ≡ i + 1 → j ≡ (index_draw n words).value → words' ≡ (index_draw n words).words
+pub swap_is : (words words' : Words) (l l₁ l₂ : List ℕ) (i n j x y : ℕ) → n ≡ i + 1 → j ≡ (index_draw n words).value → x ≡ get_or l i 0 → y ≡ get_or l j 0
+    → l₁ ≡ set l i y → l₂ ≡ set l₁ j x → words' ≡ (draw words).words → drawn l₂ words' ≡ drawn_swap i (drawn l words)
+swap_is words words' l l₁ l₂ i n j x y en ej ex ey e₁ e₂ ew =
+    (λ k. drawn (e₂ k) (ew k))
+    ∙ ap (λ t. drawn (set t j x) (draw words).words) e₁
+    ∙ (λ k. drawn (set (set l i (ey k)) j (ex k)) (draw words).words)
+    ∙ ap (λ (q : ℕ). drawn (swapped i q l) (draw words).words) (ej ∙ ap (λ (m : ℕ). (index_draw m words).value) (en ∙ add-one i))
+
+pub swap_length : (l l₁ l₂ : List ℕ) (i j x y : ℕ) → l₁ ≡ set l i y → l₂ ≡ set l₁ j x → length l₂ ≡ length l
+swap_length l l₁ l₂ i j x y e₁ e₂ = ap length e₂ ∙ length-set l₁ j x ∙ ap length e₁ ∙ length-set l i y
+
+-- the same by std's swap of two places that the list has
+pub swap_within : (words words' : Words) (l l' : List ℕ) (i n j : ℕ) → n ≡ i + 1 → j ≡ (index_draw n words).value → words' ≡ (index_draw n words).words
     → i < length l → j < length l → l' ≡ swap l i j → drawn l' words' ≡ drawn_swap i (drawn l words)
-swap_is words words' l l' i n j en ej ew hi hj e =
+swap_within words words' l l' i n j en ej ew hi hj e =
     (λ k. drawn (e k) (ew k))
     ∙ ap (λ t. drawn t (draw words).words) (swap-swapped l i j hi hj)
     ∙ ap (λ (q : ℕ). drawn (swapped i q l) (draw words).words) (ej ∙ ap (λ (m : ℕ). (index_draw m words).value) (en ∙ add-one i))

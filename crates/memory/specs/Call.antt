@@ -1,13 +1,13 @@
 -- The call on a network in memory, beside pricing's. Assumes nothing.
-use Rattle.std.specs.Prelude.{◌≡◌, refl, ℕ, ◌*◌, ◌≤◌, ◌<◌, Option, None, Some, Result, Err, Ok, unwrap_or}
+use Rattle.std.specs.Prelude.{◌≡◌, refl, Bool, true, ℕ, ◌*◌, ◌≤◌, ◌<◌, Option, None, Some, Result, Err, Ok, unwrap_or}
 use Rattle.std.proofs.Math.Path.{sym, ap, subst}
-use Rattle.std.proofs.Common.{◌∙◌, le-ltb, lt-ltb}
+use Rattle.std.proofs.Common.{◌∙◌, arith, le-ltb, lt-ltb}
 use Rattle.std.proofs.Math.Bool.{false}
 use mathlib.Core.List.{List, [], ◌∷◌, ◌++◌}
 use Rattle.spec.specs.declared.Refusal.{Refusal}
-use Rattle.spec.specs.declared.Refusal.TheVariants.{ShortBuffer}
+use Rattle.spec.specs.declared.Refusal.TheVariants.{ShortBuffer, TooLarge, Overweight, OutOfRange, Repeated}
 use Rattle.spec.specs.declared.Prices.{Prices}
-use Rattle.spec.specs.Refusal.{Check, decide, checked}
+use Rattle.spec.specs.Refusal.{Check, check, first, decide, checked}
 use Rattle.spec.specs.Network.{Network, network_checks, refusal_of}
 use Rattle.spec.specs.Price.{price_of}
 use Rattle.spec.specs.Tree.{pairs_of}
@@ -23,6 +23,15 @@ checked-append (c ∷ a) b r = by_cases c.holds (λ h. rw h) (λ h. rw h (checke
 pub decide_twice : {A : Type 0} (o : Option Refusal) (r : Result A Refusal) → decide o (decide o r) ≡ decide o r
 decide_twice None r = refl
 decide_twice (Some k) r = refl
+
+-- the refusals of a network's four conditions touch no list
+first_touches : (a b c d : Bool) (k : Refusal) → first (check a TooLarge ∷ check b Overweight ∷ check c OutOfRange ∷ check d Repeated ∷ []) ≡ Some k
+    → touches k ≡ false
+first_touches true b c d k e = let w : TooLarge ≡ k = cc in ap touches (sym w)
+first_touches false true c d k e = let w : Overweight ≡ k = cc in ap touches (sym w)
+first_touches false false true d k e = let w : OutOfRange ≡ k = cc in ap touches (sym w)
+first_touches false false false true k e = let w : Repeated ≡ k = cc in ap touches (sym w)
+first_touches false false false false k e = absurd (let w : ◌≡◌ {A = ℕ} 0 1 = cc in omega arith)
 
 -- a network's own refusals leave the workspace as it is
 pub untouched : (N : Network) (k : Refusal) → refusal_of N ≡ Some k → touches k ≡ false

@@ -51,7 +51,7 @@ pub fn too_large(m: usize, o: usize, counts: &[u8]) -> bool
 }
 
 /// The record of lists of which no count is above its limit.
-// Stays: a record holds arrays of fixed lengths, as there is no heap. It is handed out by itself: within a `Result` its nine KiB were copied once more.
+// Stays: a record holds arrays of fixed lengths, as there is no heap. It is handed out by itself: within a `Result` its 8.5 KiB were copied once more.
 pub fn record_of(lists: &Lists) -> Network
     requires { large_of (length lists.now.weights.now) (length lists.now.leg_counts.now) (length lists.now.outputs.now) lists.now.leg_counts.now ≡ false }
     ensures { net_of result ≡ net_lent lists.now }

@@ -7,3 +7,4 @@ pub mod Codes
 pub mod Additions
 pub mod Lists
 pub mod Views
+pub mod Fronts

@@ -3,7 +3,7 @@ ghost use Rattle.network.specs.Lists.{Holds};
 
 /// An accepted network: at most 128 leaves of at most 32 indices each, at most 256 indices of 0 to 8 bits, at most 32 outputs; every index
 /// that a leaf or the outputs name is one of the network's, and none is named twice by one of them.
-// Stays: lists of three lengths: one place an index, one a leaf, a row of 32 a leaf, one an output.
+// Stays: lists of four lengths: one place an index, one a leaf, a row of 32 a leaf, one an output.
 #[derive(Clone, Copy)]
 pub struct Accepted<'a> {
     /// the weight of each index, in bits

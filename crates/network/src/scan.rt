@@ -9,7 +9,7 @@ ghost use Rattle.network.specs.Checks.{Row, Rows, leaves_of};
 use crate::Network;
 
 /// Is a byte above the limit.
-// Stays: no order of two values: a search for a byte.
+// Stays: the one call of `any` is given a name, by which the check of weights and that of leg counts both ask it.
 pub fn above(bytes: &[u8], limit: u8) -> bool
     ensures { result ≡ anyb (λ k. ltb limit k) bytes.now }
 {
@@ -25,7 +25,7 @@ pub(crate) fn out_of_range(row: &[u16], m: usize) -> bool
 }
 
 // Does an index stand at two places. Both loops are left at the first repeat.
-// Stays: a rule of the project names this form: it leaves both of its loops at the first one.
+// Stays: a rule of the project names this form: it leaves both of its loops at the first repeat.
 pub(crate) fn repeated(row: &[u16]) -> bool
     ensures { result ≡ repeats row.now }
 {

@@ -3,15 +3,18 @@ use Rattle.std.specs.Prelude.{◌≡◌, refl, Bool, true, false, not, ◌||◌,
 use Rattle.std.proofs.Common.{sym, ap, ◌∙◌, arith, lt-ltb, le-ltb}
 use Rattle.std.proofs.Math.Path.{subst}
 use Rattle.std.proofs.lemmas.Bool.{eqb-false}
+use Rattle.std.proofs.lemmas.Option.{none-some}
 use borrow.Author.Tests.{ltb-false}
 use Rattle.spec.specs.declared.Refusal.{Refusal}
 use Rattle.spec.specs.declared.Refusal.TheVariants.{ShortBuffer, InvalidTree}
-use Rattle.spec.specs.Refusal.{Check, first, decide}
+use Rattle.spec.specs.Refusal.{Check, first, decide, passes}
 use Rattle.spec.specs.Lists.{anyb}
 use Rattle.spec.specs.Network.{Network, leaf_count, index_count, network_checks, refusal_of}
+use Rattle.spec.specs.NetworkClaims.{Accepted}
 use Rattle.spec.specs.Tree.{valid, pairs_of}
 use Rattle.spec.specs.Calls.{wrong_tree, lent, length_check}
 use Rattle.spec.specs.File.{Ask, plain, flagged, target, Contents, tree_field, ask_field, file_of, tree_checks, flags_checks, write_checks, write_of, buffer_after}
+use Rattle.laws.specs.Accepted.{accepted_means}
 use Rattle.laws.specs.Booleans.{or_none}
 use Rattle.laws.specs.FileLists.{valid_length}
 use Rattle.laws.specs.FileBytes.{tree_bytes}
@@ -21,7 +24,7 @@ use Rattle.payloads.specs.Payload.{verdict}
 use Rattle.fields.specs.Fields.{passed, decided, refused}
 use Rattle.putfields.specs.Put.{Put, put_both, put_length}
 use Rattle.netwrite.specs.Contents.{network_fields}
-use Rattle.netwrite.specs.Sizes.{file_fields, file_length}
+use Rattle.netwrite.specs.Sizes.{file_fields, parts_length}
 use Rattle.netwrite.specs.Writes.{KidsFit, AskFits}
 
 -- ---- the order of the conditions ----
@@ -92,25 +95,39 @@ ask_fits N (flagged l) h e =
     omega (arith, ltb-false (index_count N) (length l) (or_none (ltb (index_count N) (length l)) (anyb (λ b. ltb 1 b) l) w).0)
 ask_fits N (target w) h e = tt
 
+-- checks that pass with others behind them
+first_passes : (cs ds : List Check) → first (cs ++ ds) ≡ None → first cs ≡ None
+first_passes cs ds e = by (first cs) refl
+  where
+    by : (o : Option Refusal) → first cs ≡ o → first cs ≡ None
+    by None h = h
+    by (Some k) h = absurd (none-some k (sym e ∙ first_some cs ds k h))
+
 -- what each field's writer asks, and the answer
-module _ (c : Contents) (accepted : refusal_of c.network ≡ None) (few : leaf_count c.network ≤ 128) (narrow : index_count c.network ≤ 256)
-    (cursor : ℕ) (d : List ℕ) (fine : Ok tt ≡ verdict (first (write_checks c (length d) cursor))) where
+module _ (c : Contents) (cursor : ℕ) (d : List ℕ) (fine : Ok tt ≡ verdict (first (write_checks c (length d) cursor))) where
   abbrev others : List Check
   others = tree_checks c.network c.tree ++ flags_checks c.network c.ask
+
+  -- the network's checks are among them
+  pub accepted : refusal_of c.network ≡ None
+  accepted = first_passes (network_checks false c.network) (length_check (lent (length d) (cursor + length (file_of c)) ∷ []) ∷ others) (passed _ fine)
+
+  pub network_holds : Accepted c.network
+  network_holds = (accepted_means c.network).0 (ap passes accepted)
 
   parts : (ltb (length d) (cursor + length (file_of c)) || false ≡ false) × (first others ≡ None)
   parts =
       cond_none (ltb (length d) (cursor + length (file_of c)) || false) ShortBuffer (first others)
       (sym (first_none (network_checks false c.network) (length_check (lent (length d) (cursor + length (file_of c)) ∷ []) ∷ others) accepted) ∙ passed _ fine)
 
-  room : cursor + length (file_of c) ≤ length d
+  pub room : cursor + length (file_of c) ≤ length d
   room = ltb-false (length d) (cursor + length (file_of c)) (or_none (ltb (length d) (cursor + length (file_of c))) false parts.0).0
 
   bytes : cursor + (length (network_fields c.network) + (length (tree_field c.tree) + length (ask_field c.ask))) ≤ length d
-  bytes = omega (arith, room, file_length c)
+  bytes = omega (arith, room, parts_length c)
 
-  pub network_asks : cursor + length (network_fields c.network) ≤ length d
-  network_asks = omega (arith, bytes)
+  pub network_asks : Accepted c.network × (cursor + length (network_fields c.network) ≤ length d)
+  network_asks = (network_holds, omega (arith, bytes))
 
   trees_pass : first (tree_checks c.network c.tree) ≡ None
   trees_pass = by_tree c.tree parts.1
@@ -122,13 +139,19 @@ module _ (c : Contents) (accepted : refusal_of c.network ≡ None) (few : leaf_c
   flags_pass : first (flags_checks c.network c.ask) ≡ None
   flags_pass = sym (first_none (tree_checks c.network c.tree) (flags_checks c.network c.ask) trees_pass) ∙ parts.1
 
+  pub kids_pass : KidsFit c.tree
+  kids_pass = kids_fit c.network c.tree network_holds.few_leaves trees_pass
+
+  pub ask_passes : AskFits c.ask
+  ask_passes = ask_fits c.network c.ask network_holds.few_indices flags_pass
+
   module _ {o₁ : List ℕ} {next : ℕ} (p : Put d o₁ cursor next (network_fields c.network)) where
     pub tree_asks : KidsFit c.tree × (next + length (tree_field c.tree) ≤ length o₁)
-    tree_asks = (kids_fit c.network c.tree few trees_pass, omega (arith, bytes, p.past, put_length p))
+    tree_asks = (kids_pass, omega (arith, bytes, p.past, put_length p))
 
     module _ {o₂ : List ℕ} {last : ℕ} (q : Put o₁ o₂ next last (tree_field c.tree)) where
       pub ask_asks : AskFits c.ask × (last + length (ask_field c.ask) ≤ length o₂)
-      ask_asks = (ask_fits c.network c.ask narrow flags_pass, omega (arith, bytes, p.past, put_length p, q.past, put_length q))
+      ask_asks = (ask_passes, omega (arith, bytes, p.past, put_length p, q.past, put_length q))
 
       module _ {o₃ : List ℕ} {end : ℕ} (r : Put o₂ o₃ last end (ask_field c.ask)) where
         all : Put d o₃ cursor end (file_of c)

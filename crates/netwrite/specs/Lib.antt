@@ -3,3 +3,4 @@ pub mod Contents
 pub mod Sizes
 pub mod Writes
 pub mod Answers
+pub mod Ready

@@ -1,10 +1,10 @@
 -- How many bytes the file of some contents takes. Assumes nothing.
-use Rattle.std.specs.Prelude.{◌≡◌, List, ◌++◌, ℕ, ◌+◌, ◌*◌, ◌≤◌, ◌<◌, get_or, Option, None, Some, MatchOption}
+use Rattle.std.specs.Prelude.{◌≡◌, refl, Bool, true, false, not, cond, List, [], ◌∷◌, ◌++◌, ℕ, ◌+◌, ◌*◌, ◌≤◌, ◌<◌, eqb, get_or, Option, None, Some, MatchOption}
 use Rattle.std.proofs.Common.{sym, ap, ◌∙◌, append_assoc}
 use native.Mathlib.Omega.{arith}
 use Rattle.std.proofs.Math.ListN.{length, length-append}
 use Rattle.spec.specs.Layout.{firsts, network_of}
-use Rattle.spec.specs.File.{Contents, field, leaf_fields, tree_field, ask_field, file_of}
+use Rattle.spec.specs.File.{Ask, plain, flagged, target, Contents, tree_bytes, field, leaf_fields, tree_field, ask_field, file_of}
 use Rattle.laws.specs.LayoutLaws.{firsts_length}
 use Rattle.network.specs.Checks.{leaves_of}
 use Rattle.network.specs.Lists.{Holds}
@@ -63,10 +63,49 @@ file_fields c =
     ap (λ (l : List ℕ). field 1 N.weights ++ l) (sym (append_assoc (leaf_fields N.leaves) (field 3 N.outputs) t))
     ∙ sym (append_assoc (field 1 N.weights) (leaf_fields N.leaves ++ field 3 N.outputs) t)
 
-pub file_length : (c : Contents) → length (file_of c) ≡ length (network_fields c.network) + (length (tree_field c.tree) + length (ask_field c.ask))
-file_length c =
+pub parts_length : (c : Contents) → length (file_of c) ≡ length (network_fields c.network) + (length (tree_field c.tree) + length (ask_field c.ask))
+parts_length c =
     ap length (file_fields c)
     ∙ omega (arith, length-append (network_fields c.network) (tree_field c.tree ++ ask_field c.ask), length-append (tree_field c.tree) (ask_field c.ask))
+
+-- ---- the same from the counts and the payloads ----
+
+-- is there a tree
+abbrev pub has_tree : Option (List ℕ) → Bool
+has_tree None = false
+has_tree (Some kids) = true
+
+-- the tag of what is asked, 0 where nothing is, and its payload
+abbrev pub tag_of : Ask → ℕ
+tag_of plain = 0
+tag_of (flagged l) = 5
+tag_of (target w) = 6
+
+abbrev pub payload_of : Ask → List ℕ
+payload_of plain = []
+payload_of (flagged l) = l
+payload_of (target w) = w ∷ []
+
+-- all but the payloads of the tree and of what is asked
+unfoldable pub fixed_bytes : (m n o : ℕ) → List ℕ → Bool → ℕ → ℕ
+fixed_bytes m n o counts tree tag = 6 + m + o + leaf_bytes n counts + cond tree 3 0 + cond (not (eqb tag 0)) 3 0
+
+pub tree_length : (t : Option (List ℕ)) → length (tree_field t) ≡ cond (has_tree t) 3 0 + length (tree_bytes t)
+tree_length None = refl
+tree_length (Some kids) = omega arith
+
+pub ask_length : (a : Ask) → length (ask_field a) ≡ cond (not (eqb (tag_of a) 0)) 3 0 + length (payload_of a)
+ask_length plain = refl
+ask_length (flagged l) = omega arith
+ask_length (target w) = refl
+
+pub file_length : (m n o : ℕ) (weights counts cells outputs : List ℕ) (t : Option (List ℕ)) (a : Ask)
+    → length (file_of (record { network = network_of m n o weights counts cells outputs; tree = t; ask = a }))
+    ≡ fixed_bytes m n o counts (has_tree t) (tag_of a) + (length (tree_bytes t) + length (payload_of a))
+unfolding fixed_bytes
+file_length m n o weights counts cells outputs t a =
+    parts_length (record { network = network_of m n o weights counts cells outputs; tree = t; ask = a })
+    ∙ omega (arith, network_fields_length m n o weights counts cells outputs, tree_length t, ask_length a)
 
 -- what is left behind the last field, or that there is no room for it
 pub room_is : (o : Option ℕ) (left n size whole : ℕ) → size + n ≡ whole + left → MatchOption o (left < n) (λ r. r + n ≡ left)

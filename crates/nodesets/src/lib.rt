@@ -89,7 +89,7 @@ fn want_down(outside: &mut [u64], sets: &[u64], w: usize, n: usize, kids: &[u16]
 }
 
 // Cuts each inner node's set to what is wanted outside the node.
-// Stays: a tree is lent as a flat list, with its order in a list beside it; what a step writes another reads, so the loop's invariant is the promise.
+// Stays: a tree is lent as a flat list, with its order in a list beside it; all slots lie in one list, which each turn writes, so the loop's invariant is the promise.
 fn trim_all(sets: &mut [u64], outside: &[u64], w: usize, n: usize, kids: &[u16], order: &[u16])
     requires { Steps n kids.now order.now × (nodes n kids.now * w ≤ length sets.old) × (nodes n kids.now * w ≤ length outside.now) }
     ensures { sets.new ≡ cuts w order.now outside.now sets.old (length order.now) }

@@ -10,7 +10,7 @@ pub mod tags; // tags.rt: the tags of the fields
 use network::{Network, scan};
 use spec::Refusal;
 
-// Stays: a rule of the project names this form, the pairwise search that leaves both of its loops at the first one; m counts indices, not bytes.
+// Stays: a rule of the project names this form, the pairwise search that leaves both of its loops at the first refusal; m counts indices, not bytes.
 // Indices of a network of m, byte by byte: refused at the first that is not below m, or that stands before.
 fn check_indices(bytes: &[u8], m: usize) -> Result<(), Refusal>
     ensures { result ≡ verdict (index_bytes m [] bytes.now) }

@@ -49,6 +49,9 @@ pub put_written : {out after text : List ℕ} {n : ℕ} → Put out after 0 n te
 unfolding placed
 put_written p = record { bytes = p.bytes; count = omega (arith, p.past) }
 
+pub written_as : {out after text other : List ℕ} {n : ℕ} → text ≡ other → Written out after n text → Written out after n other
+written_as {out} {after} {n = n} e w = subst (Written out after n) e w
+
 -- what a call x of the program is told of: its refusal, or the length of what it prints, which is at the front of the buffer
 pub record Tells (x : Result Printed Refusal) (out after : List ℕ) (r : Result ℕ Refusal) : Type 0 where
   pub refused : {k : Refusal} → r ≡ Err k → (x ≡ Err k) × (after ≡ out)

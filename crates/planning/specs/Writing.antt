@@ -8,12 +8,13 @@ use Rattle.spec.specs.Slicing.{Plan}
 use Rattle.spec.specs.File.{Ask}
 use Rattle.spec.specs.FileClaims.{LawfulTree}
 use Rattle.spec.specs.Program.{plan_of, printed, program}
+use Rattle.spec.specs.Text.{plan_text, output_of}
 use Rattle.laws.specs.FlatLaws.{pairs_flat, flat_even}
 use Rattle.laws.specs.ProgramLaws.{plan_right}
 use Rattle.laws.specs.Booleans.{cond_most}
 use Rattle.reconf.specs.declared.Visited.{Visited}
 use Rattle.slicetree.specs.Answers.{counts}
-use Rattle.planning.specs.Printing.{Tells, tells_refused, Printable}
+use Rattle.planning.specs.Printing.{Written, Tells, tells_refused, Printable}
 use Rattle.planning.specs.Stages.{PlanHeld, Answers}
 
 module _ (N : Network) (given : Option (List ℕ)) (ask : Ask) (kids flags : List ℕ) where
@@ -63,9 +64,17 @@ module _ (N : Network) (given : Option (List ℕ)) (ask : Ask) (kids flags : Lis
           room = length-take-le m flags (omega arith) ∙ same;
         }
 
-    pub plan_written : {v : Visited} {out after : List ℕ} {r : Result ℕ Refusal} → Answers N (plan_of N given ask) kids flags (Ok v)
+    pub plan_written : {v : Visited} {out after : List ℕ} {n : ℕ} → Answers N (plan_of N given ask) kids flags (Ok v)
+        → ((p : Plan) → PlanHeld N p kids (take m flags) → p.rebuilt ≡ v.rebuilt → p.tried ≡ v.tried → Written out after n (plan_text (printed N p)))
+        → Written out after n (output_of (program N given ask))
+    plan_written {v} {out} {after} {n} a f =
+        let b = behind a in
+        rw b.is (f b.plan (cut_held b.held) b.rebuilt b.tried)
+
+    -- the same of what a caller is told
+    pub plan_told : {v : Visited} {out after : List ℕ} {r : Result ℕ Refusal} → Answers N (plan_of N given ask) kids flags (Ok v)
         → ((p : Plan) → PlanHeld N p kids (take m flags) → p.rebuilt ≡ v.rebuilt → p.tried ≡ v.tried → Tells (Ok (printed N p)) out after r)
         → Tells (program N given ask) out after r
-    plan_written {v} {out} {after} {r} a f =
+    plan_told {v} {out} {after} {r} a f =
         let b = behind a in
         rw b.is (f b.plan (cut_held b.held) b.rebuilt b.tried)

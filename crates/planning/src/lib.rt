@@ -122,7 +122,7 @@ fn plan_network(
 }
 
 // Puts the text of a plan that is priced at the front of a buffer, and answers its length.
-// Stays: the lists apart. With a `Printout` made of local lists beside lent flags the borrow checker covers no function, so the three
+// Stays: the lists apart. A `Printout` made of local lists beside lent flags is refused by the borrow checker, so the three
 // lists come under one lifetime.
 fn put_text<'a>(
     network: &Network,

@@ -76,7 +76,7 @@ pub fn put_leaves(out: &mut [u8], at: usize, n: usize, counts: &[u8], legs: &[u1
     next
 }
 
-// Stays: no conversion; a buffer and a cursor, as of the fields above.
+// Stays: `_of` an accepted network, as `put_leaves` is of lists; a buffer and a cursor are lent, as to the fields above.
 /// A field for each leaf of an accepted network.
 pub fn put_leaves_of(out: &mut [u8], at: usize, network: &Accepted) -> usize
     requires { at + length (leaf_fields (net_in network.now).leaves) ≤ length out.old }

@@ -13,6 +13,7 @@ ghost use Rattle.ratings.specs.Rated.{rated_pin, share, rated_open, rated_pins, 
 // Stays: `IsSameLoan self.old self.new`: that the lists that come back are those that were lent is a fact of a call; no invariant of the struct can say it.
 
 /// A vertex that is to be matched, and the mates so far: `none`, the number of vertices, stands for no mate yet.
+// Stays: a vertex, a list of mates and the number that stands for none, and in greedy's `Scoring` a width, weights and a count of slots: one type for both could name neither.
 #[derive(Clone, Copy)]
 pub struct Single<'a> {
     pub vertex: usize,

@@ -16,7 +16,7 @@ pub fn put_total(text: &mut Text, total: Total)
     ensures written { Puts text.old (total_line total) text.new }
     ensures short { text.new.len ≤ text.old.len + 86 }
 {
-    // Stays: a total beyond the limit is printed as a word of its own; Option would not say what its None is.
+    // Stays: a total beyond the limit is printed as a word of its own; `Option` would not say what its `None` is.
     match total {
         Total::Exact(x) => text.put_line(b"total", x),
         Total::Beyond => text.put_bare_line(b"total beyond"),

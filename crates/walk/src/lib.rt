@@ -7,7 +7,7 @@ ghost use Rattle.spec.specs.Calls.{plain_words, wrong_tree};
 ghost use Rattle.spec.specs.declared.Refusal.TheVariants.{InvalidTree};
 ghost use Rattle.walk.specs.Stack.{pushed, pushed_both, picked};
 ghost use Rattle.walk.specs.Marks.{fresh, marked, fresh_both, marked_both};
-// Stays: `kids: &[u16], n: usize`, `wrong_tree n kids.now ≡ false`, `n ≤ 512`: a list that is still to be checked, or that its caller knows to be a tree and has made no `Tree` of; in `Tree` these are ghost fields.
+// Stays: `kids: &[u16], n: usize`, `wrong_tree n kids.now ≡ false`, `n ≤ 512`: a list that is still to be checked, or that its caller knows to be a tree and has made no `Tree` of; in `Tree` the two facts are ghost fields.
 // Stays: `n: usize, ws: &mut [u64]`, `ws: &mut [u64], out: &mut [u16]`, `2048 ≤ length ws.old`, `2048 ≤ length words.old`, `n - 1 ≤ length out.old`: lists that a caller lends for one call; a struct of them would be made and taken apart in each.
 // Stays: `l: usize, r: usize`: the two children of a node, read from two places and used once.
 
@@ -25,7 +25,7 @@ pub fn stated() -> usize
 }
 
 // The number of an internal node, or else the other one.
-// Stays: another choice than that of halves in `bisect`, which has the name and takes lists.
+// Stays: it chooses one of two numbers, where `pick` of halves in `bisect` puts leaves into a list; each is of its own module alone.
 fn pick(n: usize, x: usize, other: usize) -> usize
     ensures { result ≡ picked n x other }
 {
@@ -41,7 +41,7 @@ fn push(n: usize, p: usize, x: usize) -> usize
 }
 
 // The top of the stack, which is the node to be visited, and the stack's places, the top's included.
-// Stays: two numbers of a stack; that others have two numbers too is chance.
+// Stays: the node on top of a stack and the stack's places; one type for these and for another two numbers would name neither.
 #[derive(Clone, Copy)]
 struct Top {
     node: usize,

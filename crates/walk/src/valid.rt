@@ -3,7 +3,7 @@ ghost use Rattle.std.specs.Prelude.{◌≡◌, ◌≤◌, false};
 ghost use Rattle.spec.specs.Calls.{wrong_tree};
 
 /// A tree of `leaves` leaves: two places of `kids` an internal node, its left and its right child.
-// Stays: a list with its number of leaves and two facts; that others have a list and a number too is chance.
+// Stays: the two facts are of this list as a tree of so many leaves; a type for any list and number could not hold them.
 #[derive(Clone, Copy)]
 pub struct Tree<'a> {
     pub kids: &'a [u16],

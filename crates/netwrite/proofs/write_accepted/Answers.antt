@@ -1,9 +1,7 @@
 use borrow.Author.Rules.{rules}
 use Rattle.netwrite.specs.Answers.{network_asks, tree_asks, ask_asks, written, buffer_is, not_written, buffer_stays}
 use Rattle.netwrite.specs.Contents.{parts_of}
-use Rattle.network.specs.Views.{in_facts, in_leaves, in_indices}
 use Rattle.std.proofs.Common.{Err}
-use native.Mathlib.Omega.{arith}
 use mathlib.Core.Path.{◌≡◌, sym, ◌∙◌}
 use Rattle.netwrite.proofs.write_accepted.Goals as goal
 
@@ -17,26 +15,21 @@ returns-in_err-check-clause-buffer c = let k = c.in_err-check.field-0.0 in
     buffer_stays (parts_of c.args.parts.now) c.args.cursor c.args.out.now k (sym c.in_err-check.was ∙ c.check.ensures)
 
 pub put_network-next-requires : goal.put_network-next-requires
-put_network-next-requires c = let a = c.args.parts.now.network in
-    let f = in_facts a a.holds in
-    network_asks (parts_of c.args.parts.now) a.holds.passed (omega (arith, in_leaves a, f.few_leaves)) (omega (arith, in_indices a, f.few_indices)) c.args.cursor c.args.out.now (sym c.in_ok-check.was ∙ c.check.ensures)
+put_network-next-requires c =
+    (network_asks (parts_of c.args.parts.now) c.args.cursor c.args.out.now (sym c.in_ok-check.was ∙ c.check.ensures)).1
 
 pub put_tree-last-requires : goal.put_tree-last-requires
-put_tree-last-requires c = let a = c.args.parts.now.network in
-    let f = in_facts a a.holds in
-    tree_asks (parts_of c.args.parts.now) a.holds.passed (omega (arith, in_leaves a, f.few_leaves)) (omega (arith, in_indices a, f.few_indices)) c.args.cursor c.args.out.now (sym c.in_ok-check.was ∙ c.check.ensures) c.put_network-next.ensures
+put_tree-last-requires c =
+    tree_asks (parts_of c.args.parts.now) c.args.cursor c.args.out.now (sym c.in_ok-check.was ∙ c.check.ensures) c.put_network-next.ensures
 
 pub put_ask-requires : goal.put_ask-requires
-put_ask-requires c = let a = c.args.parts.now.network in
-    let f = in_facts a a.holds in
-    ask_asks (parts_of c.args.parts.now) a.holds.passed (omega (arith, in_leaves a, f.few_leaves)) (omega (arith, in_indices a, f.few_indices)) c.args.cursor c.args.out.now (sym c.in_ok-check.was ∙ c.check.ensures) c.put_network-next.ensures c.put_tree-last.ensures
+put_ask-requires c =
+    ask_asks (parts_of c.args.parts.now) c.args.cursor c.args.out.now (sym c.in_ok-check.was ∙ c.check.ensures) c.put_network-next.ensures c.put_tree-last.ensures
 
 pub returns-clause-answer : goal.returns-clause-answer
-returns-clause-answer c = let a = c.args.parts.now.network in
-    let f = in_facts a a.holds in
-    written (parts_of c.args.parts.now) a.holds.passed (omega (arith, in_leaves a, f.few_leaves)) (omega (arith, in_indices a, f.few_indices)) c.args.cursor c.args.out.now (sym c.in_ok-check.was ∙ c.check.ensures) c.put_network-next.ensures c.put_tree-last.ensures c.put_ask.ensures
+returns-clause-answer c =
+    written (parts_of c.args.parts.now) c.args.cursor c.args.out.now (sym c.in_ok-check.was ∙ c.check.ensures) c.put_network-next.ensures c.put_tree-last.ensures c.put_ask.ensures
 
 pub returns-clause-buffer : goal.returns-clause-buffer
-returns-clause-buffer c = let a = c.args.parts.now.network in
-    let f = in_facts a a.holds in
-    buffer_is (parts_of c.args.parts.now) a.holds.passed (omega (arith, in_leaves a, f.few_leaves)) (omega (arith, in_indices a, f.few_indices)) c.args.cursor c.args.out.now (sym c.in_ok-check.was ∙ c.check.ensures) c.put_network-next.ensures c.put_tree-last.ensures c.put_ask.ensures
+returns-clause-buffer c =
+    buffer_is (parts_of c.args.parts.now) c.args.cursor c.args.out.now (sym c.in_ok-check.was ∙ c.check.ensures) c.put_network-next.ensures c.put_tree-last.ensures c.put_ask.ensures

@@ -1,5 +1,5 @@
 use Rattle.std.proofs.Common.{sym, arith}
-use Rattle.planning.specs.Writing.{printable, plan_written}
+use Rattle.planning.specs.Writing.{printable, plan_told}
 use Rattle.planning.specs.Stages.{given_tree, answers_at}
 use Rattle.planning.specs.Printing.{index_count_lem}
 use Rattle.netfile.specs.Writer.{ask_handed}
@@ -24,5 +24,5 @@ put_plan-requires c =
 pub returns : goal.returns
 returns c =
     let a = c.args in
-    plan_written (net_of a.network.now) (given_tree a.given.tree a.tree.now) (ask_handed a.given.ask a.flags.now) _ _ a.network.now.index_count (sym (index_count_lem a.network.now))
+    plan_told (net_of a.network.now) (given_tree a.given.tree a.tree.now) (ask_handed a.given.ask a.flags.now) _ _ a.network.now.index_count (sym (index_count_lem a.network.now))
     (omega (arith, c.requires.0.room)) (answers_at c.in_ok-counts.was c.plan_network.ensures) c.put_plan.ensures
