@@ -74,14 +74,44 @@ leaves_forest n a l low =
 
 -- ---- the start ----
 
--- what the code asks of the lengths: sets of four words
-pub record Room (n made : ℕ) (weights outputs leaves lent : List ℕ) : Type 0 where
-  pub indices : length weights ≤ 256
-  pub leaf_sets : n ≤ 256
+-- what is asked of the lengths, for sets of W words
+pub record Fits (W n made : ℕ) (weights outputs leaves lent : List ℕ) : Type 0 where
+  pub indices : length weights ≤ W * 64
+  pub leaf_sets : n ≤ W * 64
   pub few : length leaves ≤ 128
   pub outputs_fit : length outputs ≤ 4294967296
-  pub words : 1036 ≤ length lent
+  pub words : 258 * W + W ≤ length lent
   pub array : made < 8192
+
+-- for sets of four words, as the code makes them
+abbrev pub Room : (n made : ℕ) (weights outputs leaves lent : List ℕ) → Type 0
+Room n made weights outputs leaves lent = Fits 4 n made weights outputs leaves lent
+
+-- no more leaves, as many words, another array
+pub fits_again : {W n made made' : ℕ} {weights outputs leaves leaves' lent lent' : List ℕ} → Fits W n made weights outputs leaves lent
+    → length leaves' ≤ length leaves → length lent' ≡ length lent → made' < 8192 → Fits W n made' weights outputs leaves' lent'
+fits_again {W} f h e b =
+    record {
+      indices = f.indices;
+      leaf_sets = f.leaf_sets;
+      few = omega (arith, f.few);
+      outputs_fit = f.outputs_fit;
+      words = subst (λ (k : ℕ). 258 * W + W ≤ k) (sym e) f.words;
+      array = b;
+    }
+
+-- what fits in sets of fewer words fits in wider ones that have room
+pub fits_wider : {W V n made : ℕ} {weights outputs leaves lent : List ℕ} → W ≤ V → 258 * V + V ≤ length lent
+    → Fits W n made weights outputs leaves lent → Fits V n made weights outputs leaves lent
+fits_wider h b f =
+    record {
+      indices = omega (arith, f.indices);
+      leaf_sets = omega (arith, f.leaf_sets);
+      few = f.few;
+      outputs_fit = f.outputs_fit;
+      words = b;
+      array = f.array;
+    }
 
 -- what greedy over a list of leaves is given: the leaves are some of the network's, each once; the array so far has `made` nodes
 pub record Asks (N : Network) (a : List Pair) (n made : ℕ) (weights counts legs outputs leaves kids : List ℕ) : Type 0 where
@@ -116,7 +146,7 @@ module _ (N : Network) (a : List Pair) (W n made : ℕ) (weights counts cells ou
           single = asks.once;
         }
 
-    abbrev tree : ℕ → Tree
+    abbrev pub tree : ℕ → Tree
     tree u = leaf (get_or leaves u 0)
 
     abbrev pub ghost : Ghost
@@ -136,7 +166,7 @@ module _ (N : Network) (a : List Pair) (W n made : ℕ) (weights counts cells ou
     abbrev words₁ : List ℕ
     words₁ = with_outside W counts cells leaves ws₀ outputs n
 
-    abbrev words₂ : List ℕ
+    abbrev pub words₂ : List ℕ
     words₂ = with_leaves W counts cells leaves words₁ tables
 
     long₁ : length words₁ ≡ length ws₀
@@ -165,62 +195,59 @@ module _ (N : Network) (a : List Pair) (W n made : ℕ) (weights counts cells ou
             held_with ws₀ W 257 (among leaves 0 (length leaves)) i (omega (arith, room)) (omega (arith, few_leaves))
             ∙ sym (memb-firsts leaves 0 (length leaves) i) ∙ ap (memb i) (firsts_all leaves)
 
-    -- the other lists
-    module _ (sizes₀ : List ℕ) (bs : 256 ≤ length sizes₀)
-        (nodes sizes live rows : List ℕ) (bn : 256 ≤ length nodes) (en : (u : ℕ) → u < tables → get_or nodes u 0 ≡ get_or leaves u 0) (es : sizes ≡ with_sizes words₂ W weights sizes₀ tables)
-        (el : live ≡ range tables) (br : 256 ≤ length rows) (all_stale : (u : ℕ) → u < 256 → get_or rows u 0 ≡ 258)
-      where
-        size : (u : ℕ) → u < tables → get_or sizes u 0 ≡ size_of N (tree u)
-        unfolding with_sizes
-        size u h =
-            ap (λ (l : List ℕ). get_or l u 0) es
-            ∙ put_at (λ i. weighed weights [] (either words₂ W i i) (W * 64)) sizes₀ tables u h (omega (arith, bs, few))
-            ∙ ap (λ (l : List ℕ). weighed l [] (either words₂ W u u) (W * 64)) asks.lends.weighed
-            ∙ leaf_size N asks.accepted words₂ W u (get_or leaves u 0) index_fits (omega (arith, leaf_low u h, asks.lends.leaves)) (sets u h)
+    -- the size bits
+    module _ (sizes₀ sizes : List ℕ) (bs : 256 ≤ length sizes₀) (es : sizes ≡ with_sizes words₂ W weights sizes₀ tables) where
+      pub size : (u : ℕ) → u < tables → get_or sizes u 0 ≡ size_of N (tree u)
+      unfolding with_sizes
+      size u h =
+          ap (λ (l : List ℕ). get_or l u 0) es
+          ∙ put_at (λ i. weighed weights [] (either words₂ W i i) (W * 64)) sizes₀ tables u h (omega (arith, bs, few))
+          ∙ ap (λ (l : List ℕ). weighed l [] (either words₂ W u u) (W * 64)) asks.lends.weighed
+          ∙ leaf_size N asks.accepted words₂ W u (get_or leaves u 0) index_fits (omega (arith, leaf_low u h, asks.lends.leaves)) (sets u h)
 
-        kept : Kept N tables tree (range tables) tables rows
-        kept =
-            record {
-              found = λ u m. stale (all_stale u (omega (arith, from_memb u 0 tables m, few)));
-              gone = λ u h m. clash (memb-range u tables h) m;
-              room = omega (arith, br, few);
-            }
+      pub sizes_long : 256 ≤ length sizes
+      unfolding with_sizes
+      sizes_long = omega (arith, bs, ap length es, put_length (λ i. weighed weights [] (either words₂ W i i) (W * 64)) sizes₀ tables)
 
-        sizes_long : 256 ≤ length sizes
-        unfolding with_sizes
-        sizes_long = omega (arith, bs, ap length es, put_length (λ i. weighed weights [] (either words₂ W i i) (W * 64)) sizes₀ tables)
+    -- no table has its least pair yet
+    pub kept : (rows : List ℕ) → 256 ≤ length rows → ((u : ℕ) → u < 256 → get_or rows u 0 ≡ 258) → Kept N tables tree (range tables) tables rows
+    kept rows br all_stale =
+        record {
+          found = λ u m. stale (all_stale u (omega (arith, from_memb u 0 tables m, few)));
+          gone = λ u h m. clash (memb-range u tables h) m;
+          room = omega (arith, br, few);
+        }
 
-        begins : Start given ghost (lists_of words₂ nodes sizes live rows) W n tables made weights kids
-        begins =
-            record {
-              holds =
-                  record {
-                    sound = subst (Sound N (λ v. count v leaves) (leaf_count N + length a) (length a + tables)) (sym state_is)
-                        (start_sound N (λ v. count v leaves) (leaf_count N + length a) (length a + tables) a (leaves_of leaves)
-                        (leaves_forest (leaf_count N) a leaves (λ v m. omega (arith, asks.leaf v m, asks.lends.leaves))));
-                    sets = sets;
-                    size = size;
-                    numbers = en;
-                    outside = outside;
-                    kept = kept;
-                    lived = el;
-                    few = omega (arith, range_length 0 tables, few);
-                    enough = omega (arith, room, long₁, leaves_length W counts cells leaves words₁ tables);
-                    places = (
-                      bn,
-                      sizes_long,
-                      br,
-                    );
-                  };
-              width = refl;
-              leaves = asks.lends.leaves;
-              tables = refl;
-              weighed = asks.lends.weighed;
-              slots = range_length 0 tables;
-              next = refl;
-              made = asks.array;
-              written = asks.written;
-            }
+    pub begins : (sizes₀ : List ℕ) → 256 ≤ length sizes₀ → (nodes sizes live rows : List ℕ) → 256 ≤ length nodes
+        → ((u : ℕ) → u < tables → get_or nodes u 0 ≡ get_or leaves u 0)
+        → sizes ≡ with_sizes words₂ W weights sizes₀ tables → live ≡ range tables → 256 ≤ length rows → ((u : ℕ) → u < 256 → get_or rows u 0 ≡ 258)
+        → Start given ghost (lists_of words₂ nodes sizes live rows) W n tables made weights kids
+    begins sizes₀ bs nodes sizes live rows bn en es el br all_stale =
+        record {
+          holds =
+              record {
+                sound = subst (Sound N (λ v. count v leaves) (leaf_count N + length a) (length a + tables)) (sym state_is)
+                    (start_sound N (λ v. count v leaves) (leaf_count N + length a) (length a + tables) a (leaves_of leaves)
+                    (leaves_forest (leaf_count N) a leaves (λ v m. omega (arith, asks.leaf v m, asks.lends.leaves))));
+                sets = sets;
+                size = size sizes₀ sizes bs es;
+                numbers = en;
+                outside = outside;
+                kept = kept rows br all_stale;
+                lived = el;
+                few = omega (arith, range_length 0 tables, few);
+                enough = omega (arith, room, long₁, leaves_length W counts cells leaves words₁ tables);
+                places = (bn, sizes_long sizes₀ sizes bs es, br);
+              };
+          width = refl;
+          leaves = asks.lends.leaves;
+          tables = refl;
+          weighed = asks.lends.weighed;
+          slots = range_length 0 tables;
+          next = refl;
+          made = asks.array;
+          written = asks.written;
+        }
 
     -- the lists that the code prepares
     pub prepared : (sizes₀ : List ℕ) → 256 ≤ length sizes₀

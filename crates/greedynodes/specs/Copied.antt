@@ -1,11 +1,12 @@
 -- The children of new nodes, copied from the words to the array of the caller. Assumes nothing.
-use Rattle.std.specs.Prelude.{◌≡◌, List, [], ◌∷◌, ◌++◌, length, get_or, set, replicate, Result, Err, Ok}
+use Rattle.std.specs.Prelude.{◌≡◌, List, [], ◌∷◌, ◌++◌, length, get_or, set, Result, Err}
 use Rattle.std.proofs.Math.Path.{refl}
-use Rattle.std.proofs.Common.{sym, ◌∙◌, ap, arith, length-append, ext_get_or, get_or-set_same, get_or-append-add}
+use Rattle.std.proofs.Common.{sym, ◌∙◌, ap, subst, arith, length-append, ext_get_or, get_or-set_same, get_or-append-add}
 use Prim.Native.Nat.{ℕ, zero, suc, ◌+◌, ◌-◌, ◌*◌, ◌≤◌, ◌<◌}
 use Rattle.std.proofs.Math.Decide.{ℕ_discrete, dec_le}
-use Rattle.std.proofs.Math.ListN.{length-set, length-replicate}
+use Rattle.std.proofs.Math.ListN.{length-set}
 use Rattle.std.proofs.Math.Seq.{get_or-set_other}
+use Rattle.spec.specs.Lists.{memb, count}
 use Rattle.spec.specs.Memory.{over}
 use Rattle.spec.specs.Network.{Network}
 use Rattle.spec.specs.Tree.{Pair, flat_of}
@@ -15,6 +16,7 @@ use Rattle.merging.specs.Removed.{flat_length}
 use Rattle.greedynodes.specs.Begin.{Asks}
 use Rattle.greedynodes.specs.Ends.{Planned, is_too_wide, is_planned, apart}
 use Rattle.spec.specs.declared.Refusal.{Refusal}
+use Rattle.spec.specs.declared.Refusal.TheVariants.{TableTooWide}
 
 -- the first n numbers of a list, at the places from `at` on
 unfoldable pub copied_to : List ℕ → ℕ → List ℕ → ℕ → List ℕ
@@ -69,34 +71,53 @@ copied_over kids s w₀ w f n ek ew ef b =
     front (x ∷ s) w zero h = refl
     front (x ∷ s) w (suc j) h = front s w j (omega arith)
 
--- the new nodes' children were grown behind those of the array, and copied to the caller's list
+-- a refusal is one whatever stands in the lists
+pub any_refused : {N : Network} {a : List Pair} {leaves k₀ k₁ j₀ j₁ : List ℕ} {r : Result ℕ Refusal} {e : Refusal} → r ≡ Err e → Planned N a leaves k₀ k₁ r → Planned N a leaves j₀ j₁ (Err e)
+any_refused z (is_too_wide q g) = is_too_wide (sym z ∙ q) g
+any_refused z (is_planned top q l b g v k t) = absurd (apart (sym q ∙ z))
+
+pub entry_same : {N : Network} {a : List Pair} {leaves w₀ w₁ kids : List ℕ} {r : Result ℕ Refusal} → w₁ ≡ w₀ → Planned N a leaves (flat_of a ++ w₁) kids r → Planned N a leaves (flat_of a ++ w₀) kids r
+entry_same {N} {a} {leaves} {w₀} {w₁} {kids} {r} e g = subst (λ (x : List ℕ). Planned N a leaves (flat_of a ++ x) kids r) e g
+
+pub copied_answer : (N : Network) (a : List Pair) (leaves kids w₀ w : List ℕ) (r : Result ℕ Refusal) (at n : ℕ) → ((e : Refusal) → r ≡ Err e → ⊥) → kids ≡ over kids (flat_of a)
+    → at ≡ length (flat_of a) → n ≡ (length leaves - 1) * 2 → n ≤ length w₀
+    → Planned N a leaves (flat_of a ++ w₀) (flat_of a ++ w) r → Planned N a leaves kids (copied_to kids at w n) r
+copied_answer N a leaves kids w₀ w r at n x ek ea en b (is_too_wide q g) = absurd (x TableTooWide q)
+copied_answer N a leaves kids w₀ w r at n x ek ea en b (is_planned top q l c g v k t) =
+    is_planned top q l c g
+    (ap (λ (i : ℕ). copied_to kids i w n) ea
+    ∙ copied_over kids (flat_of a) w₀ w (flat_of c.pairs) n ek v (omega (arith, flat_length c.pairs, flat_length a, k, en)) b) k t
+
+-- ---- greedy over a list of leaves, from greedy whose new nodes' children are grown behind those of the array ----
+
 self_over : (s w : List ℕ) → s ++ w ≡ over (s ++ w) s
 unfolding over
 self_over [] [] = refl
 self_over [] (x ∷ w) = refl
 self_over (x ∷ s) w = ap (λ (l : List ℕ). x ∷ l) (self_over s w)
 
-module _ (N : Network) (a : List Pair) (n made : ℕ) (weights counts legs outputs leaves kids w₀ : List ℕ) (asks : Asks N a n made weights counts legs outputs leaves kids) where
-  pub asks_behind : Asks N a n made weights counts legs outputs leaves (flat_of a ++ w₀)
-  asks_behind =
-      record {
-        lends = asks.lends;
-        accepted = asks.accepted;
-        leaf = asks.leaf;
-        once = asks.once;
-        array = asks.array;
-        written = self_over (flat_of a) w₀;
-      }
+module _ (n made : ℕ) (weights counts legs outputs leaves leaves' w₀ w : List ℕ) (same : leaves' ≡ leaves) (r : Result ℕ Refusal)
+    (f : (N : Network) (a : List Pair) → Asks N a n made weights counts legs outputs leaves' (flat_of a ++ w₀) → Planned N a leaves' (flat_of a ++ w₀) (flat_of a ++ w) r)
+    (N : Network) (a : List Pair) (kids : List ℕ) (asks : Asks N a n made weights counts legs outputs leaves kids)
+  where
+    within : Planned N a leaves (flat_of a ++ w₀) (flat_of a ++ w) r
+    within =
+        subst (λ (l : List ℕ). Planned N a l (flat_of a ++ w₀) (flat_of a ++ w) r) same
+        (f N a
+        (record {
+          lends = asks.lends;
+          accepted = asks.accepted;
+          leaf = λ v e. asks.leaf v (ap (memb v) (sym same) ∙ e);
+          once = λ v. subst (λ (l : List ℕ). count v l ≤ 1) (sym same) (asks.once v);
+          array = asks.array;
+          written = self_over (flat_of a) w₀;
+        }))
 
-  module _ (w : List ℕ) where
-    pub copied_wide : (r : Result ℕ Refusal) (e : Refusal) → r ≡ Err e → Planned N a leaves (flat_of a ++ w₀) (flat_of a ++ w) r → Planned N a leaves kids kids (Err e)
-    copied_wide r e z (is_too_wide q g) = is_too_wide (sym z ∙ q) g
-    copied_wide r e z (is_planned top q l b g v k t) = absurd (apart (sym q ∙ z))
+    pub nodes_refused : (e : Refusal) → r ≡ Err e → Planned N a leaves kids kids (Err e)
+    nodes_refused e z = any_refused z within
 
-    pub copied_plan : (r : Result ℕ Refusal) (u : ℕ) → r ≡ Ok u → (at k : ℕ) → at ≡ made * 2 → k ≡ (length leaves - 1) * 2 → w₀ ≡ replicate 256 0 → k ≤ 256
-        → (kids' : List ℕ) → kids' ≡ copied_to kids at w k → Planned N a leaves (flat_of a ++ w₀) (flat_of a ++ w) r → Planned N a leaves kids kids' (Ok u)
-    copied_plan r u z at n ea en ew b kids' e (is_too_wide q g) = absurd (apart (sym z ∙ q))
-    copied_plan r u z at n ea en ew b kids' e (is_planned top q l c g v k t) =
-        is_planned top (sym z ∙ q) l c g
-        (e ∙ ap (λ (i : ℕ). copied_to kids i w n) (let s : at ≡ length (flat_of a) = omega (arith, ea, asks.array, flat_length a) in s)
-        ∙ copied_over kids (flat_of a) w₀ w (flat_of c.pairs) n asks.written v (omega (arith, flat_length c.pairs, flat_length a, k, en)) (omega (arith, b, ap length ew, length-replicate {A = ℕ} 256 0))) k t
+    pub nodes_built : ((e : Refusal) → r ≡ Err e → ⊥) → (at k : ℕ) → at ≡ made * 2 → k ≡ (length leaves - 1) * 2 → k ≤ length w₀
+        → (kids' : List ℕ) → kids' ≡ copied_to kids at w k → Planned N a leaves kids kids' r
+    nodes_built x at k ea ek b kids' e =
+        subst (λ (l : List ℕ). Planned N a leaves kids l r) (sym e)
+        (copied_answer N a leaves kids w₀ w r at k x asks.written (omega (arith, ea, asks.array, flat_length a)) ek b within)

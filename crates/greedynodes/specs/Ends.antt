@@ -92,6 +92,10 @@ module _ (N : Network) (a : List Pair) (W n made : ℕ) (weights counts cells ou
             written = F.written;
           }
 
+      -- as many tables are left as the turns left of the leaves
+      live_left : Final G S kids nodes sizes live kids₁ t → length live ≡ length leaves - t
+      live_left F = omega (arith, ap length F.lived, F.left)
+
       -- the rest was joined
       pub answer_built : (c : Connected G S kids nodes sizes live kids₁ (Ok t)) (kids₂ : List ℕ) (r : ℕ) → r < 65536
           → ((N : Network) (tree : ℕ → Tree) (L : List ℕ) (a : List Pair) (before : List ℕ) → Rest N tree L a n (made + t) (length live) nodes sizes live before kids₁
@@ -100,7 +104,7 @@ module _ (N : Network) (a : List Pair) (W n made : ℕ) (weights counts cells ou
       answer_built c kids₂ r low f =
           let F = final c in
           let T = F.state in
-          let l : length live ≡ length leaves - t = omega (arith, ap length F.lived, F.left) in
+          let l : length live ≡ length leaves - t = live_left F in
           let J : Joined N T.tree T.slots T.array (length live) kids kids₂ r = f N T.tree T.slots T.array kids (rest_of F) in
           let some : 0 < length leaves → 0 < length live = λ h.
           omega (
@@ -121,3 +125,13 @@ module _ (N : Network) (a : List Pair) (W n made : ℕ) (weights counts cells ou
                 | yes e' ↦ omega (arith, e, p, q, s)
                 | no e' ↦ omega (arith, e, p, q, s, h (omega arith))
               ]
+
+      -- the same, where the rest is joined by how many leaves the turns left
+      pub answer_left : (c : Connected G S kids nodes sizes live kids₁ (Ok t)) (kids₂ : List ℕ) (r : ℕ) → r < 65536
+          → ((N : Network) (tree : ℕ → Tree) (L : List ℕ) (a : List Pair) (before : List ℕ) → Rest N tree L a n (made + t) (length leaves - t) nodes sizes live before kids₁
+          → Joined N tree L a (length leaves - t) before kids₂ r)
+          → Planned N a leaves kids kids₂ (Ok r)
+      answer_left c kids₂ r low f =
+          answer_built c kids₂ r low
+          (subst (λ (k : ℕ). (N : Network) (tree : ℕ → Tree) (L : List ℕ) (a : List Pair) (before : List ℕ) → Rest N tree L a n (made + t) k nodes sizes live before kids₁
+          → Joined N tree L a k before kids₂ r) (sym (live_left (final c))) f)

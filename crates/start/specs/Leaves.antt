@@ -1,19 +1,23 @@
 -- Greedy's start in lent lists: the leaves' tables in slots with their sizes, and the indices that stay whatever is merged. Assumes nothing.
-use Rattle.std.specs.Prelude.{Bool, false, not, ◌&&◌, ◌||◌, cond, ◌≡◌, length, get_or, set}
+use Rattle.std.specs.Prelude.{Bool, false, not, ◌&&◌, ◌||◌, cond, ◌≡◌, length, get_or, set, replicate}
 use Rattle.std.proofs.Math.Bool.{true, or_assoc, or-false}
 use Rattle.std.proofs.Math.Path.{refl, ap, fun_ext}
 use Rattle.std.proofs.Common.{sym, ◌∙◌, arith, add-one, get_or-set_same}
 use mathlib.Core.List.{List, [], ◌∷◌, ◌++◌}
 use Rattle.spec.specs.Lists.{from, range}
+use Rattle.spec.specs.Memory.{copied, filled}
 use Prim.Native.Nat.{ℕ, zero, suc, ◌+◌, ◌*◌, ◌≤◌, ◌<◌}
 use Rattle.std.proofs.Math.Decide.{ℕ_discrete}
 use Rattle.std.proofs.Math.ListN.{length-set}
 use Rattle.std.proofs.Math.Seq.{get_or-set_other}
 use Rattle.laws.specs.Booleans.{by_cases}
-use Rattle.cells.specs.Loop.{turns, turns_next}
+use Rattle.cells.specs.Loop.{turns, turns_next, turns_more}
 use Rattle.slots.specs.Slots.{held, with_set, with_set_length, with_set_then, held_with, held_with_other}
 use Rattle.slots.specs.Writes.{among, leaf_has}
 use Rattle.slots.specs.Weigh.{weighed, either}
+use Rattle.tables.specs.declared.Row.{Row}
+use Rattle.tables.specs.declared.Row.TheVariants.{Stale}
+use Rattle.tables.specs.Lists.{Lists, lists_of, with_bits, coded, coded_length}
 
 -- ---- numbers put at the places 0, 1, .. ----
 
@@ -138,9 +142,28 @@ module _ (W : ℕ) (counts legs ws outputs : List ℕ) where
 unfoldable pub with_sizes : List ℕ → ℕ → List ℕ → List ℕ → ℕ → List ℕ
 with_sizes ws W wt sizes n = put_all (λ i. weighed wt [] (either ws W i i) (W * 64)) sizes n
 
+-- the tables with these sizes
+abbrev pub weighed_in : ℕ → List ℕ → ℕ → Lists → Lists
+weighed_in W wt n M = with_bits M (with_sizes M.words W wt M.sizes n)
+
 -- the words of the start: what stays, and the leaves' sets
 unfoldable pub start_words : ℕ → ℕ → List ℕ → List ℕ → List ℕ → List ℕ → List ℕ → List ℕ
 start_words W n counts legs outputs leaves ws = with_leaves W counts legs leaves (with_outside W counts legs leaves ws outputs n) (length leaves)
+
+-- the tables of some leaves, all of them live, in place of those that were there; none has its least pair yet
+abbrev pub prepared_in : ℕ → List ℕ → ℕ → List ℕ → List ℕ → List ℕ → List ℕ → Lists → Lists
+prepared_in W wt n counts legs outputs leaves M =
+    weighed_in W wt (length leaves)
+    (lists_of (start_words W n counts legs outputs leaves M.words) (copied M.nodes leaves (length leaves)) M.sizes (range (length leaves)) (filled (length M.rows) 258))
+
+-- rows none of which is found
+pub stale_coded : (n : ℕ) → coded (replicate n Stale) ≡ filled n 258
+unfolding coded filled
+stale_coded zero = refl
+stale_coded (suc n) = ap (λ (l : List ℕ). 258 ∷ l) (stale_coded n)
+
+pub stale_filled : (rows : List Row) → length rows ≡ 256 → coded (replicate 256 Stale) ≡ filled (length (coded rows)) 258
+stale_filled rows e = stale_coded 256 ∙ ap (λ (k : ℕ). filled k 258) (sym (coded_length rows ∙ e))
 
 -- ---- as the loops write them ----
 
@@ -155,14 +178,18 @@ unfolding with_leaves
 leaves_next W counts legs leaves ws l r i v e ev er =
     turns_next _ _ i e (er ∙ ap (λ (u : ℕ). with_set l W i (leaf_has counts legs u)) ev)
 
-pub sizes_none : (ws : List ℕ) (W : ℕ) (wt sizes : List ℕ) → sizes ≡ with_sizes ws W wt sizes 0
-unfolding with_sizes turns
-sizes_none ws W wt sizes = refl
+module _ (W : ℕ) (wt : List ℕ) (M : Lists) where
+  pub none_weighed : M ≡ weighed_in W wt 0 M
+  unfolding with_sizes turns
+  none_weighed = refl
 
-pub sizes_next : (ws : List ℕ) (W : ℕ) (wt sizes l r : List ℕ) (i b : ℕ) → l ≡ with_sizes ws W wt sizes i → b ≡ weighed wt [] (either ws W i i) (W * 64)
-    → r ≡ set l i b → r ≡ with_sizes ws W wt sizes (i + 1)
-unfolding with_sizes
-sizes_next ws W wt sizes l r i b e eb er = turns_next _ _ i e (er ∙ ap (set l i) eb)
+  pub next_weighed : (K : Lists) (s : List ℕ) (i b : ℕ) → K ≡ weighed_in W wt i M → b ≡ weighed wt [] (either K.words W i i) (W * 64)
+      → s ≡ set K.sizes i b → with_bits K s ≡ weighed_in W wt (i + 1) M
+  unfolding with_sizes
+  next_weighed K s i b e eb es =
+      ap (with_bits K) (es ∙ ap (set K.sizes i) eb)
+      ∙ ap (λ (L : Lists). with_bits L (set L.sizes i (weighed wt [] (either L.words W i i) (W * 64)))) e
+      ∙ ap (with_bits M) (sym (turns_more (λ k l. set l k (weighed wt [] (either M.words W k k) (W * 64))) M.sizes i))
 
 -- the sets of the start, one step after the other
 pub sets_started : (W n : ℕ) (counts legs outputs leaves ws a b r : List ℕ) → a ≡ with_set ws W 257 (among leaves 0 (length leaves))

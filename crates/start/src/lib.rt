@@ -1,14 +1,19 @@
 #![tactic(auto)]
 //! Greedy's start: the leaves' tables in slots of lent words, their sizes, and the indices that stay whatever is merged.
-ghost use Rattle.std.specs.Prelude.{◌≡◌, ◌+◌, ◌*◌, ◌<◌, ◌≤◌, length};
+ghost use Rattle.std.specs.Prelude.{[], ◌≡◌, ◌+◌, ◌*◌, ◌<◌, ◌≤◌, length};
 ghost use Rattle.spec.specs.Lists.{range};
 ghost use Rattle.slots.specs.Slots.{with_set};
 ghost use Rattle.slots.specs.Writes.{among, leaf_has};
-ghost use Rattle.slots.specs.Weigh.{Light};
-ghost use Rattle.start.specs.Leaves.{with_other, outside_to, with_leaves, with_sizes, start_words, put_all};
+ghost use Rattle.slots.specs.Weigh.{either, weighed};
+ghost use Rattle.tables.specs.Lists.{lists_in, IsSameLoan};
+ghost use Rattle.start.specs.Leaves.{with_other, outside_to, with_leaves, weighed_in, start_words, prepared_in, put_all};
 
+// Stays: `tables: &mut Tables, scoring: &Scoring`: the tables are written, and what the scores are made of beside them stays; a value that held both would lend both to be written.
+// Stays: `IsSameLoan tables.old tables.new`: the words are lent in the tables, and only a clause can say that the same come back.
 use arrayvec::ArrayVec;
-use tables::{OUTSIDE, TWICE};
+use tables::scoring::Scoring;
+use tables::slotted::Tables;
+use tables::{OUTSIDE, Row, TWICE};
 
 /// Makes slot `s` the set of the indices of leaf `v`.
 // Stays: the network's lists are lent apart, so no check of them is asked for; the bounds are those of places in memory.
@@ -72,7 +77,7 @@ fn put_outside(sets: &mut [u64], w: usize, n: usize, counts: &[u8], legs: &[u16]
 
 /// Makes the sets of the start: those of some leaves in slots 0, 1, .., and what stays whatever is merged. Leaves are `n` in all.
 // Stays: `n` is how many leaves there are in all, planned or not, and the promise does not ask that the list of counts has as many.
-pub fn put_sets(
+fn put_sets(
     sets: &mut [u64],
     w: usize,
     n: usize,
@@ -89,16 +94,25 @@ pub fn put_sets(
     put_leaves(sets, w, counts, legs, leaves);
 }
 
-/// Puts the size bits of the first `n` slots down.
-// Stays: the loop lends the same words to each turn; `for_each` with a closure over them is no plainer.
-pub fn weigh_all(sizes: &mut [usize], sets: &[u64], w: usize, weights: &[u8], n: usize)
-    requires { (w ≤ 16) × (n < 1048576) × Light weights.now }
-    ensures { sizes.new ≡ with_sizes sets.now w weights.now sizes.old n }
+/// The size bits of the table in slot `i`.
+fn size_bits(tables: &Tables, scoring: &Scoring, i: usize) -> usize
+    requires { i < 1048576 }
+    ensures { result ≡ weighed scoring.now.weights.now [] (either tables.now.sets.now scoring.now.width i i) (scoring.now.width * 64) }
 {
-    // Stays: the number is the slot that is weighed as well as a place; the same walk by `take` was tried in `count_up`, and its proof did not close.
+    let weights = scoring.weights;
+    slots::weigh(&*tables.sets, scoring.width, i, i, weights, &weights[..0])
+}
+
+/// Puts the size bits of the tables in the first `n` slots down.
+// Stays: the loop lends the same tables to each turn; `for_each` with a closure over them is no plainer. The number is the slot that is weighed as well as a place.
+fn weigh_all(tables: &mut Tables, scoring: &Scoring, n: usize)
+    requires { n < 1048576 }
+    ensures same { IsSameLoan tables.old tables.new }
+    ensures lists { lists_in tables.new ≡ weighed_in scoring.now.width scoring.now.weights.now n (lists_in tables.old) }
+{
     for i in 0..n {
-        let bits = slots::weigh(sets, w, i, i, weights, &weights[..0]);
-        cells::put(sizes, i, bits);
+        let bits = size_bits(&*tables, scoring, i);
+        cells::put(&mut tables.sizes, i, bits);
     }
 }
 
@@ -115,16 +129,46 @@ pub fn count_up(list: &mut [u16], n: usize)
     }
 }
 
-/// The slots of `count` tables, all of them live.
-pub fn live_slots(count: usize) -> ArrayVec<u8, 256>
+/// Puts the slots of `count` tables, all of them live, in place of those that a list has.
+// Stays: the numbers are what is pushed, and no list is read.
+fn put_live(live: &mut ArrayVec<u8, 256>, count: usize)
     requires { count ≤ 256 }
-    ensures { result.items ≡ range count }
+    ensures { live.new.items ≡ range count }
 {
-    let mut live = ArrayVec::new();
-    // Stays: the numbers are what is pushed, and no list is read.
+    live.clear();
     for slot in 0..count {
         // Stays: the number fits by what is known here; `try_from` would add a failure that never comes.
         live.push(slot as u8);
     }
-    live
+}
+
+/// Puts the tables of some leaves in place of those that were there: their sets and what stays whatever is merged, the leaves' numbers, the size bits,
+/// and the slots, all of them live; none has its least pair yet. Leaves are `n` in all.
+// Stays: `n` is how many leaves there are in all, planned or not, and the promise does not ask that the list of counts has as many.
+pub fn prepare(
+    tables: &mut Tables,
+    scoring: &Scoring,
+    n: usize,
+    counts: &[u8],
+    legs: &[u16],
+    outputs: &[u16],
+    leaves: &[u16],
+)
+    requires { (n ≤ scoring.now.width * 64) × (length outputs.now ≤ 4294967296) × (length leaves.now ≤ 256) }
+    ensures same { IsSameLoan tables.old tables.new }
+    ensures lists { lists_in tables.new ≡ prepared_in scoring.now.width scoring.now.weights.now n counts.now legs.now outputs.now leaves.now (lists_in tables.old) }
+{
+    put_sets(
+        &mut *tables.sets,
+        scoring.width,
+        n,
+        counts,
+        legs,
+        outputs,
+        leaves,
+    );
+    cells::copy(&mut tables.nodes, leaves, leaves.len());
+    weigh_all(tables, scoring, leaves.len());
+    put_live(&mut tables.live, leaves.len());
+    tables.rows = [Row::Stale; 256];
 }

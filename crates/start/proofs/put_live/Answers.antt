@@ -2,7 +2,7 @@ use Rattle.start.specs.Leaves.{range_more}
 use mathlib.Core.List.{List, [], ◌∷◌, ◌++◌}
 use native.Mathlib.Omega.{arith}
 use mathlib.Core.Path.{sym, ap, ◌∙◌}
-use Rattle.start.proofs.live_slots.Goals as goal
+use Rattle.start.proofs.put_live.Goals as goal
 
 pub loop-slot-preserved : goal.loop-slot-preserved
 loop-slot-preserved c = let l = c.loop-slot in (
