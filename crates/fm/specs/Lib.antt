@@ -1,4 +1,5 @@
 pub mod Again
 pub mod NetAgain
 pub mod NetsAgain
+pub mod Words
 pub mod Neighbours

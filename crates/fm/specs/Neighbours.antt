@@ -1,7 +1,7 @@
 -- After a vertex has moved, the pins of its nets are entered again. Assumes nothing.
-use Rattle.std.specs.Prelude.{true, ◌≡◌, List, map, ℕ, ◌+◌, ◌≤◌, ◌<◌, ltb, Float, length, get_or}
-use Rattle.std.proofs.Common.{sym, ap, ◌∙◌, subst, arith, ltb-true}
-use Rattle.std.proofs.Math.Seq.{take-length}
+use Rattle.std.specs.Prelude.{true, ◌≡◌, List, map, ℕ, ◌+◌, ◌≤◌, ◌<◌, ltb, Float, length, get_or, take}
+use Rattle.std.proofs.Common.{sym, ap, ◌∙◌, subst, arith, ltb-true, get_or-take}
+use Rattle.std.proofs.lemmas.List.Edits.{sets}
 use Rattle.spec.specs.Lists.{keep, range}
 use Rattle.spec.specs.Hypergraph.{fold_over, nets_at, all_pins}
 use Rattle.spec.specs.Fm.{Queue}
@@ -9,7 +9,7 @@ use Rattle.laws.specs.Booleans.{and_left}
 use Rattle.laws.specs.ListLaws.{kept_each}
 use Rattle.laws.specs.MemberLaws.{all_at}
 use Rattle.slots.specs.Slots.{held}
-use Rattle.slots.specs.Rising.{rising_of, rising_few}
+use Rattle.slots.specs.Rising.{rising_of, rising_few, listed_all}
 use Rattle.partition.specs.Layout.{net_in, graph_in, Laid}
 use Rattle.partition.specs.Gains.{nets_at_lem}
 use Rattle.partition.specs.declared.place.Place.{Place}
@@ -20,15 +20,13 @@ net_held : (ws : List ℕ) (s k : ℕ) → k < length (rising_of ws 4 s) → (he
 unfolding rising_of
 net_held ws s k b = all_at (λ v. (held ws 4 s v ≡ true) × (v < 256)) (keep (held ws 4 s) (range 256)) k 0 (kept_each (held ws 4 s) 0 256) b
 
--- the nets of v, in a list
-pub own_few : (ws l : List ℕ) (s : ℕ) → l ≡ rising_of ws 4 s → length l ≤ 256
-own_few ws l s e = omega (arith, ap length e, rising_few ws 4 s)
-
-pub own_under : (ws : List ℕ) (o : Place) (l : List ℕ) (v : ℕ) → Laid ws o.nets o.vertices o.sides o.net_count o.vertex_count → v < o.vertex_count
-    → l ≡ rising_of ws 4 (o.vertices + v) → Under o.net_count (length l) l
-own_under ws o l v h b e k q =
-    let (x, y) = net_held ws (o.vertices + v) k (omega (arith, ap length e)) in
-    let z : get_or (rising_of ws 4 (o.vertices + v)) k 0 ≡ get_or l k 0 = ap (λ w. get_or w k 0) (sym e) in
+-- the nets of v, put into a list, are nets
+pub own_under : (ws : List ℕ) (o : Place) (out out' : List ℕ) (v r : ℕ) → Laid ws o.nets o.vertices o.sides o.net_count o.vertex_count → v < o.vertex_count
+    → r ≡ length (rising_of ws 4 (o.vertices + v)) → out' ≡ sets out 0 (rising_of ws 4 (o.vertices + v)) → 256 ≤ length out → Under o.net_count r out'
+own_under ws o out out' v r h b e f l k q =
+    let (x, y) = net_held ws (o.vertices + v) k (omega (arith, e)) in
+    let z : get_or (rising_of ws 4 (o.vertices + v)) k 0 ≡ get_or out' k 0 =
+    ap (λ w. get_or w k 0) (sym (listed_all ws out out' 4 (o.vertices + v) r e f l)) ∙ get_or-take r out' k 0 q in
     subst (λ (w : ℕ). w < o.net_count) z
     (ltb-true _ o.net_count (and_left (ltb (get_or (rising_of ws 4 (o.vertices + v)) k 0) o.net_count) _ (sym (h.crossed v (get_or (rising_of ws 4 (o.vertices + v)) k 0) b y) ∙ x)))
 
@@ -38,12 +36,12 @@ module _ (ws : List ℕ) (o : Place) (weights : List ℕ) (locked : ℕ) where
         → r ≡ fold_over (again_in ws o weights locked vw moves) (all_pins (nets_at (graph_in ws o.nets weights o.net_count vw) v)) q
     pub stamps : (k : ℕ) → Stamped k q.stamps → Stamped (k + 32768) r.stamps
 
-  pub neighbours_again : (v : ℕ) (l : List ℕ) (q q' : Queue) → Laid ws o.nets o.vertices o.sides o.net_count o.vertex_count → v < o.vertex_count
-      → l ≡ rising_of ws 4 (o.vertices + v) → NetsAgain ws o weights locked l (length l) q q' → NeighboursAgain v q q'
-  neighbours_again v l q q' h b p a =
+  pub neighbours_again : (v r : ℕ) (l : List ℕ) (q q' : Queue) → Laid ws o.nets o.vertices o.sides o.net_count o.vertex_count → v < o.vertex_count
+      → take r l ≡ rising_of ws 4 (o.vertices + v) → r ≡ length (rising_of ws 4 (o.vertices + v)) → NetsAgain ws o weights locked l r q q' → NeighboursAgain v q q'
+  neighbours_again v r l q q' h b p c a =
       record {
         queue = λ vw moves k. a.queue vw moves k
-            ∙ ap (λ z. fold_over (again_in ws o weights locked vw moves) (all_pins (map (net_in ws o.nets weights) z)) q) (take-length l ∙ p)
+            ∙ ap (λ z. fold_over (again_in ws o weights locked vw moves) (all_pins (map (net_in ws o.nets weights) z)) q) p
             ∙ ap (λ z. fold_over (again_in ws o weights locked vw moves) (all_pins z) q) (sym (nets_at_lem ws o.nets o.vertices o.sides o.net_count o.vertex_count weights h v vw b));
-        stamps = λ k s u. omega (arith, a.stamps k s u, own_few ws l (o.vertices + v) p);
+        stamps = λ k s u. omega (arith, a.stamps k s u, c, rising_few ws 4 (o.vertices + v));
       }

@@ -1,16 +1,19 @@
 #![tactic(auto)]
 // Refinement of a partition by moves of single vertices: after a move, the pins of its nets are entered again.
 ghost use Rattle.std.specs.Prelude.{◌<◌, ◌≤◌, length};
+ghost use Rattle.spec.specs.Members.{All};
+ghost use Rattle.bits.specs.Lowest.{places};
 ghost use Rattle.queue.specs.Queues.{stamps_of, queue_in};
-ghost use Rattle.fm.specs.Again.{Stamped, Under, Again, AllAgain};
+ghost use Rattle.fm.specs.Again.{Stamped, Again, AllAgain};
 ghost use Rattle.fm.specs.NetAgain.{NetAgain};
 ghost use Rattle.fm.specs.NetsAgain.{NetsAgain};
 ghost use Rattle.fm.specs.Neighbours.{NeighboursAgain};
 
 // Stays: `graph: &Hypergraph, entries: &mut [Entry]`, `entries: &mut [Entry], draws: &mut Draws`, `draws: &mut Draws, locked: usize`: in a struct that lends them each method would say besides that the same entries come back.
-// Stays: `locked < 32768`, `128 ≤ length pins.old`: bounds of numbers, so that a place fits a machine word and a list has room; a type of its own would be unwrapped at each use.
+// Stays: `locked < 32768`: a bound of a number, so that a place fits a machine word; a type of its own would be unwrapped at each use.
 // Stays: `Stamped 1073741824 (stamps_of entries.old)`: each call raises the bound, so it is no invariant of the entries.
 
+use bits::Digits;
 use draws::Draws;
 use partition::Hypergraph;
 use queue::Entry;
@@ -33,58 +36,57 @@ fn enter_again(
     queue::enter(graph, entries, draws, u, stamp);
 }
 
-/// Enters the vertices of a list again, each unless it is in the slot `locked`.
+/// Enters the vertices `base` + i for each set digit i of `pins` again, each unless it is in the slot `locked`.
 // Stays: each turn writes the same entries; `for_each` with a closure that holds them is no plainer.
-fn enter_pins(
+fn enter_word(
     graph: &Hypergraph,
     entries: &mut [Entry],
     draws: &mut Draws,
     locked: usize,
-    pins: &[u16],
+    base: usize,
+    pins: u64,
 )
-    requires { (locked < 32768) × (length pins.now ≤ 65536) × Stamped 2147483648 (stamps_of entries.old) × Under graph.now.place.vertex_count (length pins.now) pins.now }
-    ensures { AllAgain graph.now.words.now graph.now.place graph.now.weights.now locked pins.now (length pins.now) (queue_in entries.old draws.old) (queue_in entries.new draws.new) }
+    requires { (locked < 32768) × (base ≤ 64) × All (λ u. u < graph.now.place.vertex_count) (places base 64 pins) × Stamped 4294967040 (stamps_of entries.old) }
+    ensures { AllAgain graph.now.words.now graph.now.place graph.now.weights.now locked (places base 64 pins) (length (places base 64 pins)) (queue_in entries.old draws.old) (queue_in entries.new draws.new) }
 {
-    for &pin in pins {
-        enter_again(graph, entries, draws, locked, usize::from(pin));
+    for u in Digits::above(base, pins) {
+        enter_again(graph, entries, draws, locked, u);
     }
 }
 
-/// Enters the pins of net `e` again, each unless it is in the slot `locked`. The list `pins` is for them.
-fn enter_net(
-    graph: &Hypergraph,
-    entries: &mut [Entry],
-    draws: &mut Draws,
-    locked: usize,
-    pins: &mut [u16],
-    e: usize,
-)
-    requires { (locked < 32768) × (e < graph.now.place.net_count) × (128 ≤ length pins.old) × Stamped 2147483648 (stamps_of entries.old) }
+/// Enters the pins of net `e` again, each unless it is in the slot `locked`.
+fn enter_net(graph: &Hypergraph, entries: &mut [Entry], draws: &mut Draws, locked: usize, e: usize)
+    requires { (locked < 32768) × (e < graph.now.place.net_count) × Stamped 2147483648 (stamps_of entries.old) }
     ensures { NetAgain graph.now.words.now graph.now.place graph.now.weights.now locked e (queue_in entries.old draws.old) (queue_in entries.new draws.new) }
 {
-    let count = slots::members(graph.words, 2, graph.place.nets + e, pins, 0);
-    enter_pins(graph, entries, draws, locked, &pins[..count]);
+    // Stays: a net's pins are the members of a slot of two words, read by number.
+    let at = (graph.place.nets + e) * 2;
+    let low = cells::get_or(graph.words, at, 0);
+    let high = cells::get_or(graph.words, at + 1, 0);
+    enter_word(graph, entries, draws, locked, 0, low);
+    enter_word(graph, entries, draws, locked, 64, high);
 }
 
-/// Enters the pins of the nets of a list again, net by net, each unless it is in the slot `locked`. The list `pins` is for the pins of a net.
+/// Enters the pins of the nets `base` + i for each set digit i of `nets` again, net by net, each unless it is in the slot `locked`.
 // Stays: each turn writes the same entries; `for_each` with a closure that holds them is no plainer.
 fn enter_nets(
     graph: &Hypergraph,
     entries: &mut [Entry],
     draws: &mut Draws,
     locked: usize,
-    pins: &mut [u16],
-    own: &[u16],
+    base: usize,
+    nets: u64,
 )
-    requires { (locked < 32768) × (length own.now ≤ 256) × (128 ≤ length pins.old) × Stamped 1073741824 (stamps_of entries.old) × Under graph.now.place.net_count (length own.now) own.now }
-    ensures { NetsAgain graph.now.words.now graph.now.place graph.now.weights.now locked own.now (length own.now) (queue_in entries.old draws.old) (queue_in entries.new draws.new) }
+    requires { (locked < 32768) × (base ≤ 192) × All (λ e. e < graph.now.place.net_count) (places base 64 nets) × Stamped 1610612736 (stamps_of entries.old) }
+    ensures { NetsAgain graph.now.words.now graph.now.place graph.now.weights.now locked (places base 64 nets) (length (places base 64 nets)) (queue_in entries.old draws.old) (queue_in entries.new draws.new) }
 {
-    for &e in own {
-        enter_net(graph, entries, draws, locked, pins, usize::from(e));
+    for e in Digits::above(base, nets) {
+        enter_net(graph, entries, draws, locked, e);
     }
 }
 
 /// After vertex `v` has moved: enters each pin of each of its nets again, unless it is in the slot `locked`.
+// Stays: a vertex's nets are the members of a slot of four words, read by number.
 pub fn enter_neighbours(
     graph: &Hypergraph,
     entries: &mut [Entry],
@@ -95,8 +97,9 @@ pub fn enter_neighbours(
     requires { (locked < 32768) × (v < graph.now.place.vertex_count) × Stamped 1073741824 (stamps_of entries.old) }
     ensures { NeighboursAgain graph.now.words.now graph.now.place graph.now.weights.now locked v (queue_in entries.old draws.old) (queue_in entries.new draws.new) }
 {
-    let mut pins = [0u16; 128];
-    let mut own = [0u16; 256];
-    let count = slots::members(graph.words, 4, graph.place.vertices + v, &mut own, 0);
-    enter_nets(graph, entries, draws, locked, &mut pins, &own[..count]);
+    let at = (graph.place.vertices + v) * 4;
+    for k in 0..4 {
+        let nets = cells::get_or(graph.words, at + k, 0);
+        enter_nets(graph, entries, draws, locked, k * 64, nets);
+    }
 }

@@ -65,6 +65,14 @@ fn read(words: &[u64], s: usize) -> Pair
     ensures words { AreRead words.now result }
 {
     let at = s * 2;
+    // One look at the length for both words: a gain reads the two of each of its nets.
+    if at + 1 < words.len() {
+        return Pair {
+            slot: s,
+            low: words[at],
+            high: words[at + 1],
+        };
+    }
     Pair {
         slot: s,
         low: cells::get_or(words, at, 0),

@@ -1,36 +1,37 @@
-use Rattle.std.proofs.Common.{arith, sym, ◌+◌, length-take-le}
-use Rattle.slots.specs.Rising.{listed_all, listed_fits}
-use Rattle.fm.specs.NetAgain.{pins_few, pins_under, net_again}
+use Rattle.std.proofs.Common.{arith, refl, sym, ◌<◌}
+use Rattle.std.proofs.Math.Path.{subst}
+use Rattle.std.proofs.Math.Seq.{take-length}
+use Rattle.spec.specs.Members.{All}
+use Rattle.bits.specs.Lowest.{places}
+use Rattle.fm.specs.NetAgain.{net_again}
+use Rattle.fm.specs.Words.{pins_low, two_words, places_few, low_word}
 use Rattle.fm.proofs.enter_net.Goals as goal
 
-pub slice_bounds-enter_pins-end : goal.slice_bounds-enter_pins-end
-slice_bounds-enter_pins-end c =
+pub enter_word-requires : goal.enter_word-requires
+enter_word-requires c =
     let a = c.args in
-    let m = c.members-count in
-    listed_fits a.graph.now.words.now a.pins.now _ 2 (a.graph.now.place.nets + a.e) m.result m.ensures.0 m.ensures.1 c.requires.2
-
-pub slice_bounds-enter_pins-end-2 : goal.slice_bounds-enter_pins-end-2
-slice_bounds-enter_pins-end-2 c =
-    let a = c.args in
-    let m = c.members-count in
-    sym (length-take-le m.result _ (listed_fits a.graph.now.words.now a.pins.now _ 2 (a.graph.now.place.nets + a.e) m.result m.ensures.0 m.ensures.1 c.requires.2))
-
-pub enter_pins-requires : goal.enter_pins-requires
-enter_pins-requires c =
-    let a = c.args in
-    let g = a.graph.now in
-    let m = c.members-count in
-    let all = listed_all g.words.now a.pins.now _ 2 (g.place.nets + a.e) m.result m.ensures.0 m.ensures.1 c.requires.2 in (
+    let g = a.graph.now in (
       c.requires.0,
-      omega (arith, pins_few g.words.now _ (g.place.nets + a.e) all),
-      c.requires.3,
-      pins_under g.words.now _ (g.place.nets + a.e) all g.place.vertex_count (λ v q h. g.placed.laid.within a.e v c.requires.1 q h),
+      omega arith,
+      subst (λ x. All (λ u. u < g.place.vertex_count) (places 0 64 x)) (sym c.get_or-low.ensures)
+          (low_word g.words.now g.place g.weights.now a.locked g.placed.laid a.e c.requires.1),
+      λ u. omega (arith, c.requires.2 u),
+    )
+
+pub enter_word-requires-2 : goal.enter_word-requires-2
+enter_word-requires-2 c =
+    let a = c.args in
+    let g = a.graph.now in (
+      c.requires.0,
+      omega arith,
+      subst (λ x. All (λ u. u < g.place.vertex_count) (places 64 64 x)) (sym c.get_or-high.ensures)
+          (pins_low g.words.now g.place g.weights.now a.locked g.placed.laid a.e 1 c.requires.1 (omega arith)),
+      λ u. omega (arith, c.enter_word.ensures.stamps 2147483648 c.requires.2 u, places_few 0 c.get_or-low.result (omega arith)),
     )
 
 pub returns : goal.returns
 returns c =
     let a = c.args in
     let g = a.graph.now in
-    let m = c.members-count in
-    net_again g.words.now g.place g.weights.now a.locked a.e _ _ _
-    (listed_all g.words.now a.pins.now _ 2 (g.place.nets + a.e) m.result m.ensures.0 m.ensures.1 c.requires.2) c.enter_pins.ensures
+    net_again g.words.now g.place g.weights.now a.locked a.e _ _ _ _ (take-length _) refl
+    (two_words g.words.now g.place g.weights.now a.locked a.e c.get_or-low.result c.get_or-high.result _ _ _ c.get_or-low.ensures c.get_or-high.ensures c.enter_word.ensures c.enter_word-2.ensures)
