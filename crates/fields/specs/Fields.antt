@@ -14,7 +14,7 @@ use Rattle.spec.specs.declared.Refusal.TheVariants.{TooLarge}
 use Rattle.spec.specs.Refusal.{decide}
 use Rattle.spec.specs.Network.{Network, leaf_count, index_count}
 use Rattle.spec.specs.Layout.{network_of, firsts}
-use Rattle.spec.specs.File.{plain, flagged, Due, leaves_due, tree_due, ask_due, end_due, Reading, take_weights, take_leaf, take_outputs, take_tree, take_flags, take_target}
+use Rattle.spec.specs.File.{Ask, plain, flagged, target, Due, leaves_due, tree_due, ask_due, end_due, Reading, take_weights, take_leaf, take_outputs, take_tree, take_flags, take_target}
 use Rattle.laws.specs.Booleans.{or_none}
 use Rattle.network.specs.declared.Network.{Network as Record}
 use Rattle.network.specs.Record.{net_of}
@@ -50,6 +50,14 @@ decided o y e = ap (λ p. decide p y) (passed o e)
 pub refused : {A : Type 0} (o : Option Refusal) (y : Result A Refusal) (k : Refusal) → Err k ≡ verdict o → decide o y ≡ Err k
 refused None y k e = clash k tt e
 refused (Some j) y k e = let w : k ≡ j = cc in ap Err (sym w)
+
+-- the same of whatever the definitions decide by the check: the refusal that it has found, or what is there where it has found none
+module _ {A : Type 0} (o : Option Refusal) (y : A) {R : Result A Refusal} (q : R ≡ decide o (Ok y)) where
+  pub taken_not : (k : Refusal) → Err k ≡ verdict o → R ≡ Err k
+  taken_not k e = q ∙ refused o (Ok y) k e
+
+  pub taken_yes : Ok tt ≡ verdict o → R ≡ Ok y
+  taken_yes e = q ∙ decided o (Ok y) e
 
 -- a network, and nothing more
 abbrev pub after : Due → Network → Reading
@@ -121,11 +129,22 @@ target_not N tree [] n = refl
 target_not N tree (w ∷ []) n = absurd (n refl)
 target_not N tree (w ∷ v ∷ p) n = refl
 
+-- and one of one byte
+pub target_is : (N : Network) (tree : Option (List ℕ)) (p : List ℕ) → length p ≡ 1
+    → take_target N tree p ≡ Ok (record { due = end_due; read = record { network = N; tree = tree; ask = target (get_or p 0 0) } })
+target_is N tree [] e = absurd (omega arith)
+target_is N tree (w ∷ []) e = refl
+target_is N tree (w ∷ v ∷ p) e = absurd (omega arith)
+
 -- ---- what has been read where they pass ----
 
--- a record without a tree stands for what has been read, and it is sound
+-- a record stands for the network that has been read, with a tree and what is asked, and it is sound
+abbrev pub TakenWith : Result Reading Refusal → Due → Option (List ℕ) → Ask → Record → Type 0
+TakenWith R d t a n = (R ≡ Ok (record { due = d; read = record { network = net_of n; tree = t; ask = a } })) × Sound n
+
+-- the same without a tree, and nothing asked
 abbrev pub Taken : Result Reading Refusal → Due → Record → Type 0
-Taken R d n = (R ≡ Ok (after d (net_of n))) × Sound n
+Taken R d n = TakenWith R d None plain n
 
 -- the record with the weights of a file
 pub weights_taken : (p weights counts cells outputs : List ℕ) → length p ≤ length weights → Ok tt ≡ verdict (weights_refusal p)
@@ -133,8 +152,7 @@ pub weights_taken : (p weights counts cells outputs : List ℕ) → length p ≤
     (record { index_count = length p; leaf_count = 0; output_count = 0; weights = placed weights 0 p; leg_counts = counts; legs = cells; outputs = outputs })
 unfolding net_of network_of firsts
 weights_taken p weights counts cells outputs h e = (
-  weights_decide p
-      ∙ decided (weights_refusal p) _ e
+  taken_yes (weights_refusal p) _ (weights_decide p) e
       ∙ ap (λ l. Ok (after leaves_due (record { leaves = []; outputs = []; weights = l }))) (sym (firsts_whole weights p h)),
   record { leaves = omega arith; few = λ i k. absurd (omega arith) },
 )
@@ -164,8 +182,7 @@ module _ (R : Record) (sound : Sound R) where
     unfolding net_of network_of firsts
     leaf_taken c d e =
         let (f, g) = leaf_fits p R.index_count R.leaf_count e in (
-          leaf_decide p (net_of R) R.index_count R.leaf_count (indices R) (leaves R)
-              ∙ decided (leaf_refusal R.index_count R.leaf_count p) _ e
+          taken_yes (leaf_refusal R.index_count R.leaf_count p) _ (leaf_decide p (net_of R) R.index_count R.leaf_count (indices R) (leaves R)) e
               ∙ ap (λ N. Ok (after leaves_due N)) (sym (layout_more_leaves R.index_count R.leaf_count 0 R.weights R.leg_counts R.legs R.outputs p sound.few (omega arith) (omega arith) f)),
           record { leaves = omega arith; few = few_more (length p) f (omega arith) },
         )
@@ -184,8 +201,17 @@ module _ (R : Record) (sound : Sound R) where
     unfolding net_of network_of
     outputs_taken c e =
         let f : length p ≤ 32 = outputs_fit p R.index_count e in (
-          outputs_decide p (net_of R) R.index_count (indices R)
-              ∙ decided (outputs_refusal R.index_count p) _ e
+          taken_yes (outputs_refusal R.index_count p) _ (outputs_decide p (net_of R) R.index_count (indices R)) e
               ∙ ap (λ l. Ok (after tree_due (record { leaves = (net_of R).leaves; outputs = l; weights = (net_of R).weights }))) (sym (firsts_whole R.outputs p (omega arith))),
           record { leaves = sound.leaves; few = sound.few },
         )
+
+    pub tree_taken : Ok tt ≡ verdict (tree_refusal R.leaf_count p) → TakenWith (take_tree (net_of R) p) ask_due (Some p) plain R
+    tree_taken e = (taken_yes (tree_refusal R.leaf_count p) _ (tree_decide p (net_of R) R.leaf_count (leaves R)) e, sound)
+
+    module _ (tree : Option (List ℕ)) where
+      pub flags_taken : Ok tt ≡ verdict (flags_refusal R.index_count p) → TakenWith (take_flags (net_of R) tree p) end_due tree (flagged p) R
+      flags_taken e = (taken_yes (flags_refusal R.index_count p) _ (flags_decide p (net_of R) tree R.index_count (indices R)) e, sound)
+
+      pub target_taken : length p ≡ 1 → TakenWith (take_target (net_of R) tree p) end_due tree (target (get_or p 0 0)) R
+      target_taken e = (target_is (net_of R) tree p e, sound)

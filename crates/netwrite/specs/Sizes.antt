@@ -6,7 +6,8 @@ use Rattle.std.proofs.Math.ListN.{length, length-append}
 use Rattle.spec.specs.Layout.{firsts, network_of}
 use Rattle.spec.specs.File.{Ask, plain, flagged, target, Contents, tree_bytes, field, leaf_fields, tree_field, ask_field, file_of}
 use Rattle.laws.specs.LayoutLaws.{firsts_length}
-use Rattle.network.specs.Checks.{leaves_of}
+use Rattle.network.specs.Checks.{Fitting, leaves_of}
+use Rattle.network.specs.Codes.{Facts}
 use Rattle.network.specs.Lists.{Holds}
 use Rattle.network.specs.Views.{in_facts}
 use Rattle.network.specs.declared.accepted.Accepted.{Accepted}
@@ -18,6 +19,18 @@ pub record Few (counts : List ℕ) : Type 0 where
   pub leaves : length counts ≤ 128
   pub legs : (i : ℕ) → i < length counts → get_or counts i 0 ≤ 32
 
+-- the same of the first n of a longer list
+pub record FewOf (n : ℕ) (counts : List ℕ) : Type 0 where
+  pub leaves : n ≤ 128
+  pub counted : n ≤ length counts
+  pub legs : (i : ℕ) → i < n → get_or counts i 0 ≤ 32
+
+pub few_all : {counts : List ℕ} → Few counts → FewOf (length counts) counts
+few_all f = record { leaves = f.leaves; counted = omega arith; legs = f.legs }
+
+pub few_whole : {counts : List ℕ} → FewOf (length counts) counts → Few counts
+few_whole f = record { leaves = f.leaves; legs = f.legs }
+
 -- ---- the loop over the leaves' counts ----
 
 pub record Summed (i sum : ℕ) (counts : List ℕ) : Type 0 where
@@ -27,12 +40,19 @@ pub record Summed (i sum : ℕ) (counts : List ℕ) : Type 0 where
 pub summed_none : (counts : List ℕ) → Summed 0 0 counts
 summed_none counts = record { bytes = sym (leaf_bytes_none counts); small = omega arith }
 
+module _ {n : ℕ} {counts : List ℕ} (f : FewOf n counts) where
+  pub summed_more : {i sum : ℕ} (x : ℕ) → x ≡ get_or counts i 0 → Summed i sum counts → i < n → Summed (i + 1) (sum + (3 + x)) counts
+  summed_more {i} {sum} x e s h =
+      record {
+        bytes = omega (arith, s.bytes, leaf_bytes_more i counts);
+        small = omega (arith, s.small, f.legs i h);
+      }
+
+  pub summed_end : {i sum : ℕ} → Summed i sum counts → i ≡ n → (sum ≡ leaf_bytes n counts) × (sum ≤ 4480)
+  summed_end {i} {sum} s e = (s.bytes ∙ ap (λ (k : ℕ). leaf_bytes k counts) e, omega (arith, s.small, f.leaves))
+
 pub summed_next : {i sum : ℕ} {counts : List ℕ} (x : ℕ) → x ≡ get_or counts i 0 → Few counts → Summed i sum counts → i < length counts → Summed (i + 1) (sum + (3 + x)) counts
-summed_next {i} {sum} {counts} x e f s h =
-    record {
-      bytes = omega (arith, s.bytes, leaf_bytes_more i counts);
-      small = omega (arith, s.small, f.legs i h);
-    }
+summed_next x e f s h = summed_more (few_all f) x e s h
 
 -- ---- the file's length ----
 
@@ -50,9 +70,17 @@ module _ (m n o : ℕ) (weights counts cells outputs : List ℕ) where
         leaf_fields_length counts cells n,
       )
 
+-- the counts of a network that is accepted
+pub fitting_few : {m n o : ℕ} {weights counts cells outputs : List ℕ} → Fitting m n o weights counts cells outputs → Facts m n o weights counts cells outputs → FewOf n counts
+fitting_few l f = record { leaves = f.few_leaves; counted = l.count_places f.few_leaves; legs = f.few_legs }
+
 module _ (a : Accepted) (h : Holds a.weights.now a.leg_counts.now a.legs.now a.outputs.now) where
+  -- its lists are as long as its counts say
+  pub in_fitting : Fitting (length a.weights.now) (length a.leg_counts.now) (length a.outputs.now) a.weights.now a.leg_counts.now a.legs.now a.outputs.now
+  in_fitting = record { weight_places = λ k. omega arith; count_places = λ k. omega arith; leg_places = h.rows; output_places = λ k. omega arith }
+
   pub accepted_few : Few a.leg_counts.now
-  accepted_few = record { leaves = (in_facts a h).few_leaves; legs = (in_facts a h).few_legs }
+  accepted_few = few_whole (fitting_few in_fitting (in_facts a h))
 
 -- the file of contents: the network's fields, the tree's, and what is asked
 pub file_fields : (c : Contents) → file_of c ≡ network_fields c.network ++ (tree_field c.tree ++ ask_field c.ask)

@@ -1,5 +1,5 @@
 use borrow.Author.Rules.{rules}
-use Rattle.fields.specs.Fields.{refused, leaf_fits, leaf_decide, leaf_taken, indices, leaves}
+use Rattle.fields.specs.Fields.{taken_not, leaf_fits, leaf_decide, leaf_taken, indices, leaves}
 use Rattle.fields.specs.Scans.{record_in}
 use Rattle.network.specs.Record.{net_of}
 use Rattle.std.proofs.Common.{Err}
@@ -11,7 +11,7 @@ pub returns-in_err-check_leaf : goal.returns-in_err-check_leaf
 returns-in_err-check_leaf c = let k = c.in_err-check_leaf.field-0.0 in
     let e : c.from_residual.result ≡ Err k = search rules in
     λ w o h. let n = record_in c.args.counts w c.args.leg_counts.now c.args.legs.now o in
-    rw e (leaf_decide c.args.payload.now (net_of n) _ _ (indices n) (leaves n) ∙ refused _ _ k (sym c.in_err-check_leaf.was ∙ c.check_leaf.ensures))
+    rw e (taken_not _ _ (leaf_decide c.args.payload.now (net_of n) _ _ (indices n) (leaves n)) k (sym c.in_err-check_leaf.was ∙ c.check_leaf.ensures))
 
 pub overflow_cast-leg_counts : goal.overflow_cast-leg_counts
 overflow_cast-leg_counts c = omega (arith, (leaf_fits c.args.payload.now _ _ (sym c.in_ok-check_leaf.was ∙ c.check_leaf.ensures)).0)
