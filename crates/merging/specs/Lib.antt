@@ -9,3 +9,4 @@ pub mod Removed
 pub mod Merge
 pub mod Connect
 pub mod Scans
+pub mod Fronts

@@ -7,5 +7,6 @@ pub mod Parts
 pub mod Cases
 pub mod Node
 pub mod Settled
+pub mod Fronts
 pub mod Again
 pub mod Benches

@@ -121,7 +121,7 @@ module _ {N : Network} {x : ℕ} {weights flags kids sets works : List ℕ} (h :
     front_lists = fronts h v inside k members₀ opened₀ members opened m one room room_opened st
 
     -- the opened list has a place for each opened node
-    short : m - 1 ≤ length opened
+    pub short : m - 1 ≤ length opened
     short = omega (arith, members_few, room_opened, ap (λ (z : State). length z.opened) st_n, opened_long kids works x (k - 1) (state (set members₀ 0 v) opened₀ 1))
 
     -- ---- the node is left ----
@@ -270,6 +270,13 @@ module _ {N : Network} {x : ℕ} {weights flags kids sets works : List ℕ} (h :
               named_front =
                   each_all (λ p. get_or M p 0 ≡ get_or (map number ms) p 0)
                   (λ p. ap (λ l. get_or l p 0) eM ∙ taken_names h v inside k members₀ opened₀ members opened m one room room_opened st p ∙ sym (number_at ms p)) region
+
+              -- the longer lists build the same array
+              pub built_front : build_array x M region (freed O (length O)) (pairs_of kids) ≡ build_array x members region (freed opened (m - 1)) (pairs_of kids)
+              built_front =
+                  ap (λ sl. build_array x M region sl (pairs_of kids)) (ap (λ l. freed l (length l)) eO ∙ freed_front opened (m - 1) short)
+                  ∙ build_same x M (map number ms) region named_front (freed opened (m - 1)) (pairs_of kids)
+                  ∙ sym (build_same x members (map number ms) region named (freed opened (m - 1)) (pairs_of kids))
 
               valid_then : ValidTree (leaf_count N) (build_array (leaf_count N) (map number ms) region (map number front_at.opened) (pairs_of kids)).array
                   (graft v (build ms region (map number front_at.opened)).tree (tree_of (leaf_count N) kids))

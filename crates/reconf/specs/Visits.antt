@@ -16,6 +16,15 @@ pub record Searches (sets members local weights : List ℕ) (v : ℕ) (limit : O
   pub found : found_at part (2 ^ length members) cost ≡ searched_in united wt limit (length members)
   pub count : tried ≡ tried_in united wt limit (length members)
 
+-- the same among the first m members of a longer list, in numbers of the first c of a longer list of local indices
+pub record SearchesFront (sets members local weights : List ℕ) (v m c : ℕ) (limit : Option ℕ) (part : List ℕ) (cost : Option ℕ) (tried : ℕ) : Type 0 where
+  pub united : List (List ℕ)
+  pub wt : List ℕ
+  pub placed : LocalSets sets 4 v members m local c united
+  pub weighs : (i : ℕ) → i < 128 → get_or wt i 0 ≡ local_weight weights local c i
+  pub found : found_at part (2 ^ m) cost ≡ searched_in united wt limit m
+  pub count : tried ≡ tried_in united wt limit m
+
 -- the tree and the counts of one visit; where nothing is rebuilt the list is as it was
 pub record Reconfs (N : Network) (flag : ℕ → Bool) (k : ℕ) (limit : Option ℕ) (v : ℕ) (kids₀ kids : List ℕ) (rebuilt tried : ℕ) : Type 0 where
   pub right : wrong_tree (leaf_count N) kids ≡ false

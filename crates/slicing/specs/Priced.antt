@@ -21,7 +21,7 @@ use Rattle.nodesets.specs.Lists.{ordered_steps}
 use Rattle.nodebits.specs.Stepped.{over_front}
 use Rattle.pricing.specs.Answers.{widest_in}
 use Rattle.pricing.specs.Sums.{work_sum, slice_share}
-use Rattle.pricing.specs.Promise.{Priceable, Room, Filled}
+use Rattle.pricing.specs.Promise.{Priceable, Room, Filled, Pricing}
 use Rattle.pricing.specs.Accept.{accepted_priceable, accepted_steps, accepted_outside}
 use Rattle.pricing.specs.Final.{leaf_count_lem, places, weights_light, price_answer}
 use Rattle.cost.specs.Back.{exact_of}
@@ -112,3 +112,42 @@ module _ {W m n o : ℕ} {weights counts rows outputs kids order : List ℕ} (p 
             total_is = (node_sums flags 0 0 0 priced_tree).totals ∙ sym total_is ∙ sym e;
             exact = omega (arith, e, total_is);
           }
+
+-- the same from all that pricing promises
+module _ {W m n o : ℕ} {weights counts rows outputs kids order : List ℕ} (p : Priceable W m n o weights counts rows outputs kids order)
+    {outside : ℕ} {sets₀ sizes₀ works₀ steps₀ : List ℕ}
+    (room : Room W n kids order outside (length sets₀) (length sizes₀) (length works₀) (length steps₀))
+    (flags sets sizes works steps : List ℕ) (r : Prices)
+    (q : Pricing W (network_of m n o weights counts rows outputs) (flag_at flags) (pairs_of kids) sets₀ sizes₀ works₀ steps₀ sets sizes works steps r) where
+  abbrev priced : Network
+  priced = network_of m n o weights counts rows outputs
+
+  pub filled_of : Filled W priced (flag_at flags) (pairs_of kids) sets₀ sizes₀ works₀ sets sizes works
+  filled_of = record { sets_are = q.list.sets_are; sizes_are = q.list.sizes_are; works_are = q.list.works_are }
+
+  -- what is answered is told of the lists
+  pub answered : ◌≡◌ {A = Prices} r (record { total = up_to (work_sum works n (length order)); widest = widest_in (firsts (n + length order) sizes); slice_bits = sum_of (slice_share weights flags) (range m) })
+  answered =
+      q.answer ∙ sym (answer p flags filled_of room (up_to (work_sum works n (length order))) (widest_in (firsts (n + length order) sizes)) refl refl)
+
+  pub total_summed : r.total ≡ up_to (work_sum works n (length order))
+  total_summed = ap (λ (x : Prices). x.total) answered
+
+  pub widest_found : r.widest ≡ widest_in (firsts (n + length order) sizes)
+  widest_found = ap (λ (x : Prices). x.widest) answered
+
+  pub priced_tree_front : PricedTree W priced n (flag_at flags) kids order sets sizes works
+  priced_tree_front = priced_tree p flags filled_of room
+
+  pub widest_is_front : r.widest ≡ widest priced (flag_at flags) (listing priced (flag_at flags) (pairs_of kids))
+  widest_is_front = widest_is p flags filled_of room r.total r.widest total_summed widest_found
+
+  pub total_handed_front : r.total ≡ up_to (work (listing priced (flag_at flags) (pairs_of kids)))
+  total_handed_front = total_handed p flags filled_of room r.total r.widest total_summed widest_found
+
+  module _ (exact : work (listing priced (flag_at flags) (pairs_of kids)) < 9007199254740992) where
+    pub total_is_front : exact_of r.total ≡ work (listing priced (flag_at flags) (pairs_of kids))
+    total_is_front = total_is p flags filled_of room r.total r.widest total_summed widest_found exact
+
+    pub rankable_front : (total : ℕ) → total ≡ exact_of r.total → Rankable W m n weights kids order sets sizes works total
+    rankable_front = rankable p flags filled_of room r.total r.widest total_summed widest_found exact

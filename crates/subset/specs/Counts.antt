@@ -68,8 +68,8 @@ cond_same true x = refl
 cond_same false x = refl
 
 module _ (n m : ℕ) (has : ℕ → ℕ → Bool) (ext : ℕ → Bool) (weigh : (ℕ → Bool) → ℕ) (limited : Option ℕ)
-    (best : ℕ → ℕ) (work : ℕ → ℕ → ℕ) (masks : n ≡ 2 ^ m)
-    (skips : (s : ℕ) → 1 ≤ s → s < n → passed m has ext weigh limited (places_from 0 n s) ≡ passed_over best work n limited s)
+    (best : ℕ → ℕ) (work : ℕ → ℕ → ℕ) (limit : Option ℕ) (masks : n ≡ 2 ^ m)
+    (skips : (s : ℕ) → 1 ≤ s → s < n → passed m has ext weigh limited (places_from 0 n s) ≡ passed_over best work n limit s)
   where
     abbrev counted : List ℕ → ℕ
     counted s = cond (passed m has ext weigh limited s) 0 (length (splits_of s))
@@ -80,7 +80,7 @@ module _ (n m : ℕ) (has : ℕ → ℕ → Bool) (ext : ℕ → Bool) (weigh : 
     counted_one : (p : ℕ) → counted (p ∷ []) ≡ 0
     counted_one p = cond_same (passed m has ext weigh limited (p ∷ [])) 0
 
-    mask_tried : (s : ℕ) → s < n → counted (places_from 0 n s) ≡ tried_of best work n limited s
+    mask_tried : (s : ℕ) → s < n → counted (places_from 0 n s) ≡ tried_of best work n limit s
     unfolding tried_of
     mask_tried zero b = ap counted (no_bits 0 n) ∙ counted_none
     mask_tried (suc t) b =
@@ -99,11 +99,11 @@ module _ (n m : ℕ) (has : ℕ → ℕ → Bool) (ext : ℕ → Bool) (weigh : 
         ∙ omega (arith, cuts_length low.place (places_from 0 n rest), ap (λ x. 2 ^ x) long) in
         rw e (ap₂ (λ x y. cond x 0 y) (skips s (omega arith) b) z))
 
-    pub all_tried : sum_below (tried_of best work n limited) n ≡ split_count m has ext weigh limited
+    pub all_tried : sum_below (tried_of best work n limit) n ≡ split_count m has ext weigh limited
     unfolding split_count
     all_tried =
         sym
         (sum_masks counted 0 m
         ∙ ap (sum_below (λ s. counted (places_from 0 m s))) (sym masks)
-        ∙ sum_ext (λ s. counted (places_from 0 m s)) (tried_of best work n limited) n (λ s b.
+        ∙ sum_ext (λ s. counted (places_from 0 m s)) (tried_of best work n limit) n (λ s b.
         ap counted (same_places m n 0 s (omega arith) (omega (arith, own_bits n))) ∙ mask_tried s b))

@@ -6,7 +6,7 @@ use Rattle.spec.specs.Lists.{anyb}
 use Rattle.laws.specs.Booleans.{by_cases}
 use Rattle.laws.specs.Masks.{places_from}
 use Rattle.masks.specs.Rows.{row_has, has_at}
-use Rattle.masks.specs.Tables.{member_has, union_has, United, KeptBelow, work_at}
+use Rattle.masks.specs.Tables.{member_has, root_has, union_has, keeps_in, United, KeptBelow, work_at}
 use Rattle.masks.specs.Singles.{own_bits, same_places}
 use Rattle.subset.specs.Walk.{Filled, best_at, split_at}
 
@@ -16,6 +16,18 @@ pub record Ran (was united kept : List (List ℕ)) (b wt cost part : List ℕ) (
   pub root : get_or united 0 [] ≡ get_or was 0 []
   pub keeps : KeptBelow united wt kept b n n
   pub filled : Filled (best_at cost) (split_at part) (work_at kept wt) n limit n tried
+
+-- of these, what the search's answer and count stand on: of each mask the members that its rows list, the root's too, whatever else the lists have
+pub record RanOn (was united kept : List (List ℕ)) (wt cost part : List ℕ) (n : ℕ) (limit : Option ℕ) (tried : ℕ) : Type 0 where
+  pub done : (s j : ℕ) → 1 ≤ s → s < n → j < 128 → has_at united s j ≡ union_has was n s j
+  pub root : (j : ℕ) → j < 128 → root_has united j ≡ root_has was j
+  pub keeps : (s j : ℕ) → 1 ≤ s → s < n → j < 128 → has_at kept s j ≡ keeps_in united n s j
+  pub filled : Filled (best_at cost) (split_at part) (work_at kept wt) n limit n tried
+
+pub ran_front : (was united kept : List (List ℕ)) (b wt cost part : List ℕ) (n : ℕ) (limit : Option ℕ) (tried : ℕ)
+    → Ran was united kept b wt cost part n limit tried → RanOn was united kept wt cost part n limit tried
+ran_front was united kept b wt cost part n limit tried ran =
+    record { done = ran.done; root = λ j h. ap (λ r. row_has r j) ran.root; keeps = ran.keeps.kept; filled = ran.filled }
 
 -- ---- a list of rows that is cut after the masks ----
 

@@ -1,6 +1,6 @@
 -- The sets of the masks are those that the search speaks of: the members outside a mask, the full mask, and what a mask keeps.
 -- Assumes nothing.
-use Rattle.std.specs.Prelude.{Bool, ◌&&◌, ◌||◌, List, [], ◌≡◌, ℕ, zero, suc, ◌+◌, ◌-◌, ◌/◌, ◌%◌, ◌^◌, ◌≤◌, ◌<◌, eqb, ltb, length, get_or, Option}
+use Rattle.std.specs.Prelude.{Bool, ◌&&◌, ◌||◌, List, ◌≡◌, ℕ, zero, suc, ◌+◌, ◌-◌, ◌/◌, ◌%◌, ◌^◌, ◌≤◌, ◌<◌, eqb, ltb, length, Option}
 use Rattle.std.proofs.Math.Bool.{not, or_self, or-false}
 use Rattle.std.proofs.Math.Path.{sym, ap, ap₂}
 use Rattle.std.proofs.Common.{◌∙◌, eq-eqb, ne_eqb, lt-ltb, le-ltb}
@@ -16,7 +16,7 @@ use Rattle.laws.specs.Masks.{places_from}
 use Rattle.bits.specs.Bit.{bit-zero, bit-suc}
 use Rattle.bits.specs.Digits.{digit, zero_digits}
 use Rattle.bits.specs.Lowest.{places, places_ones}
-use Rattle.masks.specs.Rows.{row_has, has_at}
+use Rattle.masks.specs.Rows.{has_at}
 use Rattle.masks.specs.Tables.{member_has, root_has, union_has, keeps_in}
 use Rattle.masks.specs.Singles.{own_bits, no_bits, both_places, same_places}
 
@@ -86,8 +86,8 @@ module _ (n m : ℕ) (masks : n ≡ 2 ^ m) where
   -- ---- what a mask keeps ----
 
   module _ (was rows : List (List ℕ))
-      -- the rows have the unions of the members' sets, and the root's
-      (done : (s j : ℕ) → 1 ≤ s → s < n → j < 128 → has_at rows s j ≡ union_has was n s j) (root : get_or rows 0 [] ≡ get_or was 0 [])
+      -- the rows have the unions of the members' sets, and the root's set
+      (done : (s j : ℕ) → 1 ≤ s → s < n → j < 128 → has_at rows s j ≡ union_has was n s j) (root : (j : ℕ) → j < 128 → root_has rows j ≡ root_has was j)
       (weigh : (ℕ → Bool) → ℕ) (limit : Option ℕ)
     where
       -- the members outside, or for the full mask the root once more
@@ -96,7 +96,7 @@ module _ (n m : ℕ) (masks : n ≡ 2 ^ m) where
       outside s j b h =
           elim (ℕ_discrete (n - 1 - s) 0) [
             | yes e ↦ (ap (λ x. root_has was j || has_at rows x j) e
-                ∙ ap (λ r. root_has was j || row_has r j) root
+                ∙ ap (λ x. root_has was j || x) (root j h)
                 ∙ or_self (root_has was j)
                 ∙ sym
                 (ap (λ l. root_has was j || anyb (λ p. member_has was p j) l) (other_places s b ∙ ap (places_from 0 n) e ∙ no_bits 0 n)
@@ -109,4 +109,4 @@ module _ (n m : ℕ) (masks : n ≡ 2 ^ m) where
           → keeps_in rows n s j ≡ keeps m (member_has was) (root_has was) weigh limit (places_from 0 n s) j
       unfolding keeps_in keeps
       keeps_is s j a b h =
-          ap₂ (λ x y. x && y) (done s j a b h) (ap (λ r. row_has r j || has_at rows (n - 1 - s) j) root ∙ outside s j b h)
+          ap₂ (λ x y. x && y) (done s j a b h) (ap (λ x. x || has_at rows (n - 1 - s) j) (root j h) ∙ outside s j b h)

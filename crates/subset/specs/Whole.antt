@@ -35,12 +35,12 @@ lowest_same n s l a b c =
     head-eq_of_cons-eq e ∙ lowest_place 64 s k a c
 
 module _ (n m : ℕ) (has : ℕ → ℕ → Bool) (ext : ℕ → Bool) (weigh : (ℕ → Bool) → ℕ) (limited : Option ℕ)
-    (best split : ℕ → ℕ) (work : ℕ → ℕ → ℕ) (tried : ℕ)
+    (best split : ℕ → ℕ) (work : ℕ → ℕ → ℕ) (limit : Option ℕ) (tried : ℕ)
     (few : n ≤ 4096)
-    (filled : Filled best split work n limited n tried)
+    (filled : Filled best split work n limit n tried)
     -- the masks' sets give the work bits, and the limit's test
     (bits : (l r : ℕ) → 1 ≤ l → l < n → 1 ≤ r → r < n → split_work m has ext weigh limited (record { part = places_from 0 n l; rest = places_from 0 n r }) ≡ work l r)
-    (skips : (s : ℕ) → 1 ≤ s → s < n → passed m has ext weigh limited (places_from 0 n s) ≡ passed_over best work n limited s)
+    (skips : (s : ℕ) → 1 ≤ s → s < n → passed m has ext weigh limited (places_from 0 n s) ≡ passed_over best work n limit s)
   where
     abbrev tree : ℕ → Region
     tree = region_of split
@@ -60,7 +60,7 @@ module _ (n m : ℕ) (has : ℕ → ℕ → Bool) (ext : ℕ → Bool) (weigh : 
     single s a b z =
         let low : Lowest 0 n s (bit_and s (s - 1)) = lowest 0 n s a (omega (arith, own_bits n)) in
         let one_place : places_from 0 n s ≡ low.place ∷ [] = low.all ∙ ap (λ x. low.place ∷ places_from 0 n x) z ∙ ap (λ l. low.place ∷ l) (no_bits 0 n) in
-        let e : ◌≡◌ {A = Entry} (record { cost = 0; part = 0; tried = 0 }) (entry_of best work n limited s) = entry_single best work n limited s z in
+        let e : ◌≡◌ {A = Entry} (record { cost = 0; part = 0; tried = 0 }) (entry_of best work n limit s) = entry_single best work n limit s z in
         let place : count_trailing_zeros 64 s ≡ low.place = sym (lowest_same n s low a (omega (arith, own_bits n)) (omega arith)) in
         subst (λ l. Stands best tree s (cheapest m has ext weigh limited (suc n) l)) (sym one_place) (
           filled.costs s a b ∙ sym (ap (λ (x : Entry). x.cost) e),
@@ -75,25 +75,25 @@ module _ (n m : ℕ) (has : ℕ → ℕ → Bool) (ext : ℕ → Bool) (weigh : 
         lowest 0 n (bit_and s (s - 1)) (omega (arith, z)) (omega (arith, low.below, own_bits n)) in
         omega (arith, ap length low.all, ap length next.all)
 
-    skipped : (s : ℕ) → 1 ≤ s → s < n → (bit_and s (s - 1) ≡ 0 → ⊥) → passed_over best work n limited s ≡ true → Stands best tree s (answer s)
+    skipped : (s : ℕ) → 1 ≤ s → s < n → (bit_and s (s - 1) ≡ 0 → ⊥) → passed_over best work n limit s ≡ true → Stands best tree s (answer s)
     skipped s a b z q =
         go (places_from 0 n s) (two_places s a b z) (skips s a b ∙ q)
-        (filled.costs s a b ∙ sym (ap (λ (x : Entry). x.cost) (entry_passed best work n limited s z q)))
+        (filled.costs s a b ∙ sym (ap (λ (x : Entry). x.cost) (entry_passed best work n limit s z q)))
       where
         go : (l : List ℕ) → 2 ≤ length l → passed m has ext weigh limited l ≡ true → best s ≡ infinite → Stands best tree s (cheapest m has ext weigh limited (suc n) l)
         go [] g h e = absurd (omega arith)
         go (p ∷ []) g h e = absurd (omega arith)
         go (p ∷ r ∷ l) g h e = rw h (omega arith)
 
-    searched : (s : ℕ) → 1 ≤ s → s < n → (bit_and s (s - 1) ≡ 0 → ⊥) → passed_over best work n limited s ≡ false
+    searched : (s : ℕ) → 1 ≤ s → s < n → (bit_and s (s - 1) ≡ 0 → ⊥) → passed_over best work n limit s ≡ false
         → ((l : ℕ) → 1 ≤ l → l < s → Stands best tree l (answer l)) → Stands best tree s (answer s)
     searched s a b z q ih =
         let rest : ℕ = bit_and s (s - 1) in
         let low : Lowest 0 n s rest = lowest 0 n s a (omega (arith, own_bits n)) in
         let le : rest ≤ s - 1 = and_le_r s (s - 1) in
         let c : Choice = cheapest_of best work n (s - rest) rest in
-        let e : ◌≡◌ {A = Entry} (record { cost = c.cost; part = c.part; tried = 2 ^ ones rest - 1 }) (entry_of best work n limited s) =
-        entry_searched best work n limited s z q c (2 ^ ones rest - 1) refl refl in
+        let e : ◌≡◌ {A = Entry} (record { cost = c.cost; part = c.part; tried = 2 ^ ones rest - 1 }) (entry_of best work n limit s) =
+        entry_searched best work n limit s z q c (2 ^ ones rest - 1) refl refl in
         from_choice s (answer s) c (filled.costs s a b ∙ sym (ap (λ (x : Entry). x.cost) e)) (filled.parts s a b ∙ sym (ap (λ (x : Entry). x.part) e))
         (subset_stands n m has ext weigh limited best tree work (λ u. cheapest m has ext weigh limited n u) s rest low
         (λ l x y. subst (Stands best tree l) (best_same m has ext weigh limited (suc n) n (places_from 0 n l) (omega (arith, places_most 0 n l)) (places_most 0 n l)) (ih l x y))
@@ -105,7 +105,7 @@ module _ (n m : ℕ) (has : ℕ → ℕ → Bool) (ext : ℕ → Bool) (weigh : 
     all_below (suc k) s h a b =
         by_cases (eqb (bit_and s (s - 1)) 0)
         (λ e. single s a b (eqb-true (bit_and s (s - 1)) 0 e))
-        (λ e. by_cases (passed_over best work n limited s)
+        (λ e. by_cases (passed_over best work n limit s)
         (λ q. skipped s a b (eqb-false (bit_and s (s - 1)) 0 e) q)
         (λ q. searched s a b (eqb-false (bit_and s (s - 1)) 0 e) q (λ l x y. all_below k l (omega arith) x (omega arith))))
 
