@@ -92,18 +92,18 @@ module _ (N : Network) (eps : Float) (cutoff : ℕ) where
 -- greedy over a small end: 12, or the number of the tree that is built
 pub data Small (N : Network) (a : List Pair) (leaves kids₀ kids : List ℕ) (answer : Result ℕ Refusal) : Type 0 where
   small_wide : answer ≡ Err TableTooWide → greedy_from N a (leaves_of leaves) ≡ Err TableTooWide → Small N a leaves kids₀ kids answer
-  small_built : (top : ℕ) → answer ≡ Ok top → (b : Built) → greedy_from N a (leaves_of leaves) ≡ Ok b → kids ≡ over kids₀ (flat_of b.pairs)
+  small_built : (top : ℕ) → answer ≡ Ok top → top < 65536 → (b : Built) → greedy_from N a (leaves_of leaves) ≡ Ok b → kids ≡ over kids₀ (flat_of b.pairs)
       → length b.pairs ≡ length a + (length leaves - 1) → (0 < length leaves → (t : Tree) × (b.tops ≡ t ∷ []) × (top ≡ number t)) → Small N a leaves kids₀ kids answer
 
 -- what greedy answers says it
 pub small_is : {N : Network} {a : List Pair} {leaves kids₀ kids : List ℕ} {r : Result ℕ Refusal} → Planned N a leaves kids₀ kids r → Small N a leaves kids₀ kids r
 small_is (is_too_wide z q) = small_wide z q
-small_is (is_planned top z l b q w k t) = small_built top z b q w k t
+small_is (is_planned top z l b q w k t) = small_built top z l b q w k t
 
 -- a refusal, after which the stated words are cleared, or the number of the tree that is built, whose array stands at the front of `kids`; and the words after it
 pub data Halves (N : Network) (eps : Float) (cutoff : ℕ) (a : List Pair) (leaves : List ℕ) (at : Words) (kids₀ kids : List ℕ) (answer : Result ℕ Refusal) (next : Words) : Type 0 where
   is_off : (r : Refusal) → touches r ≡ true → answer ≡ Err r → halved N eps cutoff leaves a at ≡ Err r → Halves N eps cutoff a leaves at kids₀ kids answer next
-  is_tree : (top : ℕ) → answer ≡ Ok top → (b : Built) → halved N eps cutoff leaves a at ≡ Ok (record { built = b; words = next })
+  is_tree : (top : ℕ) → answer ≡ Ok top → top < 65536 → (b : Built) → halved N eps cutoff leaves a at ≡ Ok (record { built = b; words = next })
       → kids ≡ over kids₀ (flat_of b.pairs) → length b.pairs ≡ length a + (length leaves - 1)
       → (0 < length leaves → (t : Tree) × (b.tops ≡ t ∷ []) × (top ≡ number t)) → Halves N eps cutoff a leaves at kids₀ kids answer next
 
@@ -115,7 +115,7 @@ pub data Unsplit (N : Network) (a : List Pair) (leaves : List ℕ) (at : Words) 
 -- a node over two tops, unless the right half is refused
 pub data Joins (n : ℕ) (kids₀ kids : List ℕ) (count left : ℕ) (right answer : Result ℕ Refusal) : Type 0 where
   is_right : (r : Refusal) → right ≡ Err r → answer ≡ Err r → Joins n kids₀ kids count left right answer
-  is_node : (top : ℕ) → right ≡ Ok top → answer ≡ Ok (n + count) → kids ≡ with_node kids₀ count left top → Joins n kids₀ kids count left right answer
+  is_node : (top : ℕ) → right ≡ Ok top → top < 65536 → answer ≡ Ok (n + count) → kids ≡ with_node kids₀ count left top → Joins n kids₀ kids count left right answer
 
 -- ---- an answer is one of the two ----
 

@@ -49,7 +49,7 @@ module _ (N : Network) (eps : Float) (cutoff : ℕ) (a : List Pair) (leaves : Li
   by_greedy : (next : Words) → halved N eps cutoff leaves a at ≡ small_end N eps cutoff leaves a next
       → (kids : List ℕ) (answer : Result ℕ Refusal) → Small N a leaves kids₀ kids answer → Halves N eps cutoff a leaves at kids₀ kids answer next
   by_greedy next e kids answer (small_wide z q) = is_off TableTooWide refl z (e ∙ ap (with_words next) q)
-  by_greedy next e kids answer (small_built top z b q w k t) = is_tree top z b (e ∙ ap (with_words next) q) w k t
+  by_greedy next e kids answer (small_built top z l b q w k t) = is_tree top z l b (e ∙ ap (with_words next) q) w k t
 
   -- a small end
   pub rec_small : length leaves ≤ max cutoff 2 → (kids : List ℕ) (answer : Result ℕ Refusal) → Small N a leaves kids₀ kids answer
@@ -146,21 +146,21 @@ module _ (N : Network) (eps : Float) (cutoff : ℕ) (a : List Pair) (n made : �
         where
           go : Halves N eps cutoff a L next kids₀ kids₁ answer₁ at₁ → Halves N eps cutoff a leaves at kids₀ kids₁ answer at₁
           go (is_off u y z q) = is_off u y (e ∙ sym t ∙ z) (left_refused N eps cutoff leaves a at h P.part next P.is P.going P.some P.few u q)
-          go (is_tree top z b q w k y) = ok_or_err z t
+          go (is_tree top z l b q w k y) = ok_or_err z t
 
       -- the right half is refused, or both are joined
       pub rec_joined : left ≤ length leaves' → (top₁ : ℕ) → answer₁ ≡ Ok top₁ → (r : List ℕ) → r ≡ drop left leaves' → (c₁ c₂ : ℕ) → c₁ ≡ made + (left - 1)
-          → c₂ ≡ made + (length leaves - 2) → (kids₂ kids₃ : List ℕ) (answer₂ : Result ℕ Refusal) (at₂ : Words) (answer₃ : Result ℕ Refusal)
+          → c₂ ≡ made + (length leaves - 2) → n + c₂ < 65536 → (kids₂ kids₃ : List ℕ) (answer₂ : Result ℕ Refusal) (at₂ : Words) (answer₃ : Result ℕ Refusal)
           → ((b : List Pair) → Asks N b n c₁ weights counts legs outputs r kids₁ → Halves N eps cutoff b r at₁ kids₁ kids₂ answer₂ at₂)
           → Joins n kids₂ kids₃ c₂ top₁ answer₂ answer₃ → Halves N eps cutoff a leaves at kids₀ kids₃ answer₃ at₂
-      rec_joined hl top₁ t r er c₁ c₂ e₁ e₂ kids₂ kids₃ answer₂ at₂ answer₃ f j = go X
+      rec_joined hl top₁ t r er c₁ c₂ e₁ e₂ fit kids₂ kids₃ answer₂ at₂ answer₃ f j = go X
         where
           er' : r ≡ R
           er' = er ∙ P.back
 
           go : Halves N eps cutoff a L next kids₀ kids₁ answer₁ at₁ → Halves N eps cutoff a leaves at kids₀ kids₃ answer₃ at₂
           go (is_off u y z q) = ok_or_err t z
-          go (is_tree top s b q w k z) =
+          go (is_tree top s low b q w k z) =
               both (subst (λ (l : List ℕ). Halves N eps cutoff b.pairs l at₁ kids₁ kids₂ answer₂ at₂) er'
               (f b.pairs (half_asks r (λ v. omega (arith, ap (count v) er', members_count (on_zero P.part) v 0 leaves)) b.pairs c₁ kids₁
               (omega (arith, e₁, k, asks.array, left_many hl))
@@ -173,9 +173,9 @@ module _ (N : Network) (eps : Float) (cutoff : ℕ) (a : List Pair) (n made : �
                   → Halves N eps cutoff a leaves at kids₀ kids₃ answer₃ at₂
               both (is_off v tv g y) (is_right d s₂ e) =
                   is_off v tv (e ∙ sym s₂ ∙ g) (right_refused N eps cutoff leaves a at h P.part next P.is P.going P.some P.few hx q v y)
-              both (is_off v tv g y) (is_node top₂ s₂ e₃ e₅) = ok_or_err s₂ g
-              both (is_tree top₂ g d y wy ky zy) (is_right v s₂ e) = ok_or_err g s₂
-              both (is_tree top₃ g d y wy ky zy) (is_node top₂ s₂ e₃ e₅) =
+              both (is_off v tv g y) (is_node top₂ s₂ l₂ e₃ e₅) = ok_or_err s₂ g
+              both (is_tree top₂ g l₂ d y wy ky zy) (is_right v s₂ e) = ok_or_err g s₂
+              both (is_tree top₃ g l₃ d y wy ky zy) (is_node top₂ s₂ l₂ e₃ e₅) =
                   let (tx, px, nx) = z P.some in
                   let (ty, py, ny) = zy (omega (arith, P.few, halves_length P.part leaves)) in
                   let mx : top₁ ≡ number tx = same_top t s ∙ nx in
@@ -186,7 +186,7 @@ module _ (N : Network) (eps : Float) (cutoff : ℕ) (a : List Pair) (n made : �
                   wy ∙ ap (λ (l : List ℕ). over l (flat_of d.pairs)) w ∙ over-over kids₀ (flat_of b.pairs) (flat_of d.pairs) (flat_more b.pairs d.pairs (omega (arith, ky))) in
                   let built : join_all N d.pairs (b.tops ++ d.tops) ≡ record { pairs = plus d.pairs tx ty; tops = joined N d.pairs tx ty ∷ [] } =
                   ap₂ (λ (l m : List Tree). join_all N d.pairs (l ++ m)) px py in
-                  is_tree (n + c₂) e₃ (record { pairs = plus d.pairs tx ty; tops = joined N d.pairs tx ty ∷ [] })
+                  is_tree (n + c₂) e₃ fit (record { pairs = plus d.pairs tx ty; tops = joined N d.pairs tx ty ∷ [] })
                   (both_done N eps cutoff leaves a at h P.part next P.is P.going P.some P.few hx q
                   (record { built = d; words = at₂ }) y
                   ∙ ap (λ (o : Built). Ok (record { built = o; words = at₂ })) built)

@@ -133,7 +133,7 @@ module _ (N : Network) (i cutoff : ℕ) (draws tree ws : List ℕ) where
                 plan = quiet_list call r (λ b. flat_of b.pairs) tree c;
                 workspace = refused_words bisection_words ws ws' ew call r (sym (ap touches z) ∙ t) c;
               }
-          go (is_plan top f a g w l) = ok_or_err f e
+          go (is_plan top f u a g w l) = ok_or_err f e
 
       pub answer_done : (top : ℕ) → answer ≡ Ok top → (places : ℕ) → places ≡ tree_places N → places ≤ length kids₀ → (tree' : List ℕ)
           → tree' ≡ copied tree kids places → (taken : ℕ) → taken ≡ length draws - length next.left
@@ -142,7 +142,7 @@ module _ (N : Network) (i cutoff : ℕ) (draws tree ws : List ℕ) where
         where
           go : Whole N i cutoff draws kids₀ kids answer next → Answers N i cutoff draws tree tree' ws ws' (Ok taken)
           go (is_refused s t f g) = ok_or_err e f
-          go (is_plan top f a g w l) =
+          go (is_plan top f u a g w l) =
               let c : call ≡ Ok (record { pairs = a; taken = length draws - length next.left }) = bisection_runs N i cutoff draws (length ws) (length tree) h q ∙ g in
               record {
                 answer = ap (λ (k : ℕ). Ok k) ek ∙ sym (ap taken_of c);

@@ -1,5 +1,5 @@
 -- Bisection of all leaves of a network, from bisection of a list of leaves. Assumes nothing.
-use Rattle.std.specs.Prelude.{true, ◌≡◌, ℕ, ◌+◌, ◌-◌, ◌≤◌, Float, length, take, drop, Result, Err, Ok}
+use Rattle.std.specs.Prelude.{true, ◌≡◌, ℕ, ◌+◌, ◌-◌, ◌≤◌, ◌<◌, Float, length, take, drop, Result, Err, Ok}
 use Rattle.std.proofs.Math.Path.{sym, ap, subst}
 use Rattle.std.proofs.Common.{◌∙◌, ap₂, arith, length-take-le}
 use mathlib.Core.List.{List, []}
@@ -29,7 +29,7 @@ use Rattle.bisect.specs.Cases.{halved, Halves, is_off, is_tree}
 -- what bisection of all leaves answers: a refusal, after which the stated words are cleared, or the children of the array stand at the front of `kids`
 pub data Whole (N : Network) (i cutoff : ℕ) (words kids₀ kids : List ℕ) (answer : Result ℕ Refusal) (next : Words) : Type 0 where
   is_refused : (r : Refusal) → touches r ≡ true → answer ≡ Err r → bisection N i cutoff words ≡ Err r → Whole N i cutoff words kids₀ kids answer next
-  is_plan : (top : ℕ) → answer ≡ Ok top → (a : List Pair) → bisection N i cutoff words ≡ Ok (record { pairs = a; taken = length words - length next.left })
+  is_plan : (top : ℕ) → answer ≡ Ok top → top < 65536 → (a : List Pair) → bisection N i cutoff words ≡ Ok (record { pairs = a; taken = length words - length next.left })
       → kids ≡ over kids₀ (flat_of a) → length a ≡ leaf_count N - 1 → Whole N i cutoff words kids₀ kids answer next
 
 -- the children are copied out
@@ -99,8 +99,8 @@ module _ (m n o : ℕ) (weights counts cells outputs : List ℕ) (hm : m ≤ len
       where
         go : Halves N (imbalance i) cutoff [] leaves (lent_words words) kids₀ kids answer next → Whole N i cutoff words kids₀ kids answer next
         go (is_off r t e q) = is_refused r t e (from_all i cutoff words ∙ ap (λ (x : Result Halved Refusal). and_then x (λ h. Ok (bisected_from words h))) q)
-        go (is_tree top e b q w k t) =
-            is_plan top e b.pairs
+        go (is_tree top e l b q w k t) =
+            is_plan top e l b.pairs
             (from_all i cutoff words ∙ ap (λ (x : Result Halved Refusal). and_then x (λ h. Ok (bisected_from words h))) q)
             w (omega (arith, k, leaves_many, layout_leaf_count m n o weights counts cells outputs))
 

@@ -6,7 +6,7 @@ use std::marker::Model;
 
 /// Lent words that stand for a random generator, and how many draws were due so far: one more than there are words, once one was due past the end. Clauses see
 /// the words that are left, and whether a draw was due when none was.
-// Stays: lent words, and how many draws were due, one past their end at most; one type for this and for another list with a number could name neither.
+// Stays: lent words, and how many draws were due; one type for this and for another list with a number could name neither.
 #[derive(Drop)]
 pub struct Draws<'a> {
     words: &'a [u64],

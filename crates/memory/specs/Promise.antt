@@ -1,5 +1,5 @@
 -- What pricing a network in memory promises: the number, the answer, and each lent list. Assumes nothing.
-use Rattle.std.specs.Prelude.{◌≡◌, refl, Bool, true, false, cond, List, ℕ, ◌≤◌, ◌<◌, length, None, Some, Result, Err, Ok}
+use Rattle.std.specs.Prelude.{◌≡◌, refl, Bool, true, false, cond, List, ℕ, ◌≤◌, ◌<◌, length, Option, None, Some, Result, Err, Ok}
 use Rattle.std.proofs.Common.{sym, ap, ◌∙◌, subst}
 use Rattle.spec.specs.declared.Refusal.{Refusal}
 use Rattle.spec.specs.declared.Refusal.TheVariants.{ShortBuffer, TooLarge}
@@ -16,6 +16,7 @@ use Rattle.network.specs.Codes.{large_of, refused_large, large_layout}
 use Rattle.pricing.specs.Promise.{ListingSound}
 use Rattle.cost.specs.Answers.{told, room, priced_sets, TreeCost}
 use Rattle.memory.specs.Call.{as_priced, as_refused, as_short, untouched}
+use Rattle.memory.specs.Numbers.{or_short}
 
 -- every list follows the call c, and the listing that is handed out is sound
 pub record Follows (N : Network) (flags kids : List ℕ) (c : Result Prices Refusal) (ws₀ sets₀ sizes₀ works₀ steps₀ answer₀ ws sets sizes works steps answer : List ℕ) (r : ℕ) : Type 0 where
@@ -63,9 +64,15 @@ module _ (N : Network) (flags kids ws₀ sets₀ sizes₀ works₀ steps₀ answ
   pub told_network : (k : Refusal) → refusal_of N ≡ Some k → Err k ≡ told own
   told_network k e = sym (ap told (as_refused (length answer₀) N (length ws₀) _ flags kids k e))
 
-  pub cost_short : refusal_of N ≡ None → length answer₀ < 4
-      → MemoryCost N flags kids ws₀ sets₀ sizes₀ works₀ steps₀ answer₀ ws₀ sets₀ sizes₀ works₀ steps₀ answer₀ (number_of ShortBuffer)
-  cost_short e h = stays ShortBuffer (as_short (length answer₀) N (length ws₀) _ flags kids e h) refl refl
+  short_cases : (o : Option Refusal) {r : ℕ} → refusal_of N ≡ o → length answer₀ < 4 → r ≡ or_short o
+      → MemoryCost N flags kids ws₀ sets₀ sizes₀ works₀ steps₀ answer₀ ws₀ sets₀ sizes₀ works₀ steps₀ answer₀ r
+  short_cases None e h q = stays ShortBuffer (as_short (length answer₀) N (length ws₀) _ flags kids e h) refl q
+  short_cases (Some k) e h q = rw q (cost_network k e)
+
+  -- no room for the answer: the network's own refusal, or 7 where it has none
+  pub cost_short : {r : ℕ} → length answer₀ < 4 → r ≡ or_short (refusal_of N)
+      → MemoryCost N flags kids ws₀ sets₀ sizes₀ works₀ steps₀ answer₀ ws₀ sets₀ sizes₀ works₀ steps₀ answer₀ r
+  cost_short = short_cases (refusal_of N) refl
 
   pub told_short : refusal_of N ≡ None → length answer₀ < 4 → Err ShortBuffer ≡ told own
   told_short e h = sym (ap told (as_short (length answer₀) N (length ws₀) _ flags kids e h))

@@ -9,7 +9,7 @@ use Rattle.spec.specs.Lists.{range, from, keep, sum_of}
 use Rattle.spec.specs.Layout.{firsts}
 use Rattle.spec.specs.Memory.{filled, over, copied}
 use Rattle.laws.specs.ListLaws.{sum_append, range_length, keep_length, sum_bound}
-use Rattle.laws.specs.LayoutLaws.{map_range_at, map_range_length, firsts_length, firsts_at}
+use Rattle.laws.specs.LayoutLaws.{map_range_at, map_range_length, firsts_length, firsts_at, firsts_none, firsts_more}
 use Rattle.cells.specs.Cells.{filled_length, filled_all, copied_at, copied_past, copied_next, copied_all}
 use Rattle.bits.specs.Digits.{or_digits, and_digits, diff_digits, bit_diff}
 use Rattle.spec.specs.Members.{All}
@@ -100,6 +100,26 @@ leg_next effective leaf k sum x b h f =
       ap (sum_of (open_weight effective [])) (ap (λ (n : ℕ). take n leaf) (add-one k) ∙ take-suc leaf k 0 b),
       sum_append (open_weight effective []) (take k leaf) (get_or leaf k 0 ∷ []),
     )
+
+-- the same of a leaf's legs in a list of many leaves', from place `base` on, also past its end
+pub leg_next_front : (effective legs : List ℕ) (base k sum i x : ℕ) → sum ≡ sum_of (open_weight effective []) (firsts k (drop base legs))
+    → i ≡ get_or legs (base + k) 0 → x ≡ get_or effective i 0 → sum + x ≡ sum_of (open_weight effective []) (firsts (k + 1) (drop base legs))
+leg_next_front effective legs base k sum i x h e f =
+    let z : x ≡ open_weight effective [] (get_or (drop base legs) k 0) = f ∙ ap (λ (y : ℕ). get_or effective y 0) (e ∙ sym (get_or-drop base legs k 0)) in
+    omega (
+      arith,
+      h,
+      z,
+      ap (sum_of (open_weight effective [])) (firsts_more k (drop base legs)),
+      sum_append (open_weight effective []) (firsts k (drop base legs)) (get_or (drop base legs) k 0 ∷ []),
+    )
+
+pub leg_none : (effective legs : List ℕ) (base : ℕ) → 0 ≡ sum_of (open_weight effective []) (firsts 0 (drop base legs))
+leg_none effective legs base = sym (ap (sum_of (open_weight effective [])) (firsts_none (drop base legs)))
+
+pub leg_most : (effective legs : List ℕ) (base k sum : ℕ) → Light effective → sum ≡ sum_of (open_weight effective []) (firsts k (drop base legs)) → sum ≤ k * 8
+leg_most effective legs base k sum l h =
+    omega (arith, h, sum_bound (open_weight effective []) 8 (firsts k (drop base legs)) (open_light effective [] l), firsts_length k (drop base legs))
 
 -- ---- consecutive places ----
 

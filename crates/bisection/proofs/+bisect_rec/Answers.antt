@@ -64,4 +64,4 @@ returns-in_ok-first-in-Some t c =
     let k = c.in-Some.ensures.cut_by N (names_of s) in
     let n₀ : left ≡ 0 → ⊥ = λ q. omega (arith, q, lb.0) in
     rec_joined N a.eps a.cutoff b (length n.leg_counts.now) a.count n.weights.now n.leg_counts.now n.legs.now n.outputs.now a.leaves.now a.draws.now a.kids.now s cl left cut.new.draws k n₀ _ _ _ (c.bisect_rec.ensures N b (left_asks N a.eps a.cutoff b (length n.leg_counts.now) a.count n.weights.now n.leg_counts.now n.legs.now n.outputs.now a.leaves.now a.draws.now a.kids.now s cl left cut.new.draws k n₀)) (omega (arith, c.if-all-most.false, c.small-most.ensures))
-    h top t₁ _ (rest_part cl y left _ h c.bisect_rec.auto.leaves refl) _ _ refl refl _ _ _ _ _ (λ x q. c.bisect_rec-second.ensures N x q) c.join_halves.ensures
+    h top t₁ _ (rest_part cl y left _ h c.bisect_rec.auto.leaves refl) _ _ refl refl (omega (arith, (in_facts n n.holds).few_leaves, c.requires.1)) _ _ _ _ _ (λ x q. c.bisect_rec-second.ensures N x q) c.join_halves.ensures

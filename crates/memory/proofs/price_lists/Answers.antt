@@ -1,8 +1,9 @@
 use borrow.Author.Rules.{rules}
-use Rattle.std.proofs.Common.{◌≡◌, ◌∙◌, refl, subst, Err, Ok, None}
+use Rattle.std.proofs.Common.{◌≡◌, ◌∙◌, refl, sym, ap, subst, Err, Ok, None}
 use Rattle.spec.specs.Network.{refusal_of}
 use Rattle.cost.specs.Answers.{TreeCost}
 use Rattle.memory.specs.Lists.{net_lent}
+use Rattle.memory.specs.Numbers.{or_short}
 use Rattle.memory.specs.Promise.{told_network, told_short, told_priced, cost_network, cost_short, cost_refused, cost_done}
 use Rattle.memory.proofs.price_lists.Goals as goal
 
@@ -32,7 +33,7 @@ returns-then-answer-lt4-clause-cost c =
     let a = c.args in
     let N = net_lent a.lists.now in
     let passed : refusal_of N ≡ None = subst (λ M. refusal_of M ≡ None) c.in_ok-network.ensures.ok c.in_ok-network.network.holds.passed in
-    cost_short N a.flags.now a.kids.now a.ws.now a.list.now.sets.now a.list.now.sizes.now a.list.now.works.now a.steps.now a.answer.now passed c.if-answer-lt4.true
+    cost_short N a.flags.now a.kids.now a.ws.now a.list.now.sets.now a.list.now.sizes.now a.list.now.works.now a.steps.now a.answer.now c.if-answer-lt4.true (sym (ap or_short passed))
 
 pub returns-in_err-prices-clause-answer : goal.returns-in_err-prices-clause-answer
 returns-in_err-prices-clause-answer c =

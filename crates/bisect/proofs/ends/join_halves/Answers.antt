@@ -1,4 +1,4 @@
-use Rattle.std.proofs.Common.{rules, ◌≡◌, refl}
+use Rattle.std.proofs.Common.{rules, ◌≡◌, refl, arith}
 use Rattle.std.specs.Prelude.{Err}
 use Rattle.bisect.specs.Cases.{is_right, is_node}
 use Rattle.bisect.proofs.ends.join_halves.Goals as goal
@@ -10,4 +10,4 @@ returns-in_err-top c =
     is_right r (search rules) e
 
 pub returns : goal.returns
-returns c = is_node c.in_ok-top.top (search rules) refl c.put_node.ensures
+returns c = is_node c.in_ok-top.top (search rules) (omega arith) refl c.put_node.ensures
