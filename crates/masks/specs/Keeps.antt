@@ -1,7 +1,8 @@
 -- What each mask's table keeps, and how many bits that is, mask after mask. Assumes nothing.
-use Rattle.std.specs.Prelude.{◌&&◌, ◌||◌, List, [], ◌≡◌, eqb, length, get_or, set}
+use Rattle.std.specs.Prelude.{◌&&◌, ◌||◌, List, [], ◌≡◌, eqb, length, get_or, set, take}
 use Rattle.std.proofs.Math.Bool.{or_self}
-use Rattle.std.proofs.Common.{sym, ap, ◌∙◌, arith, eqb-true, length-set, get_or-set_same, get_or-set_other}
+use Rattle.std.proofs.Common.{sym, ap, ◌∙◌, subst, arith, eqb-true, length-set, length-take-le, get_or-set_same, get_or-set_other, get_or-take}
+use Rattle.std.proofs.Math.Seq.{take-set-lt}
 use Prim.Native.Nat.{ℕ, ◌+◌, ◌-◌, ◌*◌, ◌/◌, ◌%◌, ◌≤◌, ◌<◌}
 use Rattle.std.proofs.lemmas.Bool.{eqb-false}
 use Rattle.laws.specs.Booleans.{by_cases}
@@ -48,6 +49,31 @@ module _ (united : List (List ℕ)) (wt : List ℕ) (n : ℕ) where
             ∙ weighed_ext wt [] (in_either row row) (keeps_in united n s) 128 (λ j h. or_self (row_has row j) ∙ now j h)))
             (λ q. let f : t ≡ s → ⊥ = eqb-false t s q in get_or-set_other bits s t x 0 f ∙ k.sized t a (omega (arith, f)));
       }
+
+  -- ---- the same of longer lists, at whose fronts the masks have their places ----
+
+  pub keep_start_front : (kept : List (List ℕ)) (bits : List ℕ) → n ≤ length kept → n ≤ length bits → KeptBelow united wt (take n kept) (take n bits) n 1
+  keep_start_front kept bits h k = keep_start (take n kept) (take n bits) (length-take-le n kept h) (length-take-le n bits k)
+
+  pub keep_next_front : (kept : List (List ℕ)) (bits : List ℕ) (s x : ℕ) (outside row : List ℕ) → s < n → KeptBelow united wt (take n kept) (take n bits) n s
+      → ((j : ℕ) → j < 128 → row_has outside j ≡ (has_at united 0 j || has_at united (n - 1 - s) j))
+      → ((j : ℕ) → j < 128 → row_has row j ≡ (has_at united s j && row_has outside j))
+      → x ≡ weighed wt [] (in_either row row) 128
+      → KeptBelow united wt (take n (set kept s row)) (take n (set bits s x)) n (s + 1)
+  keep_next_front kept bits s x outside row less k o r e =
+      subst (λ (l : List (List ℕ)). KeptBelow united wt l (take n (set bits s x)) n (s + 1)) (sym (take-set-lt n kept s row less))
+      (subst (λ (l : List ℕ). KeptBelow united wt (set (take n kept) s row) l n (s + 1)) (sym (take-set-lt n bits s x less))
+      (keep_next (take n kept) (take n bits) s x outside row less k o r e))
+
+  pub kept_front : (kept : List (List ℕ)) (bits : List ℕ) (top : ℕ) → KeptBelow united wt (take n kept) (take n bits) n top
+      → (s j : ℕ) → 1 ≤ s → s < top → s < n → j < 128 → has_at kept s j ≡ keeps_in united n s j
+  kept_front kept bits top k s j a b less h = ap (λ r. row_has r j) (sym (get_or-take n kept s [] less)) ∙ k.kept s j a b h
+
+  pub sized_front : (kept : List (List ℕ)) (bits : List ℕ) (top : ℕ) → KeptBelow united wt (take n kept) (take n bits) n top
+      → (s : ℕ) → 1 ≤ s → s < top → s < n → get_or bits s 0 ≡ weighed wt [] (keeps_in united n s) 128
+  sized_front kept bits top k s a b less = sym (get_or-take n bits s 0 less) ∙ k.sized s a b
+
+  -- ---- the end ----
 
   -- the tables are then ready for the search
   pub keep_tables : (kept : List (List ℕ)) (bits : List ℕ) → n ≤ 4096 → 128 ≤ length wt → Light wt → KeptBelow united wt kept bits n n → Sized kept bits wt

@@ -25,8 +25,8 @@ keeps_in united n s j = has_at united s j && (has_at united 0 j || has_at united
 pub record United (was united : List (List ℕ)) (n top : ℕ) : Type 0 where
   pub long : length united ≡ length was
   pub done : (s j : ℕ) → 1 ≤ s → s < top → j < 128 → has_at united s j ≡ union_has was n s j
-  pub later : (s : ℕ) → top ≤ s → s < n → get_or united s [] ≡ get_or was s []
-  pub root : get_or united 0 [] ≡ get_or was 0 []
+  pub later : (s j : ℕ) → top ≤ s → s < n → j < 128 → has_at united s j ≡ has_at was s j
+  pub root : (j : ℕ) → j < 128 → root_has united j ≡ root_has was j
 
 -- for each mask below `top`, of n in all, what it keeps and how many bits that is
 pub record KeptBelow (united : List (List ℕ)) (wt : List ℕ) (rows : List (List ℕ)) (bits : List ℕ) (n top : ℕ) : Type 0 where

@@ -42,7 +42,7 @@ module _ (was : List (List ℕ)) (n s j : ℕ) (some : 1 ≤ s) (less : s < n) w
 
 pub unite_start : (rows : List (List ℕ)) (n : ℕ) → United rows rows n 1
 unite_start rows n =
-    record { long = refl; done = λ s j a b h. absurd (omega arith); later = λ s a b. refl; root = refl }
+    record { long = refl; done = λ s j a b h. absurd (omega arith); later = λ s j a b h. refl; root = λ j h. refl }
 
 module _ (was rows : List (List ℕ)) (n s : ℕ) (some : 1 ≤ s) (less : s < n) (u : United was rows n s) where
   -- a mask of one member is left as it is
@@ -53,9 +53,9 @@ module _ (was rows : List (List ℕ)) (n s : ℕ) (some : 1 ≤ s) (less : s < n
         done = λ t j a b h.
             by_cases (eqb t s)
             (λ q. let e : t ≡ s = eqb-true t s q in
-            rw e (ap (λ r. row_has r j) (u.later s (omega arith) less) ∙ single_has was n s j some less z))
+            rw e (u.later s j (omega arith) less h ∙ single_has was n s j some less z))
             (λ q. let f : t ≡ s → ⊥ = eqb-false t s q in u.done t j a (omega (arith, f)) h);
-        later = λ t a b. u.later t (omega arith) b;
+        later = λ t j a b h. u.later t j (omega arith) b h;
         root = u.root;
       }
 
@@ -77,6 +77,6 @@ module _ (was rows : List (List ℕ)) (n s : ℕ) (some : 1 ≤ s) (less : s < n
             ∙ joint_has was n s j some less))
             (λ q. let f : t ≡ s → ⊥ = eqb-false t s q in
             ap (λ r. row_has r j) (get_or-set_other rows s t row [] f) ∙ u.done t j a (omega (arith, f)) h);
-        later = λ t a b. get_or-set_other rows s t row [] (λ x. omega arith) ∙ u.later t (omega arith) b;
-        root = get_or-set_other rows s 0 row [] (λ x. omega arith) ∙ u.root;
+        later = λ t j a b h. ap (λ r. row_has r j) (get_or-set_other rows s t row [] (λ x. omega arith)) ∙ u.later t j (omega arith) b h;
+        root = λ j h. ap (λ r. row_has r j) (get_or-set_other rows s 0 row [] (λ x. omega arith)) ∙ u.root j h;
       }

@@ -18,7 +18,7 @@ use Rattle.subset.specs.Walk.{passed_over, tried_of, sum_below}
 
 -- ---- sums ----
 
-sum_ext : (f g : ℕ → ℕ) (n : ℕ) → ((s : ℕ) → s < n → f s ≡ g s) → sum_below f n ≡ sum_below g n
+pub sum_ext : (f g : ℕ → ℕ) (n : ℕ) → ((s : ℕ) → s < n → f s ≡ g s) → sum_below f n ≡ sum_below g n
 unfolding sum_below
 sum_ext f g zero h = refl
 sum_ext f g (suc n) h = omega (arith, sum_ext f g n (λ s b. h s (omega arith)), h n (omega arith))

@@ -127,7 +127,7 @@ module _ (B S B' S' : ℕ → ℕ) (work : ℕ → ℕ → ℕ) (n : ℕ) (limit
 -- ---- in lists of words ----
 
 module _ (cost part : List ℕ) (work : ℕ → ℕ → ℕ) (n : ℕ) (limit : Option ℕ) (s tried : ℕ) (e : Entry)
-    (long : length cost ≡ n) (long_part : length part ≡ n) (some : 1 ≤ s) (less : s < n)
+    (long : n ≤ length cost) (long_part : n ≤ length part) (some : 1 ≤ s) (less : s < n)
   where
     pub fill_next : e ≡ entry_of (best_at cost) work n limit s → Filled (best_at cost) (split_at part) work n limit s tried
         → Filled (best_at (set cost s e.cost)) (split_at (set part s e.part)) work n limit (s + 1) (tried + e.tried)

@@ -13,3 +13,4 @@ pub mod Ran
 pub mod Rooms
 pub mod Search
 pub mod Searched
+pub mod Limits

@@ -1,5 +1,5 @@
 -- What the steps of the search leave in the rows and lists of the masks. Assumes nothing.
-use Rattle.std.specs.Prelude.{Bool, List, [], ◌≡◌, ℕ, zero, suc, ◌+◌, ◌/◌, ◌%◌, ◌^◌, ◌≤◌, ◌<◌, eqb, length, get_or, take, Option}
+use Rattle.std.specs.Prelude.{Bool, List, [], ◌≡◌, ℕ, zero, suc, ◌+◌, ◌/◌, ◌%◌, ◌^◌, ◌≤◌, ◌<◌, eqb, length, take, Option}
 use Rattle.std.proofs.Common.{sym, ap, ◌∙◌, subst, arith, refl, get_or-take}
 use Rattle.std.proofs.Math.Pow.{pow-lt}
 use Rattle.spec.specs.Lists.{anyb}
@@ -10,24 +10,27 @@ use Rattle.masks.specs.Tables.{member_has, root_has, union_has, keeps_in, United
 use Rattle.masks.specs.Singles.{own_bits, same_places}
 use Rattle.subset.specs.Walk.{Filled, best_at, split_at}
 
--- of n masks: the unions of what `was` lists, and its root's row, what each mask keeps, and the filled lists
-pub record Ran (was united kept : List (List ℕ)) (b wt cost part : List ℕ) (n : ℕ) (limit : Option ℕ) (tried : ℕ) : Type 0 where
-  pub done : (s j : ℕ) → 1 ≤ s → s < n → j < 128 → has_at united s j ≡ union_has was n s j
-  pub root : get_or united 0 [] ≡ get_or was 0 []
-  pub keeps : KeptBelow united wt kept b n n
-  pub filled : Filled (best_at cost) (split_at part) (work_at kept wt) n limit n tried
-
--- of these, what the search's answer and count stand on: of each mask the members that its rows list, the root's too, whatever else the lists have
+-- of n masks, in lists of any length: of each the members that its rows list, the root's too, what it keeps, and the filled lists. The search's
+-- answer and count stand on these.
 pub record RanOn (was united kept : List (List ℕ)) (wt cost part : List ℕ) (n : ℕ) (limit : Option ℕ) (tried : ℕ) : Type 0 where
   pub done : (s j : ℕ) → 1 ≤ s → s < n → j < 128 → has_at united s j ≡ union_has was n s j
   pub root : (j : ℕ) → j < 128 → root_has united j ≡ root_has was j
   pub keeps : (s j : ℕ) → 1 ≤ s → s < n → j < 128 → has_at kept s j ≡ keeps_in united n s j
   pub filled : Filled (best_at cost) (split_at part) (work_at kept wt) n limit n tried
 
-pub ran_front : (was united kept : List (List ℕ)) (b wt cost part : List ℕ) (n : ℕ) (limit : Option ℕ) (tried : ℕ)
-    → Ran was united kept b wt cost part n limit tried → RanOn was united kept wt cost part n limit tried
-ran_front was united kept b wt cost part n limit tried ran =
-    record { done = ran.done; root = λ j h. ap (λ r. row_has r j) ran.root; keeps = ran.keeps.kept; filled = ran.filled }
+-- the same in lists of n places, where each mask's bits stand in one too
+pub record Ran (was united kept : List (List ℕ)) (b wt cost part : List ℕ) (n : ℕ) (limit : Option ℕ) (tried : ℕ) : Type 0 where
+  pub front : RanOn was united kept wt cost part n limit tried
+  pub keeps : KeptBelow united wt kept b n n
+
+-- from what each step says of its lists
+pub ran_of : (was united kept : List (List ℕ)) (b wt cost part : List ℕ) (n : ℕ) (limit : Option ℕ) (tried : ℕ)
+    → United was united n n
+    → KeptBelow united wt kept b n n
+    → Filled (best_at cost) (split_at part) (work_at kept wt) n limit n tried
+    → Ran was united kept b wt cost part n limit tried
+ran_of was united kept b wt cost part n limit tried u k filled =
+    record { front = record { done = u.done; root = u.root; keeps = k.kept; filled = filled }; keeps = k }
 
 -- ---- a list of rows that is cut after the masks ----
 
@@ -48,7 +51,7 @@ cut_unions was n m s j masks h =
     ap (λ r. row_has r j) (get_or-take n was (2 ^ p) [] (omega (arith, pow-lt {i = p} {j = m} (omega arith)))))
     ∙ sym (ap (anyb (λ p. member_has was p j)) e)
 
--- from what each step says of its lists, whose rows are cut from longer ones
+-- the same, where the rows are cut from longer ones
 pub ran_on : (was united kept : List (List ℕ)) (b wt held cost part : List ℕ) (n m : ℕ) (limit : Option ℕ) (tried : ℕ) → n ≡ 2 ^ m → length (take n was) ≡ n
     → held ≡ wt
     → United (take n was) united (length (take n was)) (length (take n was))
@@ -58,11 +61,19 @@ pub ran_on : (was united kept : List (List ℕ)) (b wt held cost part : List ℕ
 ran_on was united kept b wt held cost part n m limit tried masks e0 w u k filled =
     let e1 : length united ≡ n = u.long ∙ e0 in
     let e2 : length b ≡ n = k.long_bits ∙ e1 in
-    let v : United (take n was) united n n = subst (λ (x : ℕ). United (take n was) united x x) e0 u in
+    let ran : Ran (take n was) united kept b wt cost part n limit tried =
+    ran_of (take n was) united kept b wt cost part n limit tried
+    (subst (λ (x : ℕ). United (take n was) united x x) e0 u)
+    (subst (λ (x : ℕ). KeptBelow united wt kept b x x) e1 (subst (λ (x : List ℕ). KeptBelow united x kept b (length united) (length united)) w k))
+    (subst (λ (x : ℕ). Filled (best_at cost) (split_at part) (work_at kept wt) x limit x tried) e2
+    (subst (λ (x : List ℕ). Filled (best_at cost) (split_at part) (work_at kept x) (length b) limit (length b) tried) w filled)) in
     record {
-      done = λ s j a l h. v.done s j a l h ∙ cut_unions was n m s j masks l;
-      root = v.root ∙ get_or-take n was 0 [] (omega (arith, own_bits m));
-      keeps = subst (λ (x : ℕ). KeptBelow united wt kept b x x) e1 (subst (λ (x : List ℕ). KeptBelow united x kept b (length united) (length united)) w k);
-      filled = subst (λ (x : ℕ). Filled (best_at cost) (split_at part) (work_at kept wt) x limit x tried) e2
-          (subst (λ (x : List ℕ). Filled (best_at cost) (split_at part) (work_at kept x) (length b) limit (length b) tried) w filled);
+      front =
+          record {
+            done = λ s j a l h. ran.front.done s j a l h ∙ cut_unions was n m s j masks l;
+            root = λ j h. ran.front.root j h ∙ ap (λ r. row_has r j) (get_or-take n was 0 [] (omega (arith, own_bits m)));
+            keeps = ran.front.keeps;
+            filled = ran.front.filled;
+          };
+      keeps = ran.keeps;
     }

@@ -19,7 +19,7 @@ use Rattle.subset.specs.Stands.{Stands}
 use Rattle.subset.specs.Whole.{tables_stand}
 use Rattle.subset.specs.Counts.{all_tried}
 use Rattle.subset.specs.Sets.{full_places, not_full, keeps_is}
-use Rattle.subset.specs.Ran.{Ran, RanOn, ran_front}
+use Rattle.subset.specs.Ran.{Ran, RanOn}
 use Rattle.subset.specs.Search.{local_bits, found_at, searched_in, tried_in}
 
 -- ---- the answer ----
@@ -78,11 +78,8 @@ module _ (was united kept : List (List ℕ)) (wt cost part : List ℕ) (n m : �
 module _ (was united kept : List (List ℕ)) (b wt cost part : List ℕ) (n m : ℕ) (limit : Option ℕ) (tried : ℕ) (masks : n ≡ 2 ^ m) (some_members : 1 ≤ m) (few : n ≤ 4096)
     (ran : Ran was united kept b wt cost part n limit tried)
   where
-    front : RanOn was united kept wt cost part n limit tried
-    front = ran_front was united kept b wt cost part n limit tried ran
-
     pub search_found : (o : Option ℕ) → o ≡ finite (get_or cost (n - 1) 0) → found_at part (2 ^ m) o ≡ searched_in was wt limit m
-    search_found = search_found_front was united kept wt cost part n m limit tried masks some_members few front
+    search_found = search_found_front was united kept wt cost part n m limit tried masks some_members few ran.front
 
     pub search_tried : tried ≡ tried_in was wt limit m
-    search_tried = search_tried_front was united kept wt cost part n m limit tried masks some_members few front
+    search_tried = search_tried_front was united kept wt cost part n m limit tried masks some_members few ran.front

@@ -19,6 +19,6 @@ loop-s-preserved c = let a = c.args in let l = c.loop-s in let e = c.search_mask
   omega (arith, l.invariant.1, found_few (best_at l.cost) (work_at a.tables.now.kept.now a.tables.now.planes.weights.now) (length a.tables.now.bits.now) a.limit l.s e c.search_mask-e.ensures (omega (arith, c.len-s-end.ensures))),
   length-set l.cost l.s _ ∙ l.invariant.2,
   length-set l.part l.s _ ∙ l.invariant.3,
-  fill_next l.cost l.part (work_at a.tables.now.kept.now a.tables.now.planes.weights.now) (length a.tables.now.bits.now) a.limit l.s l.tried e l.invariant.2 l.invariant.3
+  fill_next l.cost l.part (work_at a.tables.now.kept.now a.tables.now.planes.weights.now) (length a.tables.now.bits.now) a.limit l.s l.tried e (omega (arith, l.invariant.2)) (omega (arith, l.invariant.3))
       (omega arith) (omega (arith, c.len-s-end.ensures)) c.search_mask-e.ensures l.invariant.4,
 )
