@@ -1,7 +1,6 @@
 -- Vertices, and nets, are entered again by the words of a slot: those of a word from its lowest digit up. Assumes nothing.
-use Rattle.std.specs.Prelude.{true, ◌≡◌, refl, List, [], ◌∷◌, ◌++◌, ℕ, suc, ◌+◌, ◌-◌, ◌*◌, ◌^◌, ◌≤◌, ◌<◌, ltb, Float, length, get_or, take}
+use Rattle.std.specs.Prelude.{true, ◌≡◌, refl, List, [], ◌∷◌, ◌++◌, ℕ, suc, ◌+◌, ◌*◌, ◌^◌, ◌≤◌, ◌<◌, ltb, length, get_or, take}
 use Rattle.std.proofs.Common.{sym, ap, ap₂, ◌∙◌, subst, append_assoc, arith, length-append, ltb-true}
-use Rattle.std.proofs.Math.Seq.{take-length}
 use Rattle.std.proofs.lemmas.Nat.{ones-le}
 use Rattle.spec.specs.Lists.{keep, from}
 use Rattle.spec.specs.Members.{All}
@@ -19,6 +18,7 @@ use Rattle.partition.specs.declared.place.Place.{Place}
 use Rattle.fm.specs.Again.{Stamped, again_in, Again, AllAgain}
 use Rattle.fm.specs.NetAgain.{NetAgain}
 use Rattle.fm.specs.NetsAgain.{NetsAgain, pins_in}
+use Rattle.fm.specs.Turns.{Turns, turns_next, both}
 
 -- ---- the members of a slot, by its words ----
 
@@ -47,53 +47,32 @@ word_members P ws W s k h =
 module _ (ws : List ℕ) (o : Place) (weights : List ℕ) (locked : ℕ) where
   -- ---- lists of vertices ----
 
-  whole : (vw : List Float) (moves l : List ℕ) (q : Queue) → fold_over (again_in ws o weights locked vw moves) (take (length l) l) q ≡ fold_over (again_in ws o weights locked vw moves) l q
-  whole vw moves l q = ap (λ (z : List ℕ). fold_over (again_in ws o weights locked vw moves) z q) (take-length l)
-
-  pub empty_again : (q : Queue) → AllAgain ws o weights locked [] 0 q q
-  empty_again q = record { queue = λ vw moves h. refl; stamps = λ k h u. omega (arith, h u) }
-
-  pub first_again : (u : ℕ) (m : List ℕ) (q g r : Queue) → Again ws o weights locked u q g → AllAgain ws o weights locked m (length m) g r → AllAgain ws o weights locked (u ∷ m) (length (u ∷ m)) q r
+  first_again : (u : ℕ) (m : List ℕ) (q g r : Queue) → Again ws o weights locked u q g → AllAgain ws o weights locked m (length m) g r → AllAgain ws o weights locked (u ∷ m) (length (u ∷ m)) q r
   first_again u m q g r e a =
       record {
         queue = λ vw moves h. a.queue vw moves h ∙ ap (fold_over (again_in ws o weights locked vw moves) (take (length m) m)) (e.queue vw moves h);
         stamps = λ k h w. omega (arith, a.stamps (suc k) (e.stamps k h) w);
       }
 
-  pub both_again : (l m : List ℕ) (q g r : Queue) → AllAgain ws o weights locked l (length l) q g → AllAgain ws o weights locked m (length m) g r → AllAgain ws o weights locked (l ++ m) (length (l ++ m)) q r
+  both_again : (l m : List ℕ) (q g r : Queue) → AllAgain ws o weights locked l (length l) q g → AllAgain ws o weights locked m (length m) g r → AllAgain ws o weights locked (l ++ m) (length (l ++ m)) q r
   both_again l m q g r a b =
       record {
         queue = λ vw moves h. let f = again_in ws o weights locked vw moves in
-            b.queue vw moves h ∙ whole vw moves m g ∙ ap (fold_over f m) (a.queue vw moves h ∙ whole vw moves l q)
-            ∙ sym (whole vw moves (l ++ m) q ∙ fold_append f l m q);
+            both (fold_over f) (fold_append f) l m q g r (a.queue vw moves h) (b.queue vw moves h);
         stamps = λ k h w. omega (arith, b.stamps (k + length l) (a.stamps k h) w, length-append l m);
       }
 
   -- of the vertices `l`, from the queue q₀ on, those of `rest` are still to be entered, from the queue q on
-  pub record Entering (l : List ℕ) (q₀ : Queue) (rest : List ℕ) (q : Queue) : Type 0 where
-    pub few : length rest ≤ 64
-    pub low : All (λ u. u < o.vertex_count) rest
-    pub stamps : Stamped (4294967040 + (64 - length rest)) q.stamps
-    pub leads : (r : Queue) → AllAgain ws o weights locked rest (length rest) q r → AllAgain ws o weights locked l (length l) q₀ r
+  abbrev pub Entering : List ℕ → Queue → List ℕ → Queue → Type 0
+  Entering l q₀ rest q =
+      Turns (λ l. AllAgain ws o weights locked l (length l)) (AllAgain ws o weights locked l (length l) q₀) o.vertex_count 4294967295 1 rest q
 
   pub entering_all : (l : List ℕ) (q : Queue) → length l ≤ 64 → All (λ u. u < o.vertex_count) l → Stamped 4294967040 q.stamps → Entering l q l q
-  entering_all l q b a s = record { few = b; low = a; stamps = λ u. omega (arith, s u); leads = λ r p. p }
+  entering_all l q b a s = record { low = a; stamp = 4294967040; stamps = s; fits = omega (arith, b); leads = λ r p. p }
 
-  module _ (l : List ℕ) (q₀ : Queue) (rest : List ℕ) (q : Queue) (h : Entering l q₀ rest q) where
-    pub entering_first : (u : ℕ) (m : List ℕ) → rest ≡ u ∷ m → (u < o.vertex_count) × Stamped 4294967295 q.stamps
-    entering_first u m e = ((subst (All (λ u. u < o.vertex_count)) e h.low).0, λ w. omega (arith, h.stamps w, h.few))
-
-    pub entering_next : (u : ℕ) (m : List ℕ) (g : Queue) → rest ≡ u ∷ m → Again ws o weights locked u q g → Entering l q₀ m g
-    entering_next u m g e a =
-        record {
-          few = omega (arith, h.few, ap length e);
-          low = (subst (All (λ u. u < o.vertex_count)) e h.low).1;
-          stamps = λ w. omega (arith, a.stamps (4294967040 + (64 - length rest)) h.stamps w, h.few, ap length e);
-          leads = λ r p. h.leads r (subst (λ (z : List ℕ). AllAgain ws o weights locked z (length z) q r) (sym e) (first_again u m q g r a p));
-        }
-
-    pub entering_end : rest ≡ [] → AllAgain ws o weights locked l (length l) q₀ q
-    entering_end e = h.leads q (subst (λ (z : List ℕ). AllAgain ws o weights locked z (length z) q q) (sym e) (empty_again q))
+  pub entering_next : (l : List ℕ) (q₀ : Queue) (rest : List ℕ) (q : Queue) (u : ℕ) (m : List ℕ) (g : Queue) → Entering l q₀ rest q → rest ≡ u ∷ m
+      → Again ws o weights locked u q g → Entering l q₀ m g
+  entering_next l q₀ rest q u m g h e a = turns_next h u m g e (λ k s w. omega (arith, a.stamps k s w)) (λ r. first_again u m q g r a)
 
   -- a net's pins are those of its two words
   pub two_words : (e x y : ℕ) (q g r : Queue) → x ≡ get_or ws ((o.nets + e) * 2) 0 → y ≡ get_or ws ((o.nets + e) * 2 + 1) 0
@@ -106,14 +85,7 @@ module _ (ws : List ℕ) (o : Place) (weights : List ℕ) (locked : ℕ) where
 
   -- ---- lists of nets ----
 
-  whole_nets : (vw : List Float) (moves l : List ℕ) (q : Queue)
-      → fold_over (again_in ws o weights locked vw moves) (pins_in ws o weights locked (take (length l) l)) q ≡ fold_over (again_in ws o weights locked vw moves) (pins_in ws o weights locked l) q
-  whole_nets vw moves l q = ap (λ (z : List ℕ). fold_over (again_in ws o weights locked vw moves) (pins_in ws o weights locked z) q) (take-length l)
-
-  pub empty_nets : (q : Queue) → NetsAgain ws o weights locked [] 0 q q
-  empty_nets q = record { queue = λ vw moves h. refl; stamps = λ k h u. omega (arith, h u) }
-
-  pub first_net : (e : ℕ) (m : List ℕ) (q g r : Queue) → NetAgain ws o weights locked e q g → NetsAgain ws o weights locked m (length m) g r → NetsAgain ws o weights locked (e ∷ m) (length (e ∷ m)) q r
+  first_net : (e : ℕ) (m : List ℕ) (q g r : Queue) → NetAgain ws o weights locked e q g → NetsAgain ws o weights locked m (length m) g r → NetsAgain ws o weights locked (e ∷ m) (length (e ∷ m)) q r
   first_net e m q g r a b =
       record {
         queue = λ vw moves h. let f = again_in ws o weights locked vw moves in
@@ -128,40 +100,15 @@ module _ (ws : List ℕ) (o : Place) (weights : List ℕ) (locked : ℕ) where
       ap (λ (k : List ℕ). rising_of ws 2 (o.nets + x) ++ k) (pins_both l m)
       ∙ sym (append_assoc (rising_of ws 2 (o.nets + x)) (pins_in ws o weights locked l) (pins_in ws o weights locked m))
 
-  pub both_nets : (l m : List ℕ) (q g r : Queue) → NetsAgain ws o weights locked l (length l) q g → NetsAgain ws o weights locked m (length m) g r → NetsAgain ws o weights locked (l ++ m) (length (l ++ m)) q r
+  both_nets : (l m : List ℕ) (q g r : Queue) → NetsAgain ws o weights locked l (length l) q g → NetsAgain ws o weights locked m (length m) g r → NetsAgain ws o weights locked (l ++ m) (length (l ++ m)) q r
   both_nets l m q g r a b =
       record {
         queue = λ vw moves h. let f = again_in ws o weights locked vw moves in
-            b.queue vw moves h ∙ whole_nets vw moves m g ∙ ap (fold_over f (pins_in ws o weights locked m)) (a.queue vw moves h ∙ whole_nets vw moves l q)
-            ∙ sym (whole_nets vw moves (l ++ m) q ∙ ap (λ (z : List ℕ). fold_over f z q) (pins_both l m) ∙ fold_append f (pins_in ws o weights locked l) (pins_in ws o weights locked m) q);
+            both (λ (z : List ℕ). fold_over f (pins_in ws o weights locked z))
+            (λ l m q. ap (λ (z : List ℕ). fold_over f z q) (pins_both l m) ∙ fold_append f (pins_in ws o weights locked l) (pins_in ws o weights locked m) q)
+            l m q g r (a.queue vw moves h) (b.queue vw moves h);
         stamps = λ k h w. omega (arith, b.stamps (k + length l * 128) (a.stamps k h) w, length-append l m);
       }
-
-  -- of the nets `l`, from the queue q₀ on, those of `rest` are still to be entered, from the queue q on
-  pub record EnteringNets (l : List ℕ) (q₀ : Queue) (rest : List ℕ) (q : Queue) : Type 0 where
-    pub few : length rest ≤ 64
-    pub low : All (λ e. e < o.net_count) rest
-    pub stamps : Stamped (1610612736 + (64 - length rest) * 128) q.stamps
-    pub leads : (r : Queue) → NetsAgain ws o weights locked rest (length rest) q r → NetsAgain ws o weights locked l (length l) q₀ r
-
-  pub nets_all : (l : List ℕ) (q : Queue) → length l ≤ 64 → All (λ e. e < o.net_count) l → Stamped 1610612736 q.stamps → EnteringNets l q l q
-  nets_all l q b a s = record { few = b; low = a; stamps = λ u. omega (arith, s u); leads = λ r p. p }
-
-  module _ (l : List ℕ) (q₀ : Queue) (rest : List ℕ) (q : Queue) (h : EnteringNets l q₀ rest q) where
-    pub nets_first : (e : ℕ) (m : List ℕ) → rest ≡ e ∷ m → (e < o.net_count) × Stamped 2147483648 q.stamps
-    nets_first e m i = ((subst (All (λ e. e < o.net_count)) i h.low).0, λ w. omega (arith, h.stamps w, h.few))
-
-    pub nets_next : (e : ℕ) (m : List ℕ) (g : Queue) → rest ≡ e ∷ m → NetAgain ws o weights locked e q g → EnteringNets l q₀ m g
-    nets_next e m g i a =
-        record {
-          few = omega (arith, h.few, ap length i);
-          low = (subst (All (λ e. e < o.net_count)) i h.low).1;
-          stamps = λ w. omega (arith, a.stamps (1610612736 + (64 - length rest) * 128) h.stamps w, h.few, ap length i);
-          leads = λ r p. h.leads r (subst (λ (z : List ℕ). NetsAgain ws o weights locked z (length z) q r) (sym i) (first_net e m q g r a p));
-        }
-
-    pub nets_end : rest ≡ [] → NetsAgain ws o weights locked l (length l) q₀ q
-    nets_end i = h.leads q (subst (λ (z : List ℕ). NetsAgain ws o weights locked z (length z) q q) (sym i) (empty_nets q))
 
   -- the nets of a slot's words before word k have been entered
   abbrev pub Before : ℕ → ℕ → Queue → Queue → Type 0
@@ -176,6 +123,25 @@ module _ (ws : List ℕ) (o : Place) (weights : List ℕ) (locked : ℕ) where
   pub before_all : (s k : ℕ) (q r : Queue) → k ≡ 4 → Before s k q r → NetsAgain ws o weights locked (rising_of ws 4 s) (length (rising_of ws 4 s)) q r
   unfolding rising_of
   before_all s k q r e a = subst (λ (i : ℕ). Before s i q r) e a
+
+  -- of word k's nets, those of `rest` are still to be entered, from the queue q on
+  abbrev pub EnteringNets : ℕ → ℕ → Queue → List ℕ → Queue → Type 0
+  EnteringNets s k q₀ rest q = Turns (λ l. NetsAgain ws o weights locked l (length l)) (Before s (k + 1) q₀) o.net_count 2147483648 128 rest q
+
+  pub nets_all : (s k x : ℕ) (q₀ q : Queue) → k < 4 → x < 2 ^ 64 → x ≡ get_or ws (s * 4 + k) 0 → All (λ e. e < o.net_count) (places (k * 64) 64 x)
+      → Stamped 1073741824 q₀.stamps → Before s k q₀ q → EnteringNets s k q₀ (places (k * 64) 64 x) q
+  nets_all s k x q₀ q b d e a h p =
+      record {
+        low = a;
+        stamp = 1073741824 + length (below_of ws 4 s (k * 64)) * 128;
+        stamps = p.stamps 1073741824 h;
+        fits = omega (arith, below_few ws s k, places_few (k * 64) x d, b);
+        leads = λ r t. before_next s k x q₀ q r e p t;
+      }
+
+  pub nets_next : (s k : ℕ) (q₀ : Queue) (rest : List ℕ) (q : Queue) (e : ℕ) (m : List ℕ) (g : Queue) → EnteringNets s k q₀ rest q → rest ≡ e ∷ m
+      → NetAgain ws o weights locked e q g → EnteringNets s k q₀ m g
+  nets_next s k q₀ rest q e m g h i a = turns_next h e m g i a.stamps (λ r. first_net e m q g r a)
 
   -- ---- what lies in the words ----
 

@@ -67,26 +67,8 @@ fn enter_net(graph: &Hypergraph, entries: &mut [Entry], draws: &mut Draws, locke
     enter_word(graph, entries, draws, locked, 64, high);
 }
 
-/// Enters the pins of the nets `base` + i for each set digit i of `nets` again, net by net, each unless it is in the slot `locked`.
-// Stays: each turn writes the same entries; `for_each` with a closure that holds them is no plainer.
-fn enter_nets(
-    graph: &Hypergraph,
-    entries: &mut [Entry],
-    draws: &mut Draws,
-    locked: usize,
-    base: usize,
-    nets: u64,
-)
-    requires { (locked < 32768) × (base ≤ 192) × All (λ e. e < graph.now.place.net_count) (places base 64 nets) × Stamped 1610612736 (stamps_of entries.old) }
-    ensures { NetsAgain graph.now.words.now graph.now.place graph.now.weights.now locked (places base 64 nets) (length (places base 64 nets)) (queue_in entries.old draws.old) (queue_in entries.new draws.new) }
-{
-    for e in Digits::above(base, nets) {
-        enter_net(graph, entries, draws, locked, e);
-    }
-}
-
 /// After vertex `v` has moved: enters each pin of each of its nets again, unless it is in the slot `locked`.
-// Stays: a vertex's nets are the members of a slot of four words, read by number.
+// Stays: a vertex's nets are the members of a slot of four words, read by number; each turn writes the same entries.
 pub fn enter_neighbours(
     graph: &Hypergraph,
     entries: &mut [Entry],
@@ -100,6 +82,8 @@ pub fn enter_neighbours(
     let at = (graph.place.vertices + v) * 4;
     for k in 0..4 {
         let nets = cells::get_or(graph.words, at + k, 0);
-        enter_nets(graph, entries, draws, locked, k * 64, nets);
+        for e in Digits::above(k * 64, nets) {
+            enter_net(graph, entries, draws, locked, e);
+        }
     }
 }

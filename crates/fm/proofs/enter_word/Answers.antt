@@ -1,7 +1,9 @@
-use Rattle.std.proofs.Common.{◌≡◌, ◌∙◌, sym, subst, arith}
+use Rattle.std.proofs.Common.{◌≡◌, ◌∙◌, sym, subst, arith, []}
 use Rattle.bits.specs.Lowest.{places}
 use Rattle.queue.specs.Queues.{queue_in}
-use Rattle.fm.specs.Words.{places_few, Entering, entering_all, entering_first, entering_next, entering_end}
+use Rattle.fm.specs.Turns.{turns_first, turns_end}
+use Rattle.fm.specs.Again.{none_again}
+use Rattle.fm.specs.Words.{places_few, Entering, entering_all, entering_next}
 use Rattle.fm.proofs.enter_word.Goals as goal
 
 pub loop-u-init : goal.loop-u-init
@@ -19,22 +21,17 @@ loop-u-init c =
 
 pub enter_again-requires : goal.enter_again-requires
 enter_again-requires c =
-    let d = c.args in
-    let g = d.graph.now in
-    let l = c.loop-u in
-    let f = entering_first g.words.now g.place g.weights.now d.locked (places d.base 64 d.pins) _ _ _ l.invariant.1 _ _ c.in-Some.ensures.steps in
+    let f = turns_first c.loop-u.invariant.1 _ _ c.in-Some.ensures.steps in
     (f.0, c.requires.0, f.1)
 
 pub loop-u-preserved : goal.loop-u-preserved
 loop-u-preserved c =
     let d = c.args in
     let g = d.graph.now in
-    let l = c.loop-u in
-    (tt, entering_next g.words.now g.place g.weights.now d.locked (places d.base 64 d.pins) _ _ _ l.invariant.1 _ _ _ c.in-Some.ensures.steps c.enter_again.ensures)
+    (tt, entering_next g.words.now g.place g.weights.now d.locked (places d.base 64 d.pins) _ _ _ _ _ _ c.loop-u.invariant.1 c.in-Some.ensures.steps c.enter_again.ensures)
 
 pub returns : goal.returns
 returns c =
     let d = c.args in
     let g = d.graph.now in
-    let l = c.loop-u in
-    entering_end g.words.now g.place g.weights.now d.locked (places d.base 64 d.pins) _ _ _ l.invariant.1 c.in-None.ensures.steps.0
+    turns_end c.loop-u.invariant.1 c.in-None.ensures.steps.0 (none_again g.words.now g.place g.weights.now d.locked [] _)

@@ -1,7 +1,8 @@
 use borrow.Author.Rules.{rules}
-use Rattle.std.proofs.Common.{◌≡◌, refl, Err}
+use Rattle.std.proofs.Common.{◌≡◌, refl, Err, le-ltb}
 use Rattle.memory.specs.Lists.{net_lent}
-use Rattle.host.specs.Bisection.{too_uneven, large_network, short_answer, bisect_refused, bisect_done}
+use Rattle.host.specs.Own.{large_network, short_answer}
+use Rattle.host.specs.Bisection.{guarded, too_uneven, bisect_refused, bisect_done}
 use Rattle.host.proofs.calls.bisect.Goals as goal
 
 pub returns-then-imbalance-gt1000 : goal.returns-then-imbalance-gt1000
@@ -14,14 +15,14 @@ returns-in_err-check_limits c =
     let a = c.args in
     let (z, large) = c.in_err-check_limits.ensures.err in
     let e : c.from_residual.result ≡ Err c.in_err-check_limits.field-0.0 = search rules in
-    rw (e, z) (large_network (net_lent a.lists.now) a.imbalance a.cutoff a.draws.now a.tree.now a.ws.now a.answer.now c.if-imbalance-gt1000.false large)
+    rw (e, z) (large_network (guarded (net_lent a.lists.now) a.imbalance a.cutoff a.draws.now a.tree.now a.ws.now a.answer.now) (le-ltb 1000 a.imbalance c.if-imbalance-gt1000.false) large)
 
 pub returns-in_err-check_room : goal.returns-in_err-check_room
 returns-in_err-check_room c =
     let a = c.args in
     let (few, z) = c.in_err-check_room.ensures.err in
     let e : c.from_residual-in_err-check_room.result ≡ Err c.in_err-check_room.field-0.0 = search rules in
-    rw e (short_answer (net_lent a.lists.now) a.imbalance a.cutoff a.draws.now a.tree.now a.ws.now a.answer.now c.if-imbalance-gt1000.false c.record_of-network.ensures few z)
+    rw e (short_answer (guarded (net_lent a.lists.now) a.imbalance a.cutoff a.draws.now a.tree.now a.ws.now a.answer.now) (le-ltb 1000 a.imbalance c.if-imbalance-gt1000.false) c.record_of-network.ensures few z)
 
 pub returns-in_err-taken : goal.returns-in_err-taken
 returns-in_err-taken c =

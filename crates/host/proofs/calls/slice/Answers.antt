@@ -1,7 +1,8 @@
 use borrow.Author.Rules.{rules}
 use Rattle.std.proofs.Common.{◌≡◌, refl, Err}
 use Rattle.memory.specs.Lists.{net_lent}
-use Rattle.host.specs.Slice.{large_network, short_answer, slice_refused, slice_done}
+use Rattle.host.specs.Own.{large_network, short_answer}
+use Rattle.host.specs.Slice.{guarded, slice_refused, slice_done}
 use Rattle.host.proofs.calls.slice.Goals as goal
 
 pub returns-in_err-check_limits : goal.returns-in_err-check_limits
@@ -9,14 +10,14 @@ returns-in_err-check_limits c =
     let a = c.args in
     let (z, large) = c.in_err-check_limits.ensures.err in
     let e : c.from_residual.result ≡ Err c.in_err-check_limits.field-0.0 = search rules in
-    rw (e, z) (large_network (net_lent a.lists.now) a.improving a.target a.tree.now a.flags.now a.ws.now a.answer.now large)
+    rw (e, z) (large_network (guarded (net_lent a.lists.now) a.improving a.target a.tree.now a.flags.now a.ws.now a.answer.now) refl large)
 
 pub returns-in_err-check_room : goal.returns-in_err-check_room
 returns-in_err-check_room c =
     let a = c.args in
     let (few, z) = c.in_err-check_room.ensures.err in
     let e : c.from_residual-in_err-check_room.result ≡ Err c.in_err-check_room.field-0.0 = search rules in
-    rw e (short_answer (net_lent a.lists.now) a.improving a.target a.tree.now a.flags.now a.ws.now a.answer.now c.record_of-network.ensures few z)
+    rw e (short_answer (guarded (net_lent a.lists.now) a.improving a.target a.tree.now a.flags.now a.ws.now a.answer.now) refl c.record_of-network.ensures few z)
 
 pub returns-in_err-made : goal.returns-in_err-made
 returns-in_err-made c =
