@@ -16,7 +16,7 @@ use Rattle.cells.specs.Cells.{over_length, over_at, over_past, filled_length, fi
 use Rattle.nodesets.specs.Passes.{nodes}
 use Rattle.nodesets.specs.Order.{Ready}
 use Rattle.nodesets.specs.Steps.{Steps}
-use Rattle.nodesets.specs.Turns.{slot_in, step_inner, step_left, step_right}
+use Rattle.nodesets.specs.Turns.{left_slot, right_slot, node_slot, step_inner, step_left, step_right}
 use Rattle.nodesets.specs.Places.{take_cases}
 use Rattle.nodebits.specs.Bits.{StepKnown, InnerKnown, size_of, work_of, leaf_size, node_work}
 
@@ -97,20 +97,18 @@ module _ {W n : ℕ} {kids order sets effective : List ℕ} (p : InnerKnown W n 
   pub step_at : StepAt W n kids sets effective v l r
   step_at =
       let i = step_inner p.steps k v h e in
-      let a = step_left p.steps k v h e l el in
-      let b = step_right p.steps k v h e r er in
       record {
         low = i.0;
         high = i.1;
-        left_high = a;
-        right_high = b;
+        left_high = step_left p.steps k v h e l el;
+        right_high = step_right p.steps k v h e r er;
         known = record {
           narrow = p.narrow;
           fits = p.fits;
           light = p.light;
-          left_in = slot_in l (nodes n kids) W (length sets) a p.room;
-          right_in = slot_in r (nodes n kids) W (length sets) b p.room;
-          node_in = slot_in v (nodes n kids) W (length sets) i.1 p.room;
+          left_in = left_slot p.steps k v h e W el p.room;
+          right_in = right_slot p.steps k v h e W er p.room;
+          node_in = node_slot p.steps k v h e W p.room;
         };
         nested = λ j b m. rw (el, er) (p.nested v j (rw e (memb_at order k h)) b m);
       }

@@ -1,5 +1,6 @@
 -- What the passes over slots do, and that each node's slot then holds the node's list. Assumes nothing.
 pub mod Passes
+pub mod FlatTree
 pub mod Places
 pub mod Mixes
 pub mod Sets

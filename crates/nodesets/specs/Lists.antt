@@ -8,7 +8,7 @@ use Rattle.slots.specs.Slots.{held, with_set, Words, with_set_length, with_set_o
 use Rattle.slots.specs.Writes.{among, leaf_has}
 use Rattle.spec.specs.Lists.{memb}
 use Rattle.spec.specs.Network.{Network, leaf_count, legs, InRange}
-use Rattle.spec.specs.Tree.{Pair, pairs_of, step_order, valid, root}
+use Rattle.spec.specs.Tree.{pairs_of, step_order, valid, root}
 use Rattle.spec.specs.Layout.{network_of}
 use Rattle.spec.specs.Price.{list_at}
 use Rattle.laws.specs.Walks.{valid_tree}
@@ -16,6 +16,7 @@ use Rattle.laws.specs.Arrays.{Inner, valid_inner}
 use Rattle.laws.specs.FlatLaws.{pairs_length, left_of, right_of}
 use Rattle.network.specs.Layouts.{layout_leaf_count}
 use Rattle.nodesets.specs.Passes.{nodes, with_sets, ups, downs, cuts}
+use Rattle.nodesets.specs.FlatTree.{flat_tree}
 use Rattle.nodesets.specs.Sets.{with_sets_length, with_sets_past, held-with_sets, with_sets_is}
 use Rattle.nodesets.specs.Steps.{Steps, valid_steps, at_inner}
 use Rattle.nodesets.specs.Turns.{ups_length, cuts_length}
@@ -91,14 +92,7 @@ module _ (N : Network) (W o : ℕ) (counts rows outputs kids order sets₀ outsi
     (output_is : (j : ℕ) → among outputs 0 o j ≡ memb j N.outputs)
     (q : Sound W (leaf_count N) kids order sets₀ outside₀ sets)
     (p : Passed W (leaf_count N) o counts rows outputs kids order sets₀ outside₀ sets) where
-  abbrev n : ℕ
-  n = leaf_count N
-
-  abbrev m : ℕ
-  m = nodes (leaf_count N) kids
-
-  abbrev a : List Pair
-  a = pairs_of kids
+  open flat_tree (leaf_count N) kids use {n, m, a}
 
   steps : Steps n kids order
   steps = ordered_steps q.ordered

@@ -4,22 +4,16 @@ use Rattle.std.specs.Prelude.{◌≡◌, refl, true, List, [], ◌∷◌, ◌++�
 use Rattle.std.proofs.Common.{sym, ◌∙◌, ap, append_assoc, append-nil, inl, inr, arith, eqb-true}
 use Rattle.std.proofs.lemmas.Option.{same_Some}
 use Rattle.spec.specs.Lists.{memb}
-use Rattle.spec.specs.Tree.{Tree, leaf, node, number, numbers, inner, Pair, Describes, pairs_of}
+use Rattle.spec.specs.Tree.{Tree, leaf, node, number, numbers, inner, Pair, Describes}
 use Rattle.laws.specs.Booleans.{or_introl, or_intror, or_cases, clash}
 use Rattle.laws.specs.ListLaws.{memb-append, memb_head, three_cases, three_left, three_right, three_last}
 use Rattle.laws.specs.Arrays.{number_in}
-use Rattle.laws.specs.FlatLaws.{pair_at, left_of, right_of}
+use Rattle.laws.specs.FlatLaws.{pair_at}
 use Rattle.laws.specs.MemberLaws.{got_within}
+use Rattle.nodesets.specs.FlatTree.{flat_tree}
 
 module _ (n : ℕ) (kids : List ℕ) where
-  abbrev L : ℕ → ℕ
-  L = left_of kids n
-
-  abbrev R : ℕ → ℕ
-  R = right_of kids n
-
-  abbrev a : List Pair
-  a = pairs_of kids
+  open flat_tree n kids use {a, L, R}
 
   pair_is : (v : ℕ) (l r : Tree) → Describes n a (node v l r) → ◌≡◌ {A = Pair} (record { left = L v; right = R v }) (record { left = number l; right = number r })
   pair_is v l r d = same_Some _ _ (sym (pair_at kids (v - n) (got_within a (v - n) _ d.1)) ∙ d.1)

@@ -10,13 +10,13 @@ use Rattle.cells.specs.Loop.{turns}
 use Rattle.slots.specs.Slots.{held, with_set, with_set_length, held_with, held_with_other}
 use Rattle.spec.specs.Lists.{memb}
 use Rattle.spec.specs.Network.{Network, leaf_count, legs, InRange}
-use Rattle.spec.specs.Tree.{number, Pair, pairs_of}
+use Rattle.spec.specs.Tree.{number, pairs_of}
 use Rattle.spec.specs.Price.{list_at}
 use Rattle.laws.specs.Booleans.{or_cases, clash, eqb_self}
 use Rattle.laws.specs.Arrays.{Inner}
 use Rattle.laws.specs.ListLaws.{memb_at}
-use Rattle.laws.specs.FlatLaws.{left_of, right_of}
 use Rattle.nodesets.specs.Passes.{nodes, joined, widened, cut, ups, down, downs, cuts}
+use Rattle.nodesets.specs.FlatTree.{flat_tree}
 use Rattle.nodesets.specs.Order.{left_is, right_is, Ready, Known, children_of}
 use Rattle.nodesets.specs.Steps.{Steps, at_inner, at_children}
 use Rattle.nodesets.specs.Places.{memb-take, take_cases}
@@ -47,20 +47,7 @@ same_cond false x y = refl
 
 module _ (N : Network) (kids order : List ℕ) (steps : Steps (leaf_count N) kids order)
     (inners : (v : ℕ) → leaf_count N ≤ v → v < nodes (leaf_count N) kids → Inner (leaf_count N) (pairs_of kids) v) (W : ℕ) where
-  abbrev n : ℕ
-  n = leaf_count N
-
-  abbrev m : ℕ
-  m = nodes (leaf_count N) kids
-
-  abbrev a : List Pair
-  a = pairs_of kids
-
-  abbrev L : ℕ → ℕ
-  L = left_of kids (leaf_count N)
-
-  abbrev R : ℕ → ℕ
-  R = right_of kids (leaf_count N)
+  open flat_tree (leaf_count N) kids use {n, m, a, L, R}
 
   abbrev top : ℕ
   top = m - 1

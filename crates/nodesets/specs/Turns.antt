@@ -23,6 +23,16 @@ module _ {n : ℕ} {kids order : List ℕ} (s : Steps n kids order) (k v : ℕ) 
   pub step_right : (r : ℕ) → r ≡ right_of kids n v → r < nodes n kids
   step_right r g = rw (g, e) (at_children s k h).1
 
+  -- the slots of the node and of its children
+  pub node_slot : (W : ℕ) {len : ℕ} → nodes n kids * W ≤ len → v * W + W ≤ len
+  node_slot W q = slot_in v (nodes n kids) W _ step_inner.1 q
+
+  pub left_slot : (W : ℕ) {l len : ℕ} → l ≡ left_of kids n v → nodes n kids * W ≤ len → l * W + W ≤ len
+  left_slot W {l} g q = slot_in l (nodes n kids) W _ (step_left l g) q
+
+  pub right_slot : (W : ℕ) {r len : ℕ} → r ≡ right_of kids n v → nodes n kids * W ≤ len → r * W + W ≤ len
+  right_slot W {r} g q = slot_in r (nodes n kids) W _ (step_right r g) q
+
 module _ (W : ℕ) (L R : ℕ → ℕ) (order : List ℕ) where
   pub ups_none : (ws : List ℕ) → ws ≡ ups W L R order ws 0
   unfolding ups

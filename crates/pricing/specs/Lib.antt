@@ -10,3 +10,4 @@ pub mod Handed
 pub mod Final
 pub mod Lists
 pub mod Accept
+pub mod Fronts

@@ -5,16 +5,17 @@ use Rattle.std.proofs.Math.Decide.{dec_le}
 use Rattle.spec.specs.Lists.{memb, count, range, sum_of}
 use Rattle.spec.specs.Network.{Network, leaf_count, index_count, legs}
 use Rattle.spec.specs.NetworkClaims.{Accepted}
-use Rattle.spec.specs.Tree.{number, node, Pair, pairs_of}
+use Rattle.spec.specs.Tree.{number, node, pairs_of}
 use Rattle.spec.specs.Price.{kept, list_at, union, bits, children_at, step_at, size_at, work_at}
 use Rattle.spec.specs.Calls.{flag_at}
 use Rattle.laws.specs.Booleans.{by_cases, or_cases, or_introl, or_intror, and_left, and_right, and_both}
 use Rattle.laws.specs.ListLaws.{memb-keep, memb-keep-range, kept_below}
 use Rattle.laws.specs.Arrays.{Inner}
-use Rattle.laws.specs.FlatLaws.{pairs_length, pair_left, pair_right, left_of, right_of}
+use Rattle.laws.specs.FlatLaws.{pairs_length, pair_left, pair_right}
 use Rattle.slots.specs.Slots.{held}
 use Rattle.slots.specs.Weigh.{open_weight, either}
 use Rattle.nodesets.specs.Passes.{nodes}
+use Rattle.nodesets.specs.FlatTree.{flat_tree}
 use Rattle.nodesets.specs.Order.{left_is, right_is}
 use Rattle.nodesets.specs.Steps.{Steps}
 use Rattle.nodesets.specs.Flow.{under, wanted, leaf_tree, under_node, wanted_left, wanted_right, listed_node, listed_leaf}
@@ -31,20 +32,7 @@ module _ (N : Network) (kids order sets : List ℕ) (W : ℕ) (steps : Steps (le
     (inners : (v : ℕ) → leaf_count N ≤ v → v < nodes (leaf_count N) kids → Inner (leaf_count N) (pairs_of kids) v)
     (acc : Accepted N) (fits : index_count N ≤ W * 64)
     (holds : (v j : ℕ) → v < nodes (leaf_count N) kids → j < W * 64 → held sets W v j ≡ memb j (list_at N (pairs_of kids) v)) where
-  abbrev n : ℕ
-  n = leaf_count N
-
-  abbrev m : ℕ
-  m = nodes (leaf_count N) kids
-
-  abbrev a : List Pair
-  a = pairs_of kids
-
-  abbrev L : ℕ → ℕ
-  L = left_of kids (leaf_count N)
-
-  abbrev R : ℕ → ℕ
-  R = right_of kids (leaf_count N)
+  open flat_tree (leaf_count N) kids use {n, m, a, L, R}
 
   -- ---- a node's list ----
 

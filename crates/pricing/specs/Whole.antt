@@ -12,7 +12,7 @@ use Rattle.spec.specs.Memory.{over}
 use Rattle.spec.specs.Layout.{firsts}
 use Rattle.spec.specs.Network.{Network, leaf_count, index_count, legs}
 use Rattle.spec.specs.NetworkClaims.{Accepted}
-use Rattle.spec.specs.Tree.{Pair, pairs_of, step_order}
+use Rattle.spec.specs.Tree.{pairs_of, step_order}
 use Rattle.spec.specs.Price.{Step, list_at, bits, children_at, step_at, listing, flat_steps, size_at, work_at, work, largest, widest}
 use Rattle.spec.specs.Calls.{flag_at}
 use Rattle.laws.specs.Booleans.{or_intror}
@@ -24,6 +24,7 @@ use Rattle.laws.specs.FlatLaws.{pairs_length, pair_left, pair_right, left_of, ri
 use Rattle.slots.specs.Slots.{held}
 use Rattle.slots.specs.Weigh.{open_weight, either}
 use Rattle.nodesets.specs.Passes.{nodes}
+use Rattle.nodesets.specs.FlatTree.{flat_tree}
 use Rattle.nodesets.specs.Steps.{Steps}
 use Rattle.nodesets.specs.Flow.{leaf_tree}
 use Rattle.nodesets.specs.Lists.{Ordered, ordered_steps, ordered_inners}
@@ -106,14 +107,10 @@ module _ {N : Network} {x : ℕ} {kids order flags : List ℕ} (r : InOrder N x 
     (sizes₀ works₀ sizes works : List ℕ) (fits_sizes : nodes x kids ≤ length sizes₀) (fits_works : nodes x kids ≤ length works₀)
     (es : sizes ≡ over sizes₀ (map (size_at N (flag_at flags) (pairs_of kids)) (range (nodes x kids))))
     (ew : works ≡ over works₀ (map (work_at N (flag_at flags) (pairs_of kids)) (range (nodes x kids)))) where
-  abbrev a : List Pair
-  a = pairs_of kids
+  open flat_tree x kids use {m, a}
 
   abbrev flag : ℕ → Bool
   flag = flag_at flags
-
-  abbrev m : ℕ
-  m = nodes x kids
 
   abbrev c : ℕ
   c = length order

@@ -3,9 +3,7 @@
 ghost use Rattle.std.specs.Prelude.{◌≡◌, not, cond, ◌∷◌, [], eqb, ◌+◌, ◌*◌, ◌<◌, ◌≤◌, length};
 ghost use Rattle.std.proofs.lemmas.List.Edits.{sets};
 ghost use Rattle.spec.specs.Lists.{range, sum_of};
-ghost use Rattle.spec.specs.Layout.{firsts, network_of};
-ghost use Rattle.spec.specs.Tree.{pairs_of};
-ghost use Rattle.spec.specs.Calls.{flag_at};
+ghost use Rattle.spec.specs.Layout.{firsts};
 ghost use Rattle.spec.specs.Memory.{over};
 ghost use Rattle.spec.specs.Price.{up_to};
 ghost use Rattle.slots.specs.Weigh.{Light};
@@ -15,16 +13,15 @@ ghost use Rattle.nodesets.specs.Steps.{Steps};
 ghost use Rattle.pricing.specs.Answers.{widest_in};
 ghost use Rattle.pricing.specs.Sums.{work_sum, slice_share};
 ghost use Rattle.pricing.specs.Lines.{lines};
-ghost use Rattle.pricing.specs.Lists.{IsSameLoan};
-ghost use Rattle.pricing.specs.Promise.{FitsIn, Priceable, Room, Pricing};
 
 pub mod list; // list.rt: the price list
 
 use list::PriceList;
-use spec::{Prices, Total};
+use spec::Total;
+use walk::Tree;
 
 /// The total of the `c` inner nodes from number `n` on: the sum of 2 to their work bits, or beyond from 2^53 on.
-// Stays: it stops at the first step of 53 work bits or more: past it neither power nor sum would fit. `n` is a node's number, no length.
+// Stays: it stops where a step has 53 work bits or more, or the sum reaches 2^53: from there on it is beyond, and power and sum fit. `n` is a node's number, no length.
 pub fn total_of(works: &[u16], n: usize, c: usize) -> Total
     requires { n + c ≤ length works.now }
     ensures { result ≡ up_to (work_sum works.now n c) }
@@ -59,7 +56,7 @@ fn share(flag: u8, weight: u8) -> u8
 }
 
 /// The summed weights of the flagged indices, of `m` in all. Flags past the end of their list are clear.
-// Stays: weights are the network's and flags the caller's, lent apart; the first `m` places of a list that may be longer are in use.
+// Stays: weights are the network's and flags the caller's, lent apart; its clause is of the first `m` places of a list that may be longer.
 pub fn slice_bits(m: usize, weights: &[u8], flags: &[u8]) -> u16
     requires { (m ≤ length weights.now) × (m ≤ 1024) × Light (firsts m weights.now) }
     ensures { result ≡ sum_of (slice_share weights.now flags.now) (range m) }
@@ -86,10 +83,11 @@ fn put_step(steps: &mut [u16], at: usize, v: u16, l: u16, r: u16, work: u16, siz
 
 // The listing: node, left, right, work bits and size bits of each step in order.
 // Stays: by index, as a zip with a list that is written tells the proof only its length; the listing is flat, as the C interface lends it.
-fn list_steps(steps: &mut [u16], n: usize, kids: &[u16], order: &[u16], list: &PriceList)
-    requires { Steps n kids.now order.now × (length order.now * 5 ≤ length steps.old) × (nodes n kids.now ≤ length list.now.works.now) × (nodes n kids.now ≤ length list.now.sizes.now) }
-    ensures { steps.new ≡ over steps.old (lines (left_of kids.now n) (right_of kids.now n) list.now.works.now list.now.sizes.now order.now) }
+fn list_steps(steps: &mut [u16], tree: &Tree, order: &[u16], list: &PriceList)
+    requires { Steps tree.now.leaves tree.now.kids.now order.now × (length order.now * 5 ≤ length steps.old) × (nodes tree.now.leaves tree.now.kids.now ≤ length list.now.works.now) × (nodes tree.now.leaves tree.now.kids.now ≤ length list.now.sizes.now) }
+    ensures { steps.new ≡ over steps.old (lines (left_of tree.now.kids.now tree.now.leaves) (right_of tree.now.kids.now tree.now.leaves) list.now.works.now list.now.sizes.now order.now) }
 {
+    let (n, kids) = (tree.leaves, tree.kids);
     for k in 0..order.len() {
         let node = order[k];
         let v = usize::from(node);
@@ -103,43 +101,5 @@ fn list_steps(steps: &mut [u16], n: usize, kids: &[u16], order: &[u16], list: &P
             list.works[v],
             list.sizes[v],
         );
-    }
-}
-
-/// Prices a tree of an accepted network, in lists of which the first places are in use, `m` weights, `n` leaves and `o` outputs: fills the price
-/// list in step order, each node's set of `w` words; hands the listing out, five numbers a step: node, left, right, work bits, size bits; answers
-/// total, widest and slice bits. A set has at most `M` places for indices, `w * 64 ≤ M`, and 1,024 are always enough; `outside` is worked in.
-// Stays: asks no more of its callers than lists that fit.
-pub fn price<const M: usize>(
-    list: &mut PriceList,
-    outside: &mut [u64],
-    steps: &mut [u16],
-    w: usize,
-    m: usize,
-    n: usize,
-    o: usize,
-    weights: &[u8],
-    counts: &[u8],
-    legs: &[u16],
-    outputs: &[u16],
-    flags: &[u8],
-    kids: &[u16],
-    order: &[u16],
-) -> Prices
-    requires width { FitsIn M w }
-    requires priceable { Priceable w m n o weights.now counts.now legs.now outputs.now kids.now order.now }
-    requires room { Room w n kids.now order.now (length outside.old) (length list.old.sets.now) (length list.old.sizes.now) (length list.old.works.now) (length steps.old) }
-    ensures lent { IsSameLoan list.old list.new }
-    ensures pricing { Pricing w (network_of m n o weights.now counts.now legs.now outputs.now) (flag_at flags.now) (pairs_of kids.now) list.old.sets.now list.old.sizes.now list.old.works.now steps.old list.new.sets.now list.new.sizes.now list.new.works.now steps.new result }
-{
-    list.fill::<M>(
-        outside, w, m, n, o, weights, counts, legs, outputs, flags, kids, order,
-    );
-    let c = order.len();
-    list_steps(steps, n, kids, order, list);
-    Prices {
-        total: list.total(n, c),
-        widest: list.widest(n + c),
-        slice_bits: slice_bits(m, weights, flags),
     }
 }

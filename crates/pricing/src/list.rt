@@ -1,6 +1,6 @@
 // The price list: an entry for each node, in lists that are lent together.
 ghost use Rattle.std.specs.Prelude.{◌≡◌, ◌+◌, ◌*◌, ◌≤◌, length};
-ghost use Rattle.spec.specs.Layout.{firsts, network_of};
+ghost use Rattle.spec.specs.Layout.{firsts};
 ghost use Rattle.spec.specs.Tree.{pairs_of};
 ghost use Rattle.spec.specs.Network.{index_count};
 ghost use Rattle.spec.specs.Calls.{flag_at, node_places, step_places};
@@ -8,8 +8,7 @@ ghost use Rattle.spec.specs.Price.{up_to};
 ghost use Rattle.network.specs.Views.{net_in};
 ghost use Rattle.pricing.specs.Answers.{widest_in};
 ghost use Rattle.pricing.specs.Sums.{work_sum};
-ghost use Rattle.nodesets.specs.Passes.{nodes};
-ghost use Rattle.pricing.specs.Promise.{FitsIn, HasLeavesOf, IsOrderOf, Priceable, Filled, Pricing};
+ghost use Rattle.pricing.specs.Promise.{FitsIn, HasLeavesOf, IsOrderOf, Filled, Pricing};
 ghost use Rattle.pricing.specs.Lists.{IsSameLoan, HasRoom};
 
 use network::Accepted;
@@ -30,7 +29,7 @@ pub struct PriceList<'a> {
 
 impl<'a> PriceList<'a> {
     /// Prices the nodes of a network's tree in step order: each node's set of `w` words, its size bits and its work bits with the given flags.
-    /// A set has at most `M` places for indices, `w * 64 ≤ M`; `outside` is worked in.
+    /// A set has at most `M` places for indices, `w * 64 ≤ M`, and 1,024 are always enough; `outside` is worked in.
     // Stays: workspace, flags and tree are lent apart by the C interface; the order is in a list of the caller's.
     pub fn price<const M: usize>(
         &mut self,
@@ -54,8 +53,14 @@ impl<'a> PriceList<'a> {
         let (legs, outputs) = (network.legs, network.outputs);
         let (m, n, o) = (weights.len(), counts.len(), outputs.len());
         let kids = tree.kids;
-        self.fill::<M>(
-            outside, w, m, n, o, weights, counts, legs, outputs, flags, kids, order,
+        let mut effective = [0u8; M];
+        let sets = &mut *self.sets;
+        let sizes = &mut *self.sizes;
+        let works = &mut *self.works;
+        nodebits::effective_weights(&mut effective, m, weights, flags);
+        nodesets::node_sets(sets, outside, w, n, o, counts, legs, outputs, kids, order);
+        nodebits::node_bits(
+            sizes, works, sets, w, n, counts, legs, kids, order, &effective,
         );
     }
 
@@ -81,48 +86,15 @@ impl<'a> PriceList<'a> {
         ensures lent { IsSameLoan self.old self.new }
         ensures pricing { Pricing w (net_in network.now) (flag_at flags.now) (pairs_of tree.now.kids.now) self.old.sets.now self.old.sizes.now self.old.works.now steps.old self.new.sets.now self.new.sizes.now self.new.works.now steps.new result }
     {
-        let (weights, counts) = (network.weights, network.leg_counts);
-        let (legs, outputs) = (network.legs, network.outputs);
-        let (m, n, o) = (weights.len(), counts.len(), outputs.len());
-        let kids = tree.kids;
-        crate::price::<M>(
-            self, outside, steps, w, m, n, o, weights, counts, legs, outputs, flags, kids, order,
-        )
-    }
-
-    /// Prices the nodes of a tree of a network in lists of which the first places are in use, `m` weights, `n` leaves and `o` outputs.
-    // Stays: asks no more of its callers than lists that fit.
-    pub fn fill<const M: usize>(
-        &mut self,
-        outside: &mut [u64],
-        w: usize,
-        m: usize,
-        n: usize,
-        o: usize,
-        weights: &[u8],
-        counts: &[u8],
-        legs: &[u16],
-        outputs: &[u16],
-        flags: &[u8],
-        kids: &[u16],
-        order: &[u16],
-    )
-        requires width { FitsIn M w }
-        requires priceable { Priceable w m n o weights.now counts.now legs.now outputs.now kids.now order.now }
-        requires outside { nodes n kids.now * w ≤ length outside.old }
-        requires room { HasRoom w (nodes n kids.now) self.old }
-        ensures lent { IsSameLoan self.old self.new }
-        ensures filled { Filled w (network_of m n o weights.now counts.now legs.now outputs.now) (flag_at flags.now) (pairs_of kids.now) self.old.sets.now self.old.sizes.now self.old.works.now self.new.sets.now self.new.sizes.now self.new.works.now }
-    {
-        let mut effective = [0u8; M];
-        let sets = &mut *self.sets;
-        let sizes = &mut *self.sizes;
-        let works = &mut *self.works;
-        nodebits::effective_weights(&mut effective, m, weights, flags);
-        nodesets::node_sets(sets, outside, w, n, o, counts, legs, outputs, kids, order);
-        nodebits::node_bits(
-            sizes, works, sets, w, n, counts, legs, kids, order, &effective,
-        );
+        self.price::<M>(outside, w, network, flags, tree, order);
+        let weights = network.weights;
+        let (n, c) = (network.leg_counts.len(), order.len());
+        crate::list_steps(steps, tree, order, self);
+        Prices {
+            total: self.total(n, c),
+            widest: self.widest(n + c),
+            slice_bits: crate::slice_bits(weights.len(), weights, flags),
+        }
     }
 
     /// The total of the `c` inner nodes from number `n` on.

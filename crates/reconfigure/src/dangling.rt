@@ -39,7 +39,7 @@ fn tally_leaves<'a>(tally: &mut [u8], n: usize, counts: &'a [u8], legs: &'a [u16
 }
 
 // Strikes the counts of the indices of a row.
-// Stays: it goes over a row that is there whole; `clear_outputs` of slicing reads a list that may be too short, and a place past its end as 0.
+// Stays: it has a name, as its promise is the tally's `struck`; `sliceable_weights` of slicing goes over outputs as well, and promises each place of a list that it fills.
 fn strike(tally: &mut [u8], row: &[u16])
     ensures { tally.new ≡ struck tally.old row.now }
 {
@@ -57,7 +57,7 @@ fn any_one(tally: &[u8]) -> bool
 }
 
 /// Does just one of `n` leaves name one of the `m` indices that is none of the `o` outputs.
-// Stays: asks no more of its callers than lists that fit, which need not be an accepted network's; `is_dangling` is for one.
+// Stays: asks no more of its callers than lists that fit and leaves that name no index twice, which need not be an accepted network's; `is_dangling` is for one.
 pub fn dangling<'a>(
     m: usize,
     n: usize,

@@ -69,7 +69,7 @@ fn is_total_beyond(list: &PriceList, n: usize) -> bool
 }
 
 // The answer where the tree is valid and the flags are right.
-// Stays: no heap: the three lists of a price list are local arrays here, filled once and lent on.
+// Stays: no heap: the three lists of a price list are local arrays here, and lent on.
 fn improve_valid(
     task: &Task,
     most: usize,

@@ -15,7 +15,7 @@ use reconf::{Search, Task, Visited};
 use walk::Tree;
 
 // One pass at k = 8 with the limit that the widest table or the target sets.
-// Stays: no heap: the three lists of a price list are local arrays here, filled once and lent on.
+// Stays: no heap: the three lists of a price list are local arrays here, and lent on.
 fn improve_once(
     network: &Accepted,
     kids: &mut [u16],
@@ -71,7 +71,7 @@ fn turn(
         leaves: network.leaf_count(),
     };
     let c = tree.post_order(words, &mut order);
-    if !slicing::turn_of(words, flags, network, &tree, &order[..c], target) {
+    if !slicing::turn(words, flags, network, &tree, &order[..c], target) {
         return None;
     }
     Some(improve_once(network, kids, flags, target, words))

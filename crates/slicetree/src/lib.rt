@@ -92,7 +92,7 @@ fn slice_with(
         leaves: network.leaf_count(),
     };
     let c = tree.post_order(words, &mut order);
-    slicing::slice_of(words, flags, network, &tree, &order[..c], target);
+    slicing::slice(words, flags, network, &tree, &order[..c], target);
     Visited {
         rebuilt: 0,
         tried: 0,

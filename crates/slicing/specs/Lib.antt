@@ -10,3 +10,4 @@ pub mod Weights
 pub mod Whole
 pub mod Turns
 pub mod Priced
+pub mod Fronts

@@ -30,7 +30,7 @@ use Rattle.slicing.specs.Turns.{exact_total}
 
 -- an accepted network, its tree and the tree's step order: what a turn asks is there
 module _ (a : Accepted) (tree : Tree) (order : List ℕ) (leaves : tree.leaves ≡ leaf_count (net_in a)) (in_order : order ≡ step_order tree.kids.now tree.leaves) where
-  fits : index_count (net_in a) ≤ 4 * 64
+  pub fits : index_count (net_in a) ≤ 4 * 64
   fits = omega (arith, in_indices a, (in_facts a a.holds).few_indices)
 
   pub turn_priceable :
@@ -42,6 +42,9 @@ module _ (a : Accepted) (tree : Tree) (order : List ℕ) (leaves : tree.leaves �
 
   few : nodes (length a.leg_counts.now) tree.kids.now ≤ 255
   few = omega (arith, places turn_priceable, in_leaves a, (in_facts a a.holds).few_leaves)
+
+  pub turn_nodes : node_places (net_in a) ≤ 255
+  turn_nodes = omega (arith, places turn_priceable, few)
 
   pub turn_room : (outside : ℕ) → node_places (net_in a) * 4 ≤ outside
       → Room 4 (length a.leg_counts.now) tree.kids.now order outside 1024 256 256 640

@@ -10,6 +10,9 @@ use Rattle.spec.specs.Calls.{flag_at}
 use Rattle.spec.specs.Slicing.{Plan, rank_of, touching, touched_size, candidate, candidates}
 use Rattle.laws.specs.Booleans.{by_cases, and_left, and_right, clash}
 use Rattle.laws.specs.FlatLaws.{left_of, right_of}
+use Rattle.walk.specs.declared.valid.Tree.{Tree}
+use Rattle.network.specs.declared.accepted.Accepted.{Accepted}
+use Rattle.pricing.specs.declared.list.PriceList.{PriceList}
 use Rattle.slots.specs.Slots.{held}
 use Rattle.slots.specs.Weigh.{Light}
 use Rattle.nodesets.specs.Passes.{nodes}
@@ -53,6 +56,15 @@ Chosen W m n o weights outputs flags kids order sets sizes works target r =
     (counts rows : List ℕ) (rebuilt tried : ℕ)
     → PricedTree W (network_of m n o weights counts rows outputs) n (flag_at flags) kids order sets sizes works
     → r ≡ best_in (network_of m n o weights counts rows outputs) target (plan_with flags kids rebuilt tried) (candidates (network_of m n o weights counts rows outputs) target (plan_with flags kids rebuilt tried))
+
+-- the same of a network and a tree, with a price list of W words a set
+abbrev pub RankableTree : (W : ℕ) → PriceList → Accepted → Tree → List ℕ → ℕ → Type 0
+RankableTree W list network tree order total =
+    Rankable W (length network.weights.now) tree.leaves network.weights.now tree.kids.now order list.sets.now list.sizes.now list.works.now total
+
+abbrev pub ChosenOf : (W : ℕ) → PriceList → Accepted → List ℕ → Tree → List ℕ → ℕ → Option Found → Type 0
+ChosenOf W list network flags tree order target r =
+    Chosen W (length network.weights.now) tree.leaves (length network.outputs.now) network.weights.now network.outputs.now flags tree.kids.now order list.sets.now list.sizes.now list.works.now target r
 
 -- ---- what the sums say ----
 

@@ -8,16 +8,17 @@ use Rattle.std.proofs.lemmas.List.{map-append}
 use Rattle.std.proofs.lemmas.Simd.{map-map}
 use Rattle.spec.specs.Lists.{memb, keep, anyb, from, range, sum_of}
 use Rattle.spec.specs.Network.{Network, leaf_count, legs, weight}
-use Rattle.spec.specs.Tree.{Pair, pairs_of, step_order}
+use Rattle.spec.specs.Tree.{pairs_of, step_order}
 use Rattle.spec.specs.Price.{Step, list_at, bits, children_at, step_at, listing, size_at, work_at, work}
 use Rattle.spec.specs.Slicing.{Plan, touching, above, touched_size, candidate}
 use Rattle.laws.specs.Booleans.{by_cases, or_intror}
 use Rattle.laws.specs.ListLaws.{memb_head, from_memb, sum_append, sum_map, sum_same_from}
 use Rattle.laws.specs.Counts.{sum_same}
-use Rattle.laws.specs.FlatLaws.{pairs_length, pair_left, pair_right, left_of, right_of}
+use Rattle.laws.specs.FlatLaws.{pairs_length, pair_left, pair_right}
 use Rattle.slots.specs.Slots.{held}
 use Rattle.slots.specs.Weigh.{either}
 use Rattle.nodesets.specs.Passes.{nodes}
+use Rattle.nodesets.specs.FlatTree.{flat_tree}
 use Rattle.nodesets.specs.Steps.{Steps}
 use Rattle.nodesets.specs.Flow.{leaf_tree}
 use Rattle.nodesets.specs.Lists.{Ordered, ordered_steps}
@@ -75,17 +76,7 @@ module _ (N : Network) (flag : ℕ → Bool) (kids order sets sizes works : List
     (sizes_are : (v : ℕ) → v < nodes (leaf_count N) kids → get_or sizes v 0 ≡ size_at N flag (pairs_of kids) v)
     (works_are : (v : ℕ) → v < nodes (leaf_count N) kids → get_or works v 0 ≡ work_at N flag (pairs_of kids) v)
     (rebuilt tried : ℕ) where
-  abbrev n : ℕ
-  n = leaf_count N
-
-  abbrev a : List Pair
-  a = pairs_of kids
-
-  abbrev L : ℕ → ℕ
-  L = left_of kids (leaf_count N)
-
-  abbrev R : ℕ → ℕ
-  R = right_of kids (leaf_count N)
+  open flat_tree (leaf_count N) kids use {n, a, L, R}
 
   abbrev p : Plan
   p = record { tree = pairs_of kids; flag = flag; rebuilt = rebuilt; tried = tried }

@@ -2,11 +2,10 @@
 //! Slicing on lent lists: turn after turn one index more is flagged, until the widest table is within the target or no candidate is left.
 ghost use Rattle.std.specs.Prelude.{◌≡◌, max, length};
 ghost use Rattle.spec.specs.Network.{index_count};
-ghost use Rattle.spec.specs.Layout.{network_of};
 ghost use Rattle.spec.specs.Slicing.{or_zero, within_target};
 ghost use Rattle.network.specs.Views.{net_in};
 ghost use Rattle.pricing.specs.Promise.{HasLeavesOf, IsOrderOf};
-ghost use Rattle.slicing.specs.Turns.{with_flag, is_index, TurnPriceable, TurnRoom, HasOutside, Within, Turned, Sliced};
+ghost use Rattle.slicing.specs.Turns.{with_flag, is_index, HasOutside, Within, Turned, Sliced};
 
 mod ranks; // ranks.rt: the index that is sliced next
 mod tallies; // tallies.rt: sums by index over the steps and the tables of a tree
@@ -44,52 +43,9 @@ fn flag(flags: &mut [u8], best: Option<Rank>) -> bool
 }
 
 /// Prices the tree of an accepted network, and flags one index more, unless the widest table is within the target or no candidate is left. Was one
-/// flagged. Of the lists the first places are in use: `m` weights, `n` leaves and `o` outputs.
-// Stays: asks no more of its callers than lists that fit; memory is fixed, so the lists of the price list are arrays here.
+/// flagged.
+// Stays: the words are worked in, the flags are written, and the order is a list of the caller's; memory is fixed, so the price list's lists are arrays here.
 pub fn turn(
-    outside: &mut [u64],
-    flags: &mut [u8],
-    m: usize,
-    n: usize,
-    o: usize,
-    weights: &[u8],
-    counts: &[u8],
-    legs: &[u16],
-    outputs: &[u16],
-    kids: &[u16],
-    order: &[u16],
-    target: u16,
-) -> bool
-    requires priceable { TurnPriceable m n o weights.now counts.now legs.now outputs.now kids.now order.now }
-    requires room { TurnRoom n kids.now order.now (length outside.old) }
-    requires within { Within (network_of m n o weights.now counts.now legs.now outputs.now) kids.now flags.old }
-    ensures { Turned (network_of m n o weights.now counts.now legs.now outputs.now) target kids.now flags.old flags.new result }
-{
-    let mut sets = [0u64; 1024];
-    let mut sizes = [0u16; 256];
-    let mut works = [0u16; 256];
-    let mut list = PriceList {
-        sets: &mut sets,
-        sizes: &mut sizes,
-        works: &mut works,
-    };
-    list.fill::<256>(
-        outside, 4, m, n, o, weights, counts, legs, outputs, flags, kids, order,
-    );
-    let c = order.len();
-    if within(list.widest(n + c), target) {
-        return false;
-    }
-    let total = cost::exact(list.total(n, c));
-    let best = ranks::choose(
-        &list, 4, m, n, o, weights, outputs, flags, kids, order, total, target,
-    );
-    flag(flags, best)
-}
-
-/// A turn, as `turn` makes it, on an accepted network and a tree of it.
-// Stays: `turn` on the lists of a network and a tree; the words are worked in, the flags are written, and the order is a list of the caller's.
-pub fn turn_of(
     outside: &mut [u64],
     flags: &mut [u8],
     network: &Accepted,
@@ -103,48 +59,27 @@ pub fn turn_of(
     requires within { Within (net_in network.now) tree.now.kids.now flags.old }
     ensures { Turned (net_in network.now) target tree.now.kids.now flags.old flags.new result }
 {
-    let (weights, counts) = (network.weights, network.leg_counts);
-    let (legs, outputs) = (network.legs, network.outputs);
-    let (m, n, o) = (weights.len(), counts.len(), outputs.len());
-    let kids = tree.kids;
-    turn(
-        outside, flags, m, n, o, weights, counts, legs, outputs, kids, order, target,
-    )
-}
-
-/// Slices the tree of an accepted network as it is, turn after turn, in lists as `turn` takes them.
-// Stays: asks no more of its callers than lists that fit; at most a turn an index, over no list, and the turn that flags nothing ends it.
-pub fn slice(
-    outside: &mut [u64],
-    flags: &mut [u8],
-    m: usize,
-    n: usize,
-    o: usize,
-    weights: &[u8],
-    counts: &[u8],
-    legs: &[u16],
-    outputs: &[u16],
-    kids: &[u16],
-    order: &[u16],
-    target: u16,
-)
-    requires priceable { TurnPriceable m n o weights.now counts.now legs.now outputs.now kids.now order.now }
-    requires room { TurnRoom n kids.now order.now (length outside.old) }
-    requires within { Within (network_of m n o weights.now counts.now legs.now outputs.now) kids.now flags.old }
-    ensures { Sliced (network_of m n o weights.now counts.now legs.now outputs.now) target kids.now flags.old m flags.new }
-{
-    for _ in 0..m {
-        if !turn(
-            outside, flags, m, n, o, weights, counts, legs, outputs, kids, order, target,
-        ) {
-            return;
-        }
+    let mut sets = [0u64; 1024];
+    let mut sizes = [0u16; 256];
+    let mut works = [0u16; 256];
+    let mut list = PriceList {
+        sets: &mut sets,
+        sizes: &mut sizes,
+        works: &mut works,
+    };
+    list.price::<256>(outside, 4, network, flags, tree, order);
+    let (n, c) = (network.leg_counts.len(), order.len());
+    if within(list.widest(n + c), target) {
+        return false;
     }
+    let total = cost::exact(list.total(n, c));
+    let best = ranks::choose(&list, 4, network, flags, tree, order, total, target);
+    flag(flags, best)
 }
 
-/// Slices the tree as `slice` does, of an accepted network and a tree of it.
-// Stays: `slice` on the lists of a network and a tree; the words are worked in, the flags are written, and the order is a list of the caller's.
-pub fn slice_of(
+/// Slices the tree of an accepted network as it is, turn after turn.
+// Stays: the words are worked in, the flags are written, and the order is a list of the caller's; at most a turn an index, over no list, and the turn that flags nothing ends it.
+pub fn slice(
     outside: &mut [u64],
     flags: &mut [u8],
     network: &Accepted,
@@ -158,11 +93,9 @@ pub fn slice_of(
     requires within { Within (net_in network.now) tree.now.kids.now flags.old }
     ensures { Sliced (net_in network.now) target tree.now.kids.now flags.old (index_count (net_in network.now)) flags.new }
 {
-    let (weights, counts) = (network.weights, network.leg_counts);
-    let (legs, outputs) = (network.legs, network.outputs);
-    let (m, n, o) = (weights.len(), counts.len(), outputs.len());
-    let kids = tree.kids;
-    slice(
-        outside, flags, m, n, o, weights, counts, legs, outputs, kids, order, target,
-    );
+    for _ in 0..network.weights.len() {
+        if !turn(outside, flags, network, tree, order, target) {
+            return;
+        }
+    }
 }

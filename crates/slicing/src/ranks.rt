@@ -2,15 +2,16 @@
 // list it, then the lowest.
 ghost use Rattle.std.specs.Prelude.{◌≡◌, cond, ℕ, ◌+◌, ◌-◌, ◌*◌, ◌^◌, ◌<◌, ◌≤◌, length, get_or};
 ghost use Rattle.spec.specs.Lists.{memb};
-ghost use Rattle.spec.specs.Layout.{firsts};
 ghost use Rattle.spec.specs.Slicing.{rank_before};
 ghost use Rattle.slots.specs.Weigh.{Light, open_weight};
 ghost use Rattle.slicing.specs.Best.{rank_from, considered, best_of, candidate_in, rank_in};
-ghost use Rattle.slicing.specs.Promise.{Rankable, Chosen};
+ghost use Rattle.slicing.specs.Promise.{RankableTree, ChosenOf};
 
 use crate::tallies;
+use network::Accepted;
 use pricing::list::PriceList;
 use std::cmp::Reverse;
+use walk::Tree;
 
 // Stays: three numbers of an index, whose derived order needs these fields in this order; no other type ranks by it.
 /// What ranks an index. The derived order is that in which indices are sliced: the lower cost first, then the larger size, then the lower index.
@@ -35,7 +36,7 @@ impl Rank {
 }
 
 // What the indices are ranked by: lists by index, and the exact total.
-// Stays: lists by index that are summed one after the other; a list of structs would be filled from them first.
+// Stays: lists by index that are filled one after the other; a list of structs would be filled from them first.
 #[derive(Clone, Copy)]
 struct Merits<'a> {
     total: u64,
@@ -47,32 +48,17 @@ struct Merits<'a> {
     sizes: &'a [u64],
 }
 
-// Makes the weight of each of the first `o` outputs 0.
-// Stays: by index, as `o` may be more than the list has: what is read past its end is 0. `strike` of reconfigure goes over a whole row, and reads no further.
-fn clear_outputs(sliceable: &mut [u8], o: usize, outputs: &[u16])
-    ensures { (j : ℕ) → get_or sliceable.new j 0 ≡ cond (memb j (firsts o outputs.now)) 0 (get_or sliceable.old j 0) }
+// Writes the network's weights to `sliceable`, those of flagged indices and of outputs as 0, and 0 after them.
+// Stays: a `for` over the outputs; a chain with `for_each` would need a closure with a contract that lends `sliceable`.
+fn sliceable_weights(sliceable: &mut [u8], network: &Accepted, flags: &[u8])
+    requires { length network.now.weights.now ≤ length sliceable.old }
+    ensures { (j : ℕ) → get_or sliceable.new j 0 ≡ cond (memb j network.now.outputs.now) 0 (open_weight network.now.weights.now flags.now j) }
 {
-    for k in 0..o {
-        let output = cells::get_or(outputs, k, 0);
+    let weights = network.weights;
+    nodebits::effective_weights(sliceable, weights.len(), weights, flags);
+    for &output in network.outputs {
         cells::put(sliceable, usize::from(output), 0);
     }
-}
-
-// Writes the first `m` weights to `sliceable`, those of flagged indices and of the first `o` outputs as 0, and 0 after them.
-// Stays: asks no more of its callers than lists that fit.
-fn sliceable_weights(
-    sliceable: &mut [u8],
-    m: usize,
-    weights: &[u8],
-    flags: &[u8],
-    o: usize,
-    outputs: &[u16],
-)
-    requires { (m ≤ length weights.now) × (m ≤ length sliceable.old) }
-    ensures { (j : ℕ) → get_or sliceable.new j 0 ≡ cond (memb j (firsts o outputs.now)) 0 (open_weight (firsts m weights.now) flags.now j) }
-{
-    nodebits::effective_weights(sliceable, m, weights, flags);
-    clear_outputs(sliceable, o, outputs);
 }
 
 // The total over all settings of an index of the given weight, once it is sliced: `touching` is the work of the steps whose children list it.
@@ -120,7 +106,7 @@ impl<'a> Merits<'a> {
         ensures { result ≡ best_of (candidate_in self.now.sliceable.now self.now.sizes.now) (rank_in self.now.total self.now.sliceable.now self.now.touching.now self.now.sizes.now) m }
     {
         let mut best = None;
-        // Stays: the number is the index that is ranked, and all three lists are read there, past their ends too.
+        // Stays: the number is the index that is ranked, and all three lists are read there, by total reads.
         for j in 0..m {
             best = self.consider(best, j);
         }
@@ -129,42 +115,32 @@ impl<'a> Merits<'a> {
 }
 
 // The index that is sliced next, of a tree that is priced with sets of `w` words: `total` is its exact total.
-// Stays: asks no more of its callers than lists that fit; memory is fixed, so the lists by index are arrays here.
+// Stays: the flags are lent apart from the network, and the order is a list of the caller's; memory is fixed, so the lists by index are arrays here.
 pub fn choose(
     list: &PriceList,
     w: usize,
-    m: usize,
-    n: usize,
-    o: usize,
-    weights: &[u8],
-    outputs: &[u16],
+    network: &Accepted,
     flags: &[u8],
-    kids: &[u16],
+    tree: &Tree,
     order: &[u16],
     total: u64,
     target: u16,
 ) -> Option<Rank>
-    requires { Rankable w m n weights.now kids.now order.now list.now.sets.now list.now.sizes.now list.now.works.now total }
-    ensures { Chosen w m n o weights.now outputs.now flags.now kids.now order.now list.now.sets.now list.now.sizes.now list.now.works.now target result }
+    requires { RankableTree w list.now network.now tree.now order.now total }
+    ensures { ChosenOf w list.now network.now flags.now tree.now order.now target result }
 {
     let mut sliceable = [0u8; 1024];
     let mut touching = [0u64; 1024];
     let mut sizes = [0u64; 1024];
-    sliceable_weights(&mut sliceable, m, weights, flags, o, outputs);
-    tallies::add_works(&mut touching, list, w, n, kids, order);
-    tallies::add_sizes(
-        &mut sizes,
-        list.sets,
-        list.sizes,
-        w,
-        n + order.len(),
-        target,
-    );
+    sliceable_weights(&mut sliceable, network, flags);
+    tallies::add_works(&mut touching, list, w, tree, order);
+    let tables = tree.leaves + order.len();
+    tallies::add_sizes(&mut sizes, list.sets, list.sizes, w, tables, target);
     let merits = Merits {
         total,
         sliceable: &sliceable,
         touching: &touching,
         sizes: &sizes,
     };
-    merits.best(m)
+    merits.best(network.weights.len())
 }

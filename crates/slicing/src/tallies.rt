@@ -8,11 +8,11 @@ ghost use Rattle.laws.specs.FlatLaws.{left_of, right_of};
 ghost use Rattle.slicing.specs.Sums.{Added, Summed, Small};
 ghost use Rattle.slicing.specs.Nodes.{StepsKnown, TablesKnown, step_share, table_share, size_above};
 
-// Stays: `sets: &[u64], w: usize`, `x: u64, base: usize`: slots of a lent list by their width, words of these by their first index; a struct would wrap two numbers at each turn.
-// Stays: `n: usize, kids: &[u16]`: a list of children with an odd last place is allowed, so it is no `Tree`.
+// Stays: `sets: &[u64], w: usize`, `x: u64, base: usize`: slots of a lent list by their width, words of these by their first index; a struct would wrap the two at each turn.
 
 use bits::Digits;
 use pricing::list::PriceList;
+use walk::Tree;
 
 // Adds `amount` at place `base` + i for each set digit i of `x`.
 // Stays: a `for` over the digits; a chain with `for_each` would need a closure with a contract that lends `sums`.
@@ -49,17 +49,11 @@ fn exp2(b: usize) -> u64
 
 /// Adds 2 to the work bits of each step at the places of the indices that its children list.
 // Stays: a `for` over the nodes; a chain with `for_each` would need a closure with a contract that lends `sums`.
-pub fn add_works(
-    sums: &mut [u64],
-    list: &PriceList,
-    w: usize,
-    n: usize,
-    kids: &[u16],
-    order: &[u16],
-)
-    requires { StepsKnown w n kids.now order.now list.now.sets.now list.now.works.now sums.old }
-    ensures { Summed (step_share w (left_of kids.now n) (right_of kids.now n) list.now.sets.now list.now.works.now) sums.old order.now sums.new }
+pub fn add_works(sums: &mut [u64], list: &PriceList, w: usize, tree: &Tree, order: &[u16])
+    requires { StepsKnown w tree.now.leaves tree.now.kids.now order.now list.now.sets.now list.now.works.now sums.old }
+    ensures { Summed (step_share w (left_of tree.now.kids.now tree.now.leaves) (right_of tree.now.kids.now tree.now.leaves) list.now.sets.now list.now.works.now) sums.old order.now sums.new }
 {
+    let (n, kids) = (tree.leaves, tree.kids);
     for &node in order {
         let v = usize::from(node);
         let l = nodesets::left(kids, n, v);

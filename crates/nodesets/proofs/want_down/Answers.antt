@@ -1,9 +1,9 @@
-use Rattle.std.proofs.Common.{◌≡◌, ℕ, ◌+◌, ◌-◌, ◌*◌, ◌≤◌, ◌<◌, length, refl, sym, ap, ◌∙◌, arith}
+use Rattle.std.proofs.Common.{◌≡◌, ℕ, ◌*◌, ◌≤◌, length, refl, sym, ap, ◌∙◌, arith}
 use Rattle.std.proofs.lemmas.List.{length_push}
 use Rattle.std.proofs.lemmas.Iterator.Adapters.{YieldsList-from_rev_slice}
 use Rattle.std.proofs.lemmas.Iterator.Consumers.{YieldsList-turn}
 use Rattle.slots.specs.Slots.{with_set_length}
-use Rattle.nodesets.specs.Turns.{slot_in, step_inner, step_left, step_right, downs_none, downs_next}
+use Rattle.nodesets.specs.Turns.{step_inner, node_slot, left_slot, right_slot, downs_none, downs_next}
 use Rattle.laws.specs.FlatLaws.{left_of, right_of}
 use Rattle.nodesets.specs.Passes.{nodes, downs}
 use Rattle.nodesets.proofs.Back.{turned_back}
@@ -16,42 +16,36 @@ pub left-l-requires : goal.left-l-requires
 left-l-requires c =
     let o = c.args.order.now in
     let t = turned_back o _ _ (YieldsList-turn (YieldsList-from_rev_slice o cc) c.loop-node.yielded _ c.loop-node.yielded_by _ _ c.in-Some.field-0 c.in-Some.is c.next.ensures.steps) in
-    step_inner c.requires.0 (length o - (length c.loop-node.yielded + 1)) c.from-v.result (omega arith) (c.from-v.ensures ∙ t.1)
+    step_inner c.requires.0 _ c.from-v.result t.1 (c.from-v.ensures ∙ t.2)
 
 pub right-r-requires : goal.right-r-requires
 right-r-requires c =
     let o = c.args.order.now in
     let t = turned_back o _ _ (YieldsList-turn (YieldsList-from_rev_slice o cc) c.loop-node.yielded _ c.loop-node.yielded_by _ _ c.in-Some.field-0 c.in-Some.is c.next.ensures.steps) in
-    step_inner c.requires.0 (length o - (length c.loop-node.yielded + 1)) c.from-v.result (omega arith) (c.from-v.ensures ∙ t.1)
+    step_inner c.requires.0 _ c.from-v.result t.1 (c.from-v.ensures ∙ t.2)
 
 pub combine_with-requires : goal.combine_with-requires
 combine_with-requires c =
     let o = c.args.order.now in
     let t = turned_back o _ _ (YieldsList-turn (YieldsList-from_rev_slice o cc) c.loop-node.yielded _ c.loop-node.yielded_by _ _ c.in-Some.field-0 c.in-Some.is c.next.ensures.steps) in
-    let k : ℕ = length o - (length c.loop-node.yielded + 1) in
-    let h : k < length o = omega arith in
-    let e = c.from-v.ensures ∙ t.1 in
-    let v = c.from-v.result in
+    let e = c.from-v.ensures ∙ t.2 in
     let room : nodes c.args.n c.args.kids.now * c.args.w ≤ length c.loop-node.outside = omega arith in
-    (slot_in _ _ _ _ (step_inner c.requires.0 k v h e).1 room, slot_in _ _ _ _ (step_left c.requires.0 k v h e _ c.left-l.ensures.0) room, slot_in _ _ _ _ (step_right c.requires.0 k v h e _ c.right-r.ensures.0) c.requires.2)
+    (node_slot c.requires.0 _ _ t.1 e c.args.w room, left_slot c.requires.0 _ _ t.1 e c.args.w c.left-l.ensures.0 room, right_slot c.requires.0 _ _ t.1 e c.args.w c.right-r.ensures.0 c.requires.2)
 
 pub combine_with-requires-in-loop-node : goal.combine_with-requires-in-loop-node
 combine_with-requires-in-loop-node c =
     let o = c.args.order.now in
     let t = turned_back o _ _ (YieldsList-turn (YieldsList-from_rev_slice o cc) c.loop-node.yielded _ c.loop-node.yielded_by _ _ c.in-Some.field-0 c.in-Some.is c.next.ensures.steps) in
-    let k : ℕ = length o - (length c.loop-node.yielded + 1) in
-    let h : k < length o = omega arith in
-    let e = c.from-v.ensures ∙ t.1 in
-    let v = c.from-v.result in
+    let e = c.from-v.ensures ∙ t.2 in
     let f : length c.combine_with.new.words ≡ length c.loop-node.outside = ap length c.combine_with.ensures ∙ with_set_length _ _ _ _ in
     let room : nodes c.args.n c.args.kids.now * c.args.w ≤ length c.combine_with.new.words = omega arith in
-    (slot_in _ _ _ _ (step_inner c.requires.0 k v h e).1 room, slot_in _ _ _ _ (step_right c.requires.0 k v h e _ c.right-r.ensures.0) room, slot_in _ _ _ _ (step_left c.requires.0 k v h e _ c.left-l.ensures.0) c.requires.2)
+    (node_slot c.requires.0 _ _ t.1 e c.args.w room, right_slot c.requires.0 _ _ t.1 e c.args.w c.right-r.ensures.0 room, left_slot c.requires.0 _ _ t.1 e c.args.w c.left-l.ensures.0 c.requires.2)
 
 pub loop-node-preserved : goal.loop-node-preserved
 loop-node-preserved c =
     let o = c.args.order.now in
     let t = turned_back o _ _ (YieldsList-turn (YieldsList-from_rev_slice o cc) c.loop-node.yielded _ c.loop-node.yielded_by _ _ c.in-Some.field-0 c.in-Some.is c.next.ensures.steps) in (
       ap length c.combine_with-in-loop-node.ensures ∙ with_set_length _ _ _ _ ∙ ap length c.combine_with.ensures ∙ with_set_length _ _ _ _ ∙ c.loop-node.invariant.0,
-      downs_next _ _ _ _ _ _ _ _ _ _ _ _ _ c.loop-node.invariant.1 (c.from-v.ensures ∙ t.1) c.left-l.ensures.0 c.right-r.ensures.0 c.combine_with.ensures c.combine_with-in-loop-node.ensures
+      downs_next _ _ _ _ _ _ _ _ _ _ _ _ _ c.loop-node.invariant.1 (c.from-v.ensures ∙ t.2) c.left-l.ensures.0 c.right-r.ensures.0 c.combine_with.ensures c.combine_with-in-loop-node.ensures
           ∙ ap (λ (j : ℕ). downs c.args.w (left_of c.args.kids.now c.args.n) (right_of c.args.kids.now c.args.n) o c.args.sets.now c.args.outside.now j) (sym (length_push c.loop-node.yielded c.in-Some.field-0)),
     )

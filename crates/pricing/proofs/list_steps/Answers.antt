@@ -28,7 +28,7 @@ pub bounds-list-v-in-loop-k : goal.bounds-list-v-in-loop-k
 bounds-list-v-in-loop-k c = let i = step_inner c.requires.0 c.loop-k.k c.from-v.result (omega arith) c.from-v.ensures in omega (arith, i.1)
 
 pub loop-k-preserved : goal.loop-k-preserved
-loop-k-preserved c = let d = c.args in let l = c.loop-k in let w = c.from-v in (omega arith, search rules, line_next (left_of d.kids.now d.n) (right_of d.kids.now d.n) d.list.now.works.now d.list.now.sizes.now d.order.now d.steps.now l.steps _ l.k _ _ _ _ _ (omega arith) l.invariant.2 refl (ap (left_of d.kids.now d.n) w.ensures) (ap (right_of d.kids.now d.n) w.ensures) (ap (λ (x : ℕ). get_or d.list.now.works.now x 0) w.ensures) (ap (λ (x : ℕ). get_or d.list.now.sizes.now x 0) w.ensures) c.put_step.ensures)
+loop-k-preserved c = let d = c.args in let l = c.loop-k in let w = c.from-v in (omega arith, search rules, line_next (left_of d.tree.now.kids.now d.tree.now.leaves) (right_of d.tree.now.kids.now d.tree.now.leaves) d.list.now.works.now d.list.now.sizes.now d.order.now d.steps.now l.steps _ l.k _ _ _ _ _ (omega arith) l.invariant.2 refl (ap (left_of d.tree.now.kids.now d.tree.now.leaves) w.ensures) (ap (right_of d.tree.now.kids.now d.tree.now.leaves) w.ensures) (ap (λ (x : ℕ). get_or d.list.now.works.now x 0) w.ensures) (ap (λ (x : ℕ). get_or d.list.now.sizes.now x 0) w.ensures) c.put_step.ensures)
 
 pub returns : goal.returns
-returns c = let d = c.args in let l = c.loop-k in lines_end (left_of d.kids.now d.n) (right_of d.kids.now d.n) d.list.now.works.now d.list.now.sizes.now d.order.now d.steps.now l.steps l.k (omega arith) l.invariant.2
+returns c = let d = c.args in let l = c.loop-k in lines_end (left_of d.tree.now.kids.now d.tree.now.leaves) (right_of d.tree.now.kids.now d.tree.now.leaves) d.list.now.works.now d.list.now.sizes.now d.order.now d.steps.now l.steps l.k (omega arith) l.invariant.2

@@ -6,9 +6,9 @@ use Rattle.network.specs.Views.{in_facts, in_leaves}
 use Rattle.cost.specs.Checks.{order_front}
 use Rattle.slicetree.proofs.slice_with.Goals as goal
 
-pub slice_of-requires-clause-order : goal.slice_of-requires-clause-order
+pub slice-requires-2-clause-order : goal.slice-requires-2-clause-order
 unfolding filled
-slice_of-requires-clause-order c =
+slice-requires-2-clause-order c =
     let n = c.args.network.now in
     let kids = c.args.kids.now in
     order_front (filled 128 0) c.post_order-c.new.out (step_order kids c.leaf_count.result) c.post_order-c.result c.post_order-c.ensures.1

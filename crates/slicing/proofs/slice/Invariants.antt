@@ -1,5 +1,5 @@
 use Rattle.slicing.specs.Turns.{Slicing}
-use Rattle.spec.specs.Layout.{network_of}
+use Rattle.network.specs.Views.{net_in}
 use Prim.Native.Nat.{◌-◌}
 use mathlib.Core.Path.{◌≡◌}
 use lib.ListN.{length}
@@ -7,4 +7,4 @@ use Rattle.slicing.proofs.slice.Given as goal
 
 abbrev pub invariant-loop : goal.invariant-loop
 invariant-loop l = (length l.outside ≡ length l.initial.outside)
-    × Slicing (network_of l.m l.n l.o l.weights l.counts l.legs l.outputs) l.target l.kids l.initial.flags l.m (l.m - l.counter) l.flags
+    × Slicing (net_in l.network) l.target l.tree.kids.now l.initial.flags (length l.network.weights.now) (length l.network.weights.now - l.counter) l.flags

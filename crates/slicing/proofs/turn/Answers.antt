@@ -1,46 +1,90 @@
 use Rattle.spec.specs.Memory.{filled}
-use Rattle.spec.specs.Layout.{network_of}
-use Rattle.slicing.specs.Priced.{sizes_long, works_long, priced_tree, widest_is, rankable}
+use Rattle.slicing.specs.Priced.{fits, turn_nodes, turn_priceable, turn_room, sizes_long, works_long, priced_tree, widest_is, rankable}
+use Rattle.slicing.specs.Promise.{Rankable, Chosen}
 use Rattle.slicing.specs.Turns.{turned_within, turned}
+use Rattle.network.specs.Views.{net_in, in_leaves}
 use Rattle.spec.specs.Price.{up_to}
 use Rattle.pricing.specs.Sums.{work_sum}
 use Rattle.spec.specs.Slicing.{within_target}
+use Prim.Native.Nat.{ℕ}
+use native.Mathlib.Omega.{arith}
 use lib.ListN.{length}
-use mathlib.Core.Path.{refl, sym, ap, ◌∙◌}
+use mathlib.Core.Path.{refl, sym, ap, subst, ◌∙◌}
 use Rattle.slicing.proofs.turn.Goals as goal
+
+pub price-requires : goal.price-requires
+unfolding filled
+price-requires c =
+    let a = c.args in
+    let q = c.requires in
+    let few = turn_nodes a.network.now a.tree.now a.order.now q.leaves q.order in
+    record {
+      width = (omega arith, omega arith);
+      fits = fits a.network.now a.tree.now a.order.now q.leaves q.order;
+      leaves = q.leaves;
+      order = q.order;
+      outside = q.outside;
+      room = record { for_sets = omega (arith, few); for_sizes = omega (arith, few); for_works = omega (arith, few) };
+    }
 
 pub widest-requires : goal.widest-requires
 unfolding filled
-widest-requires c = sizes_long c.requires.priceable c.args.flags.now c.fill.ensures.filled c.requires.room
+widest-requires c =
+    let a = c.args in
+    let q = c.requires in
+    sizes_long (turn_priceable a.network.now a.tree.now a.order.now q.leaves q.order) a.flags.now c.price.ensures.filled
+    (turn_room a.network.now a.tree.now a.order.now q.leaves q.order (length a.outside.now) q.outside)
 
 pub total-requires : goal.total-requires
 unfolding filled
-total-requires c = works_long c.requires.priceable c.args.flags.now c.fill.ensures.filled c.requires.room
+total-requires c =
+    let a = c.args in
+    let q = c.requires in
+    works_long (turn_priceable a.network.now a.tree.now a.order.now q.leaves q.order) a.flags.now c.price.ensures.filled
+    (turn_room a.network.now a.tree.now a.order.now q.leaves q.order (length a.outside.now) q.outside)
 
 pub returns-then-within : goal.returns-then-within
 unfolding filled
 returns-then-within c =
     let a = c.args in
-    let total = up_to (work_sum c.fill.new.self.works.now a.n (length a.order.now)) in
-    turned_within (network_of a.m a.n a.o a.weights.now a.counts.now a.legs.now a.outputs.now) a.target a.kids.now a.flags.now
-    (ap (within_target a.target) (sym (widest_is c.requires.priceable a.flags.now c.fill.ensures.filled c.requires.room total c.widest.result refl c.widest.ensures))
+    let q = c.requires in
+    let p = turn_priceable a.network.now a.tree.now a.order.now q.leaves q.order in
+    let room = turn_room a.network.now a.tree.now a.order.now q.leaves q.order (length a.outside.now) q.outside in
+    let total = up_to (work_sum c.price.new.self.works.now (length a.network.now.leg_counts.now) (length a.order.now)) in
+    turned_within (net_in a.network.now) a.target a.tree.now.kids.now a.flags.now
+    (ap (within_target a.target) (sym (widest_is p a.flags.now c.price.ensures.filled room total c.widest.result refl c.widest.ensures))
     ∙ sym c.within.ensures ∙ c.if-within.true)
 
 pub choose-best-requires : goal.choose-best-requires
 unfolding filled
 choose-best-requires c =
+    let a = c.args in
+    let b = a.network.now in
     let q = c.requires in
-    rankable q.priceable c.args.flags.now c.fill.ensures.filled q.room
-    c.total.result c.widest.result c.total.ensures c.widest.ensures q.within.total c.exact-total.result c.exact-total.ensures
+    let p = turn_priceable b a.tree.now a.order.now q.leaves q.order in
+    let room = turn_room b a.tree.now a.order.now q.leaves q.order (length a.outside.now) q.outside in
+    let s = c.price.new.self in
+    subst
+    (λ (n : ℕ). Rankable 4 (length b.weights.now) n b.weights.now a.tree.now.kids.now a.order.now s.sets.now s.sizes.now s.works.now c.exact-total.result)
+    (sym (q.leaves ∙ in_leaves b))
+    (rankable p a.flags.now c.price.ensures.filled room c.total.result c.widest.result c.total.ensures c.widest.ensures q.within.total
+    c.exact-total.result c.exact-total.ensures)
 
 pub returns : goal.returns
 unfolding filled
 returns c =
     let a = c.args in
+    let b = a.network.now in
     let q = c.requires in
-    let f = c.fill.ensures.filled in
-    turned (network_of a.m a.n a.o a.weights.now a.counts.now a.legs.now a.outputs.now) a.target a.kids.now a.flags.now c.choose-best.result c.flag.result _
-    (ap (within_target a.target) (sym (widest_is q.priceable a.flags.now f q.room c.total.result c.widest.result c.total.ensures c.widest.ensures))
+    let p = turn_priceable b a.tree.now a.order.now q.leaves q.order in
+    let room = turn_room b a.tree.now a.order.now q.leaves q.order (length a.outside.now) q.outside in
+    let s = c.price.new.self in
+    let f = c.price.ensures.filled in
+    let best = subst
+    (λ (n : ℕ). Chosen 4 (length b.weights.now) n (length b.outputs.now) b.weights.now b.outputs.now a.flags.now a.tree.now.kids.now a.order.now s.sets.now s.sizes.now s.works.now a.target c.choose-best.result)
+    (q.leaves ∙ in_leaves b) c.choose-best.ensures in
+    turned (net_in b) a.target a.tree.now.kids.now a.flags.now c.choose-best.result c.flag.result _
+    (ap (within_target a.target) (sym (widest_is p a.flags.now f room c.total.result c.widest.result c.total.ensures c.widest.ensures))
     ∙ sym c.within.ensures ∙ c.if-within.false)
-    (λ x y. c.choose-best.ensures a.counts.now a.legs.now x y (priced_tree q.priceable a.flags.now f q.room))
+    (λ x y. best b.leg_counts.now b.legs.now x y (priced_tree p a.flags.now f room))
     c.flag.ensures.0 c.flag.ensures.1

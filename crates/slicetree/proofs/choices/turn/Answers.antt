@@ -9,9 +9,9 @@ use Rattle.cost.specs.Checks.{order_front}
 use Rattle.slicetree.specs.Choices.{choice_made, within_next}
 use Rattle.slicetree.proofs.choices.turn.Goals as goal
 
-pub turn_of-requires-clause-order : goal.turn_of-requires-clause-order
+pub turn-requires-clause-order : goal.turn-requires-clause-order
 unfolding filled
-turn_of-requires-clause-order c =
+turn-requires-clause-order c =
     let n = c.args.network.now in
     let kids = c.args.kids.now in
     order_front (filled 128 0) c.post_order-c.new.out (step_order kids c.leaf_count.result) c.post_order-c.result c.post_order-c.ensures.1
@@ -20,7 +20,7 @@ turn_of-requires-clause-order c =
 
 pub improve_once-requires-clause-stands : goal.improve_once-requires-clause-stands
 improve_once-requires-clause-stands c =
-    record { right = c.requires.stands.right; within = within_next c.requires.stands c.turn_of.ensures (not-false c.turn_of.result (not_from_true _ c.if-not-turn_of.false)) }
+    record { right = c.requires.stands.right; within = within_next c.requires.stands c.turn.ensures (not-false c.turn.result (not_from_true _ c.if-not-turn.false)) }
 
 pub returns : goal.returns
-returns c = choice_made c.requires.stands c.turn_of.ensures (not-false c.turn_of.result (not_from_true _ c.if-not-turn_of.false)) c.improve_once.ensures
+returns c = choice_made c.requires.stands c.turn.ensures (not-false c.turn.result (not_from_true _ c.if-not-turn.false)) c.improve_once.ensures

@@ -1,4 +1,4 @@
-use Rattle.nodesets.specs.Turns.{step_inner, step_left, step_right, slot_in}
+use Rattle.nodesets.specs.Turns.{step_inner, left_slot, right_slot}
 use Rattle.slicing.specs.Nodes.{step_works, steps_small, steps_next}
 use native.Mathlib.Omega.{arith}
 use Rattle.slicing.proofs.tallies.add_works.Goals as goal
@@ -16,7 +16,7 @@ pub exp2-requires : goal.exp2-requires
 exp2-requires c = step_works c.requires c.loop-node.node-index c.from-v.result c.from.result (omega arith) c.from-v.ensures c.from.ensures
 
 pub add_slots-requires : goal.add_slots-requires
-add_slots-requires c = let l = c.loop-node in (omega (arith, l.invariant.same, c.requires.fits), slot_in _ _ _ _ (step_left c.requires.steps l.node-index c.from-v.result (omega arith) c.from-v.ensures _ c.left-l.ensures.0) c.requires.room, slot_in _ _ _ _ (step_right c.requires.steps l.node-index c.from-v.result (omega arith) c.from-v.ensures _ c.right-r.ensures.0) c.requires.room, steps_small c.requires l.node-index l.sums l.invariant, c.exp2.ensures.1)
+add_slots-requires c = let l = c.loop-node in (omega (arith, l.invariant.same, c.requires.fits), left_slot c.requires.steps l.node-index _ (omega arith) c.from-v.ensures c.args.w c.left-l.ensures.0 c.requires.room, right_slot c.requires.steps l.node-index _ (omega arith) c.from-v.ensures c.args.w c.right-r.ensures.0 c.requires.room, steps_small c.requires l.node-index l.sums l.invariant, c.exp2.ensures.1)
 
 pub loop-node-preserved : goal.loop-node-preserved
 loop-node-preserved c = let l = c.loop-node in steps_next c.requires l.node-index c.from-v.result c.left-l.result c.right-r.result c.from.result c.exp2.result l.sums _ (omega arith) c.from-v.ensures c.left-l.ensures.0 c.right-r.ensures.0 c.from.ensures c.exp2.ensures.0 l.invariant c.add_slots.ensures
