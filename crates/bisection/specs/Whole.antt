@@ -20,7 +20,7 @@ use Rattle.network.specs.Layouts.{layout_leaf_count}
 use Rattle.network.specs.Codes.{Facts}
 use Rattle.network.specs.Lists.{lists_net}
 use Rattle.start.specs.Leaves.{put_all}
-use Rattle.greedynodes.specs.Begin.{Room, Asks}
+use Rattle.greedynodes.specs.Begin.{Fits, Asks}
 use Rattle.greedynodes.specs.Counted.{counted_range, asks_front}
 use Rattle.bisection.specs.Calls.{names_of}
 use Rattle.bisection.specs.Named.{Named}
@@ -58,7 +58,7 @@ module _ (m n o : ℕ) (weights counts cells outputs : List ℕ) (hm : m ≤ len
     whole_many = omega (arith, leaves_many, facts.few_leaves)
 
     -- the lengths fit
-    pub whole_fits : (ws : List ℕ) → bisection_words ≤ length ws → Room n 0 (take m weights) (take o outputs) leaves ws
+    pub whole_fits : (ws : List ℕ) → bisection_words ≤ length ws → Fits 4 n 0 (take m weights) (take o outputs) leaves ws
     whole_fits ws h =
         record {
           indices = omega (arith, length-take-le m weights hm, facts.few_indices);

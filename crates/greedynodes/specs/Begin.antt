@@ -83,9 +83,9 @@ pub record Fits (W n made : ℕ) (weights outputs leaves lent : List ℕ) : Type
   pub words : 258 * W + W ≤ length lent
   pub array : made < 8192
 
--- for sets of four words, as the code makes them
+-- in sets of some width
 abbrev pub Room : (n made : ℕ) (weights outputs leaves lent : List ℕ) → Type 0
-Room n made weights outputs leaves lent = Fits 4 n made weights outputs leaves lent
+Room n made weights outputs leaves lent = (W : ℕ) × (W ≤ 16) × Fits W n made weights outputs leaves lent
 
 -- no more leaves, as many words, another array
 pub fits_again : {W n made made' : ℕ} {weights outputs leaves leaves' lent lent' : List ℕ} → Fits W n made weights outputs leaves lent
@@ -110,6 +110,19 @@ fits_wider h b f =
       few = f.few;
       outputs_fit = f.outputs_fit;
       words = b;
+      array = f.array;
+    }
+
+-- and in narrower ones that hold the indices and the leaves
+pub fits_narrower : {W V n made : ℕ} {weights outputs leaves lent : List ℕ} → W ≤ V → length weights ≤ W * 64 → n ≤ W * 64
+    → Fits V n made weights outputs leaves lent → Fits W n made weights outputs leaves lent
+fits_narrower h b k f =
+    record {
+      indices = b;
+      leaf_sets = k;
+      few = f.few;
+      outputs_fit = f.outputs_fit;
+      words = omega (arith, f.words);
       array = f.array;
     }
 

@@ -36,15 +36,18 @@ module _ (A : Accepted) where
 
   pub accepted_room : (made : ℕ) (leaves words : List ℕ) → length leaves ≤ 128 → 1036 ≤ length words → made < 8192
       → Room (length A.leg_counts.now) made A.weights.now A.outputs.now leaves words
-  accepted_room made leaves words few long low =
-      record {
-        indices = omega (arith, facts.few_indices);
-        leaf_sets = omega (arith, facts.few_leaves);
-        few = few;
-        outputs_fit = omega (arith, facts.few_outputs);
-        words = long;
-        array = low;
-      }
+  accepted_room made leaves words few long low = (
+    4,
+    omega arith,
+    record {
+      indices = omega (arith, facts.few_indices);
+      leaf_sets = omega (arith, facts.few_leaves);
+      few = few;
+      outputs_fit = omega (arith, facts.few_outputs);
+      words = long;
+      array = low;
+    },
+  )
 
   pub accepted_asks : (a : List Pair) (made : ℕ) (leaves kids : List ℕ) → AsksOf (net_in A) a made leaves kids
       → Asks (net_in A) a (length A.leg_counts.now) made A.weights.now A.leg_counts.now A.legs.now A.outputs.now leaves kids

@@ -1,6 +1,6 @@
 #![tactic(auto)]
 //! Greedy over a list of leaves: its tables, the sets of which are in lent words, and the children of the new nodes.
-ghost use Rattle.std.specs.Prelude.{List, ◌++◌, ◌≡◌, ◌<◌, ◌≤◌, length, IfErr, OnErr};
+ghost use Rattle.std.specs.Prelude.{List, ◌++◌, ◌≡◌, ℕ, ◌*◌, ◌<◌, ◌≤◌, length, IfErr, OnErr};
 ghost use Rattle.spec.specs.Network.{Network as Net};
 ghost use Rattle.spec.specs.Tree.{Pair, flat_of};
 ghost use Rattle.spec.specs.declared.Refusal.TheVariants.{TableTooWide};
@@ -12,46 +12,16 @@ ghost use Rattle.greedynodes.specs.Copied.{copied_to};
 use arrayvec::ArrayVec;
 use network::Accepted;
 use spec::Refusal;
+use tables::Row;
 use tables::scoring::Scoring;
 use tables::slotted::Tables;
-use tables::{Row, WIDTH};
 
-/// Greedy over some leaves of a network whose lists are lent, onto an array of `count` nodes: the children of the new nodes are put into `made`.
-/// Returns the number of the tree that is built; refused where a scored pair is too wide.
-// Stays: lists, as `greedy_nodes` is given them; an `Accepted` in their place would ask of callers that the check has passed.
-fn grow(
-    words: &mut [u64],
-    weights: &[u8],
-    n: usize,
-    counts: &[u8],
-    legs: &[u16],
-    outputs: &[u16],
-    leaves: &[u16],
-    made: &mut [u16],
-    count: usize,
-) -> Result<u16, Refusal>
-    requires room { Room n count weights.now outputs.now leaves.now words.old }
-    requires light { Light weights.now }
-    ensures planned { (N : Net) (a : List Pair) → Asks N a n count weights.now counts.now legs.now outputs.now leaves.now (flat_of a ++ made.old) → Planned N a leaves.now (flat_of a ++ made.old) (flat_of a ++ made.new) result }
-    ensures why { IfErr result (λ r. r ≡ TableTooWide) }
+/// How many words a set of indices has, and one of leaves: as few as hold all of them.
+fn set_width(indices: usize, leaves: usize) -> usize
+    ensures holds { (indices ≤ result * 64) × (leaves ≤ result * 64) }
+    ensures least { (w : ℕ) → indices ≤ w * 64 → leaves ≤ w * 64 → result ≤ w }
 {
-    let scoring = Scoring {
-        width: WIDTH,
-        weights,
-        start: leaves.len(),
-    };
-    // Made first and filled where it stands: to make the lists beside it and copy them in took a tenth longer for 8 leaves.
-    let mut tables = Tables {
-        sets: words,
-        nodes: [0; 256],
-        sizes: [0; 256],
-        live: ArrayVec::new(),
-        rows: [Row::Stale; 256],
-    };
-    start::prepare(&mut tables, &scoring, n, counts, legs, outputs, leaves);
-    let merges = merging::connect(&mut tables, &scoring, n, count, made)?;
-    let top = rest::join_rest(&mut tables, n, merges, count + merges, made);
-    Ok(top)
+    indices.max(leaves).div_ceil(64)
 }
 
 /// Copies the first `n` numbers of a list to the places of `kids` from `at` on.
@@ -87,10 +57,23 @@ pub fn greedy_nodes(
     ensures untouched { OnErr result (kids.new ≡ kids.old) }
     ensures why { IfErr result (λ r. r ≡ TableTooWide) }
 {
+    let scoring = Scoring {
+        width: set_width(weights.len(), n),
+        weights,
+        start: leaves.len(),
+    };
+    // Made first and filled where it stands: to make the lists beside it and copy them in took a tenth longer for 8 leaves.
+    let mut tables = Tables {
+        sets: words,
+        nodes: [0; 256],
+        sizes: [0; 256],
+        live: ArrayVec::new(),
+        rows: [Row::Stale; 256],
+    };
     let mut made = [0u16; 256];
-    let top = grow(
-        words, weights, n, counts, legs, outputs, leaves, &mut made, count,
-    )?;
+    start::prepare(&mut tables, &scoring, n, counts, legs, outputs, leaves);
+    let merges = merging::connect(&mut tables, &scoring, n, count, &mut made)?;
+    let top = rest::join_rest(&mut tables, n, merges, count + merges, &mut made);
     copy_out(kids, count * 2, &made, leaves.len().saturating_sub(1) * 2);
     Ok(top)
 }

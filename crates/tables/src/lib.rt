@@ -15,9 +15,6 @@ pub mod partner;
 pub mod scoring;
 pub mod slotted;
 
-/// How many words a set of greedy's plan has: one slot of the lent words.
-pub const WIDTH: usize = 4;
-
 /// The slot of the indices that stay whatever is merged: the outputs, and what is named by leaves that are not planned.
 // Stays: a slot past those of the tables; the sets lie in slots of the stated words by number, so a name for the number is the plain form.
 pub const OUTSIDE: usize = 256;
