@@ -1,10 +1,8 @@
-use Rattle.std.proofs.Common.{◌≡◌, ◌∙◌, sym, subst, arith, refl, ◌+◌, ◌*◌, ◌<◌, []}
+use Rattle.std.proofs.Common.{◌≡◌, ◌∙◌, sym, subst, arith, refl, ◌+◌, ◌*◌, ◌<◌}
 use Rattle.std.proofs.Math.Seq.{take-length}
 use Rattle.spec.specs.Members.{All}
 use Rattle.bits.specs.Lowest.{places}
 use Rattle.queue.specs.Queues.{queue_in}
-use Rattle.fm.specs.NetsAgain.{no_net_again}
-use Rattle.fm.specs.Turns.{turns_first, turns_end}
 use Rattle.fm.specs.Neighbours.{neighbours_again}
 use Rattle.fm.specs.Words.{nets_low, EnteringNets, nets_all, nets_next, before_all}
 use Rattle.fm.proofs.enter_neighbours.Goals as goal
@@ -29,22 +27,11 @@ loop-e-init c =
           (nets_all g.words.now g.place g.weights.now d.locked s l.k x _ _ few (omega arith) c.get_or-nets.ensures low c.requires.2 l.invariant.1),
     )
 
-pub enter_net-requires : goal.enter_net-requires
-enter_net-requires c =
-    let f = turns_first c.loop-e.invariant.1 _ _ c.in-Some.ensures.steps in
-    (c.requires.0, f.0, f.1)
-
 pub loop-e-preserved : goal.loop-e-preserved
 loop-e-preserved c =
     let d = c.args in
     let g = d.graph.now in
     (tt, nets_next g.words.now g.place g.weights.now d.locked (g.place.vertices + d.v) c.loop-k.k _ _ _ _ _ _ c.loop-e.invariant.1 c.in-Some.ensures.steps c.enter_net.ensures)
-
-pub loop-k-preserved : goal.loop-k-preserved
-loop-k-preserved c =
-    let d = c.args in
-    let g = d.graph.now in
-    (omega (arith, c.loop-k-test.true), turns_end c.loop-e.invariant.1 c.in-None.ensures.steps.0 (no_net_again g.words.now g.place g.weights.now d.locked [] _))
 
 pub returns : goal.returns
 returns c =

@@ -1,8 +1,6 @@
-use Rattle.std.proofs.Common.{◌≡◌, ◌∙◌, sym, subst, arith, []}
+use Rattle.std.proofs.Common.{◌≡◌, ◌∙◌, sym, subst, arith}
 use Rattle.bits.specs.Lowest.{places}
 use Rattle.queue.specs.Queues.{queue_in}
-use Rattle.fm.specs.Turns.{turns_first, turns_end}
-use Rattle.fm.specs.Again.{none_again}
 use Rattle.fm.specs.Words.{places_few, Entering, entering_all, entering_next}
 use Rattle.fm.proofs.enter_word.Goals as goal
 
@@ -19,19 +17,8 @@ loop-u-init c =
           (entering_all g.words.now g.place g.weights.now d.locked (places d.base 64 d.pins) _ (places_few d.base d.pins (omega arith)) c.requires.2 c.requires.3),
     )
 
-pub enter_again-requires : goal.enter_again-requires
-enter_again-requires c =
-    let f = turns_first c.loop-u.invariant.1 _ _ c.in-Some.ensures.steps in
-    (f.0, c.requires.0, f.1)
-
 pub loop-u-preserved : goal.loop-u-preserved
 loop-u-preserved c =
     let d = c.args in
     let g = d.graph.now in
     (tt, entering_next g.words.now g.place g.weights.now d.locked (places d.base 64 d.pins) _ _ _ _ _ _ c.loop-u.invariant.1 c.in-Some.ensures.steps c.enter_again.ensures)
-
-pub returns : goal.returns
-returns c =
-    let d = c.args in
-    let g = d.graph.now in
-    turns_end c.loop-u.invariant.1 c.in-None.ensures.steps.0 (none_again g.words.now g.place g.weights.now d.locked [] _)

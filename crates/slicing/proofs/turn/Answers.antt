@@ -1,5 +1,5 @@
 use Rattle.spec.specs.Memory.{filled}
-use Rattle.slicing.specs.Priced.{fits, turn_nodes, turn_priceable, turn_room, sizes_long, works_long, priced_tree, widest_is, rankable}
+use Rattle.slicing.specs.Priced.{turn_priceable, turn_room, sizes_long, works_long, priced_tree, widest_is, rankable}
 use Rattle.slicing.specs.Promise.{Rankable, Chosen}
 use Rattle.slicing.specs.Turns.{turned_within, turned}
 use Rattle.network.specs.Views.{net_in, in_leaves}
@@ -7,25 +7,9 @@ use Rattle.spec.specs.Price.{up_to}
 use Rattle.pricing.specs.Sums.{work_sum}
 use Rattle.spec.specs.Slicing.{within_target}
 use Prim.Native.Nat.{ℕ}
-use native.Mathlib.Omega.{arith}
 use lib.ListN.{length}
 use mathlib.Core.Path.{refl, sym, ap, subst, ◌∙◌}
 use Rattle.slicing.proofs.turn.Goals as goal
-
-pub price-requires : goal.price-requires
-unfolding filled
-price-requires c =
-    let a = c.args in
-    let q = c.requires in
-    let few = turn_nodes a.network.now a.tree.now a.order.now q.leaves q.order in
-    record {
-      width = (omega arith, omega arith);
-      fits = fits a.network.now a.tree.now a.order.now q.leaves q.order;
-      leaves = q.leaves;
-      order = q.order;
-      outside = q.outside;
-      room = record { for_sets = omega (arith, few); for_sizes = omega (arith, few); for_works = omega (arith, few) };
-    }
 
 pub widest-requires : goal.widest-requires
 unfolding filled
