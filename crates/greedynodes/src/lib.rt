@@ -12,7 +12,7 @@ ghost use Rattle.greedynodes.specs.Copied.{copied_to};
 use arrayvec::ArrayVec;
 use network::Accepted;
 use spec::Refusal;
-use tables::Row;
+use tables::row::Row;
 use tables::scoring::Scoring;
 use tables::slotted::Tables;
 
@@ -64,21 +64,29 @@ pub fn greedy_nodes(
     };
     // Made first and filled where it stands: to make the lists beside it and copy them in took a tenth longer for 8 leaves.
     let mut tables = Tables {
-        sets: words,
         nodes: [0; 256],
         sizes: [0; 256],
         live: ArrayVec::new(),
-        rows: [Row::Stale; 256],
+        rows: [Row::STALE; 256],
     };
     let mut made = [0u16; 256];
-    start::prepare(&mut tables, &scoring, n, counts, legs, outputs, leaves);
-    let merges = merging::connect(&mut tables, &scoring, n, count, &mut made)?;
+    start::prepare(
+        words,
+        &mut tables,
+        &scoring,
+        n,
+        counts,
+        legs,
+        outputs,
+        leaves,
+    );
+    let merges = merging::connect(words, &mut tables, &scoring, n, count, &mut made)?;
     let top = rest::join_rest(&mut tables, n, merges, count + merges, &mut made);
     copy_out(kids, count * 2, &made, leaves.len().saturating_sub(1) * 2);
     Ok(top)
 }
 
-/// The same over an accepted network's lists.
+/// The same over an accepted network's lists: it is lent 1,036 words or more, asked for at most 128 leaves, and the array has fewer than 8,192 nodes.
 // Stays: `count` is how many nodes the array has so far, and `kids` is longer.
 pub fn plan_leaves(
     words: &mut [u64],

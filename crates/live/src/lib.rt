@@ -4,7 +4,6 @@
 ghost use Rattle.std.specs.Prelude.{◌≡◌, ◌+◌, ◌*◌, ◌<◌, ◌≤◌, length, get_or, set};
 ghost use Rattle.slots.specs.Slots.{with_set};
 ghost use Rattle.slots.specs.Weigh.{Light};
-ghost use Rattle.tables.specs.Lists.{lists_in, with_sets, IsSameLoan};
 ghost use Rattle.live.specs.Common.{shares};
 ghost use Rattle.live.specs.Holders.{count_word, with_holders};
 ghost use Rattle.live.specs.Merged.{merged_set, pair_bits, word_at};
@@ -12,9 +11,7 @@ ghost use Rattle.live.specs.Merged.{merged_set, pair_bits, word_at};
 // Stays: `w ≤ 16`, `s < 1048576`, `x < 1048576`, `y < 1048576`, `k < 1048576`: bounds of numbers, so that a place fits a machine word; a type of its own would be unwrapped at each use.
 // Stays: `x: usize, y: usize`: two slots of one list, read side by side.
 // Stays: `sets: &[u64], w: usize`, `w: usize, s: usize`: a set is named by its list, the width of a set and its slot; two or three of one list are read in one call, so none can hold the list.
-// Stays: `Light weights.now`: the weights are lent without the tables here; beside the tables `Scoring` has the fact.
-// Stays: `IsSameLoan tables.old tables.new`: the words are lent in the tables, and only a clause can say that the same come back.
-use tables::slotted::Tables;
+// Stays: `Light weights.now`: the weights are lent alone here; where scores are made `Scoring` has the fact.
 use tables::{OUTSIDE, THRICE, TWICE};
 
 /// Word `k` of slot `s`. The read is total, as the definition's: past the end a slot is empty.
@@ -53,7 +50,7 @@ struct Holders {
 
 /// Of word `k` the indices that two or more of the live tables hold, and those that three or more hold.
 // Stays: `k` is the number of a word, and not how long the list is.
-fn count_holders(sets: &[u64], w: usize, live: &[u8], k: usize) -> Holders
+fn count_holders(sets: &[u64], w: usize, live: &[u16], k: usize) -> Holders
     requires { (w ≤ 16) × (k < 1048576) }
     ensures two { result.two ≡ count_word sets.now w live.now k 2 (length live.now) }
     ensures three { result.three ≡ count_word sets.now w live.now k 3 (length live.now) }
@@ -84,7 +81,7 @@ fn put_words(sets: &mut [u64], w: usize, k: usize, two: u64, three: u64)
 
 /// Makes slot 257 what two or more of the live tables hold, and slot 258 what three or more hold, each with slot 256.
 // Stays: the loop lends the same words to each turn; `for_each` with a closure over them is no plainer.
-pub fn put_holders(sets: &mut [u64], w: usize, live: &[u8])
+pub fn put_holders(sets: &mut [u64], w: usize, live: &[u16])
     requires { w ≤ 16 }
     ensures { sets.new ≡ with_holders sets.old w live.now (length live.now) }
 {
@@ -134,13 +131,4 @@ pub fn put_merged(sets: &mut [u64], w: usize, x: usize, y: usize, z: usize)
         // Stays: the written slot lies in the list that is read; a split of it would need an order of the three slots.
         cells::put(sets, z * w + k, v);
     }
-}
-
-/// Makes slots 257 and 258 of some tables what two or more and three or more of the live ones hold.
-pub fn mark_holders(tables: &mut Tables, w: usize)
-    requires { w ≤ 16 }
-    ensures same { IsSameLoan tables.old tables.new }
-    ensures lists { lists_in tables.new ≡ with_sets (lists_in tables.old) (with_holders tables.old.sets.now w tables.old.live.items (length tables.old.live.items)) }
-{
-    put_holders(&mut *tables.sets, w, tables.live.as_slice());
 }

@@ -14,7 +14,7 @@ use Rattle.slots.specs.Slots.{with_set}
 use Rattle.live.specs.Holders.{with_holders}
 use Rattle.live.specs.Merged.{merged_set}
 use Rattle.scores.specs.Scores.{first_of, second_of}
-use Rattle.rows.specs.Rows.{renewed_all, unfound, least_of, least_found, least_same}
+use Rattle.rows.specs.Rows.{renewed_all, least_of}
 use Rattle.rows.specs.Known.{code_slot}
 use Rattle.merging.specs.Listed.{remaining}
 use Rattle.merging.specs.Removed.{put_node}
@@ -22,7 +22,7 @@ use Rattle.merging.specs.Merge.{first_at, second_at, marked, with_node}
 use Rattle.tables.specs.declared.PairTooWide.{PairTooWide}
 use Rattle.tables.specs.Lists.{Lists}
 use Rattle.merging.specs.Holds.{Given, Ghost, state_of, Holds}
-use Rattle.merging.specs.Turn.{words₁, rows₁, small, used, entries_found, Chosen, Scanned, ends, refuses, chooses, scanned}
+use Rattle.merging.specs.Turn.{words₁, rows₁, small, used, Chosen, Scanned, ends, refuses, chooses, scanned}
 use Rattle.merging.specs.After.{next_ghost, next_lists, in_f, in_g, count', turn_on, holds'}
 
 -- what the call is given: n leaves, n0 start tables with sets of w words, and the array so far, of `count` nodes, at the front of `kids`
@@ -103,27 +103,6 @@ module _ (G : Given) (S : Ghost) where
         final kids₀ t M kids R
         (R.same ∙ ap (λ (f : ℕ). connect N G.start f (state_of R.state)) (let z : G.start - t ≡ 0 = omega (arith, e, start.tables) in z))
 
-    -- what a turn's scan makes of the lists
-    module _ (t : ℕ) (M : Lists) (kids : List ℕ) (R : Reached kids₀ t M kids) (words rows : List ℕ) (ew : words ≡ with_holders M.words w M.live (length M.live))
-        (er : rows ≡ renewed_all words w weights M.sizes n0 M.live M.rows (length M.live))
-      where
-        words_scanned : words ≡ words₁ G R.state M R.holds
-        words_scanned =
-            ew ∙ ap₂ (λ (v : ℕ) (l : List ℕ). with_holders M.words v l (length l)) start.width R.holds.lived
-
-        rows_scanned : rows ≡ rows₁ G R.state M R.holds
-        rows_scanned =
-            er ∙ ap₂ (λ (a : List ℕ) (v : ℕ). renewed_all a v weights M.sizes n0 M.live M.rows (length M.live)) words_scanned start.width
-            ∙ ap₂ (λ (a : List ℕ) (v : ℕ). renewed_all (words₁ G R.state M R.holds) G.width a M.sizes v M.live M.rows (length M.live)) start.weighed start.tables
-            ∙ ap (λ (l : List ℕ). renewed_all (words₁ G R.state M R.holds) G.width N.weights M.sizes G.start l M.rows (length l)) R.holds.lived
-
-        -- each live table's entry says something of its pairs, so the least that is found is the least of all
-        pub least_known : least_found M.sizes n0 rows M.live (length M.live) ≡ least_of M.sizes n0 rows M.live (length M.live)
-        least_known =
-            least_same M.sizes n0 rows M.live (length M.live)
-            (λ k b. ap unfound (ap₂ (λ (a l : List ℕ). get_or a (get_or l k 0) 0) rows_scanned R.holds.lived)
-            ∙ entries_found G R.state M R.holds k (omega (arith, b, ap length R.holds.lived)))
-
     -- a turn: the lists before it, and after its scan
     module _ (t : ℕ) (M : Lists) (kids : List ℕ) (R : Reached kids₀ t M kids) (less : t < n0)
         (y : ℕ) (words rows : List ℕ) (ew : words ≡ with_holders M.words w M.live (length M.live))
@@ -136,10 +115,13 @@ module _ (G : Given) (S : Ghost) where
         H = R.holds
 
         words_are : words ≡ words₁ G T M H
-        words_are = words_scanned t M kids R words rows ew er
+        words_are = ew ∙ ap₂ (λ (v : ℕ) (l : List ℕ). with_holders M.words v l (length l)) start.width H.lived
 
         rows_are : rows ≡ rows₁ G T M H
-        rows_are = rows_scanned t M kids R words rows ew er
+        rows_are =
+            er ∙ ap₂ (λ (a : List ℕ) (v : ℕ). renewed_all a v weights M.sizes n0 M.live M.rows (length M.live)) words_are start.width
+            ∙ ap₂ (λ (a : List ℕ) (v : ℕ). renewed_all (words₁ G T M H) G.width a M.sizes v M.live M.rows (length M.live)) start.weighed start.tables
+            ∙ ap (λ (l : List ℕ). renewed_all (words₁ G T M H) G.width N.weights M.sizes G.start l M.rows (length l)) H.lived
 
         least_are : y ≡ least_of M.sizes G.start (rows₁ G T M H) T.slots (length T.slots)
         least_are =

@@ -1,24 +1,20 @@
 -- Greedy's merging in a longer live list, at whose front the live slots stand. Assumes nothing.
-use Rattle.std.specs.Prelude.{◌≡◌, refl, List, [], ◌∷◌, ◌++◌, ℕ, ◌+◌, ◌-◌, ◌/◌, ◌≤◌, ◌<◌, length, get_or, set, take, drop, Option, None, Some, Result, Err, Ok}
+use Rattle.std.specs.Prelude.{◌≡◌, refl, List, [], ◌∷◌, ◌++◌, ℕ, ◌+◌, ◌-◌, ◌/◌, ◌≤◌, ◌<◌, length, get_or, set, take, drop, Err, Ok}
 use Rattle.std.proofs.Common.{sym, ◌∙◌, ap, subst, arith, get_or-take, take_at, length-take-le}
 use Rattle.std.proofs.Math.ListN.{length-take}
 use Rattle.spec.specs.Memory.{over}
 use Rattle.cells.specs.Cells.{over_front}
-use Rattle.cells.specs.Loop.{turns_ext}
 use Rattle.slots.specs.Slots.{with_set}
 use Rattle.live.specs.Holders.{with_holders}
 use Rattle.live.specs.Merged.{merged_set}
-use Rattle.rows.specs.Rows.{renewed_all, least_of, least_found, bettered_found}
-use Rattle.rows.specs.Within.{chosen_code, Named}
+use Rattle.rows.specs.Rows.{renewed_all, least_of}
 use Rattle.tables.specs.declared.PairTooWide.{PairTooWide}
-use Rattle.tables.specs.declared.partner.Choice.{Choice}
 use Rattle.tables.specs.Lists.{Lists, lists_of, with_sets, with_bits, with_live, with_rows}
 use Rattle.merging.specs.Listed.{remaining}
 use Rattle.merging.specs.Agree.{words_same, rows_same, least_same}
-use Rattle.merging.specs.Merge.{first_at, second_at, marked, with_node, scanned_in, first_chosen, second_chosen, merged_in}
+use Rattle.merging.specs.Merge.{first_at, second_at, marked, with_node}
 use Rattle.merging.specs.Holds.{Given, Ghost}
 use Rattle.merging.specs.Connect.{Start, Reached, Connected, reached_start, reached_end, turn_ends, turn_refused, turn_merges}
-use Rattle.merging.specs.Scans.{scan_ends, scan_refused, scan_merges}
 
 -- ---- fronts of lists ----
 
@@ -40,14 +36,9 @@ scanned_front W weights n₀ m M =
     lists_of (with_holders M.words W M.live m) M.nodes M.sizes M.live
     (renewed_all (with_holders M.words W M.live m) W weights M.sizes n₀ M.live M.rows m)
 
--- the tables of a choice are merged into slot z, whose number is v, and the first m live slots are the others and z
-abbrev pub merged_front : ℕ → ℕ → Choice → ℕ → ℕ → ℕ → Lists → Lists
-merged_front W n₀ b z m v M =
-    with_live (merged_in W n₀ b z v M) (over M.live (remaining (first_chosen n₀ b) (second_chosen n₀ b) (take m M.live) ++ (z ∷ [])))
-
--- the same of the tables of the pair that stands for y
-abbrev pub merged_at : ℕ → ℕ → ℕ → ℕ → ℕ → ℕ → Lists → Lists
-merged_at W n₀ y z m v M =
+-- the tables of the pair that stands for y are merged into slot z, whose number is v, and the first m live slots are the others and z
+abbrev pub merged_front : ℕ → ℕ → ℕ → ℕ → ℕ → ℕ → Lists → Lists
+merged_front W n₀ y z m v M =
     lists_of
     (with_set M.words W z (merged_set M.words W (first_at n₀ M.rows y) (second_at n₀ M.rows y)))
     (set M.nodes z v)
@@ -93,27 +84,16 @@ module _ (W n₀ z m v f g s : ℕ) (M K₁ K₂ K₃ K₄ K₅ : Lists) (y₁ y
         k₅ ∙ ap (with_live K₄) e₅ ∙ ap fifth' p₄
 
     -- they are those of the merge of the pair that stands for y
-    pub merged_all : (y : ℕ) → f ≡ first_at n₀ M.rows y → g ≡ second_at n₀ M.rows y → s ≡ get_or M.rows y 0 / 512 → K₅ ≡ merged_at W n₀ y z m v M
+    pub merged_all : (y : ℕ) → f ≡ first_at n₀ M.rows y → g ≡ second_at n₀ M.rows y → s ≡ get_or M.rows y 0 / 512 → K₅ ≡ merged_front W n₀ y z m v M
     merged_all y ef eg es = written_all ∙ (λ i. written_front W z m v (ef i) (eg i) (es i) M)
 
-    -- and those of the merge of a choice
-    pub merged_all_chosen : (b : Choice) → f ≡ first_chosen n₀ b → g ≡ second_chosen n₀ b → s ≡ b.pair.bits → K₅ ≡ merged_front W n₀ b z m v M
-    merged_all_chosen b ef eg es = written_all ∙ (λ i. written_front W z m v (ef i) (eg i) (es i) M)
-
--- the five lists that a merge of a choice leaves
-pub lists_merged_front : (W n₀ : ℕ) (b : Choice) (z m v : ℕ) (M : Lists) (words nodes sizes live rows : List ℕ)
-    → words ≡ with_set M.words W z (merged_set M.words W (first_chosen n₀ b) (second_chosen n₀ b)) → nodes ≡ set M.nodes z v → sizes ≡ set M.sizes z b.pair.bits
-    → live ≡ over M.live (remaining (first_chosen n₀ b) (second_chosen n₀ b) (take m M.live) ++ (z ∷ []))
-    → rows ≡ marked M.rows (first_chosen n₀ b) (second_chosen n₀ b) z → lists_of words nodes sizes live rows ≡ merged_front W n₀ b z m v M
-lists_merged_front W n₀ b z m v M words nodes sizes live rows p q r s t = λ i. lists_of (p i) (q i) (r i) (s i) (t i)
-
--- and those that a merge of the pair that stands for y leaves
-pub lists_merged_at : (W n₀ y z m v : ℕ) (M : Lists) (words nodes sizes live rows : List ℕ)
+-- the five lists that it leaves
+pub lists_merged_front : (W n₀ y z m v : ℕ) (M : Lists) (words nodes sizes live rows : List ℕ)
     → words ≡ with_set M.words W z (merged_set M.words W (first_at n₀ M.rows y) (second_at n₀ M.rows y)) → nodes ≡ set M.nodes z v
     → sizes ≡ set M.sizes z (get_or M.rows y 0 / 512)
     → live ≡ over M.live (remaining (first_at n₀ M.rows y) (second_at n₀ M.rows y) (take m M.live) ++ (z ∷ []))
-    → rows ≡ marked M.rows (first_at n₀ M.rows y) (second_at n₀ M.rows y) z → lists_of words nodes sizes live rows ≡ merged_at W n₀ y z m v M
-lists_merged_at W n₀ y z m v M words nodes sizes live rows p q r s t = λ i. lists_of (p i) (q i) (r i) (s i) (t i)
+    → rows ≡ marked M.rows (first_at n₀ M.rows y) (second_at n₀ M.rows y) z → lists_of words nodes sizes live rows ≡ merged_front W n₀ y z m v M
+lists_merged_front W n₀ y z m v M words nodes sizes live rows p q r s t = λ i. lists_of (p i) (q i) (r i) (s i) (t i)
 
 -- a scan of the first m slots is one of all slots of the front
 module _ (live : List ℕ) (m : ℕ) (room : m ≤ length live) where
@@ -135,11 +115,6 @@ module _ (live : List ℕ) (m : ℕ) (room : m ≤ length live) where
 
   pub least_front : (sizes : List ℕ) (n₀ : ℕ) (rows : List ℕ) → least_of sizes n₀ rows live m ≡ least_of sizes n₀ rows F (length F)
   least_front sizes n₀ rows = ap (least_of sizes n₀ rows live) (sym long) ∙ least_same live F front_same sizes n₀ rows
-
-  pub found_front : (sizes : List ℕ) (n₀ : ℕ) (rows : List ℕ) → least_found sizes n₀ rows live m ≡ least_found sizes n₀ rows F (length F)
-  unfolding least_found
-  found_front sizes n₀ rows =
-      ap (least_found sizes n₀ rows live) (sym long) ∙ turns_ext _ _ 256 (length F) (λ k t b. ap (bettered_found sizes n₀ rows t) (front_same k b))
 
 -- ---- the merging ----
 
@@ -205,48 +180,6 @@ module _ (G : Given) (S : Ghost) where
               (sym (ap (take (m - 1)) e₄ ∙ less_front M.live s (lists_of words' nodes' sizes' s rows') kids' live_room J)) J
 
       -- a turn, from the lists that the scan and the merge leave
-      module _ (less : t < n0) (K : Lists) (r : Result (Option Choice) PairTooWide) (ek : K ≡ scanned_front W weights n0 m M)
-          (er : chosen_code r ≡ least_found K.sizes n0 K.rows K.live m)
-        where
-          room_after : m ≤ length K.live
-          room_after = omega (arith, live_room, ap (λ (l : Lists). length l.live) ek)
-
-          ek' : front_live m K ≡ scanned_in W weights n0 (front_live m M)
-          ek' =
-              let p : with_holders M.words W M.live m ≡ with_holders M.words W (take m M.live) (length (take m M.live)) = holders_front M.live m live_room M.words W in
-              let q : renewed_all (with_holders M.words W M.live m) W weights M.sizes n0 M.live M.rows m
-              ≡ renewed_all (with_holders M.words W (take m M.live) (length (take m M.live))) W weights M.sizes n0 (take m M.live) M.rows (length (take m M.live)) =
-              ap (λ (a : List ℕ). renewed_all a W weights M.sizes n0 M.live M.rows m) p
-              ∙ rows_front M.live m live_room (with_holders M.words W (take m M.live) (length (take m M.live))) W weights M.sizes n0 M.rows in
-              ap (front_live m) ek ∙ (λ i. lists_of (p i) M.nodes M.sizes (take m M.live) (q i))
-
-          er'' : chosen_code r ≡ least_found K.sizes n0 K.rows (take m K.live) (length (take m K.live))
-          er'' = er ∙ found_front K.live m room_after K.sizes n0 K.rows
-
-          -- a pair is too wide
-          pub scan_refused_front : (nodes sizes live kids' : List ℕ) (e : PairTooWide) → r ≡ Err e → Connected G S kids₀ nodes sizes live kids' (Err e)
-          scan_refused_front nodes sizes live kids' e z =
-              scan_refused G S W n n0 count weights kids₀ (front_live n0 M₀) start t (front_live m M) kids R less (front_live m K) r ek' er'' nodes sizes live kids' e z
-
-          -- no pair is left
-          pub scan_ends_front : r ≡ Ok None → Connected G S kids₀ K.nodes K.sizes (take m K.live) kids (Ok t)
-          scan_ends_front z = scan_ends G S W n n0 count weights kids₀ (front_live n0 M₀) start t (front_live m M) kids R less (front_live m K) r ek' er'' z
-
-          -- the least pair is merged
-          pub scan_merges_front : (b : Choice) → r ≡ Ok (Some b) → Named K.rows (Some b) → (K' : Lists) (kids' : List ℕ)
-              → K' ≡ merged_front W n0 b (n0 + t) m (n + (count + t)) K
-              → kids' ≡ with_node kids (count + t) (get_or K.nodes (first_chosen n0 b) 0) (get_or K.nodes (second_chosen n0 b) 0)
-              → Reached G S kids₀ (t + 1) (front_live (m - 1) K') kids'
-          scan_merges_front b z named K' kids' e e₆ =
-              let s : List ℕ = remaining (first_chosen n0 b) (second_chosen n0 b) (take m K.live) ++ ((n0 + t) ∷ []) in
-              let N' : Lists = merged_in W n0 b (n0 + t) (n + (count + t)) K in
-              let J : Reached G S kids₀ (t + 1) (with_live N' s) kids' =
-              scan_merges G S W n n0 count weights kids₀ (front_live n0 M₀) start t (front_live m M) kids R less (front_live m K) r ek' er''
-              b z named (with_live N' s) kids' refl e₆ in
-              subst (λ (l : Lists). Reached G S kids₀ (t + 1) l kids')
-              (sym (ap (front_live (m - 1)) e ∙ ap (with_live N') (less_front K.live s N' kids' room_after J))) J
-
-      -- the same by the number of the least pair
       module _ (less : t < n0) (K : Lists) (y : ℕ) (ek : K ≡ scanned_front W weights n0 m M) (ey : y ≡ least_of K.sizes n0 K.rows K.live m) where
         abbrev L : Lists
         L = scanned_front W weights n0 m M
@@ -255,20 +188,20 @@ module _ (G : Given) (S : Ghost) where
         least_at = ey ∙ ap (λ (l : Lists). least_of l.sizes n0 l.rows l.live m) ek
 
         -- a pair is too wide
-        pub scan_refused_at : (nodes sizes live kids' : List ℕ) (e : PairTooWide) → y ≡ 257 → Connected G S kids₀ nodes sizes live kids' (Err e)
-        scan_refused_at nodes sizes live kids' e z = turn_refused_front less y L.words L.rows refl refl least_at nodes sizes live kids' e z
+        pub scan_refused_front : (nodes sizes live kids' : List ℕ) (e : PairTooWide) → y ≡ 257 → Connected G S kids₀ nodes sizes live kids' (Err e)
+        scan_refused_front nodes sizes live kids' e z = turn_refused_front less y L.words L.rows refl refl least_at nodes sizes live kids' e z
 
         -- no pair is left
-        pub scan_ends_at : y ≡ 256 → Connected G S kids₀ K.nodes K.sizes (take m K.live) kids (Ok t)
-        scan_ends_at z =
+        pub scan_ends_front : y ≡ 256 → Connected G S kids₀ K.nodes K.sizes (take m K.live) kids (Ok t)
+        scan_ends_front z =
             subst (λ (l : Lists). Connected G S kids₀ l.nodes l.sizes (take m l.live) kids (Ok t)) (sym ek)
             (turn_ends_front less y L.words L.rows refl refl least_at z)
 
         -- the least pair is merged
-        pub scan_merges_at : (K' : Lists) (kids' : List ℕ) → K' ≡ merged_at W n0 y (n0 + t) m (n + (count + t)) K
+        pub scan_merges_front : (K' : Lists) (kids' : List ℕ) → K' ≡ merged_front W n0 y (n0 + t) m (n + (count + t)) K
             → kids' ≡ with_node kids (count + t) (get_or K.nodes (first_at n0 K.rows y) 0) (get_or K.nodes (second_at n0 K.rows y) 0)
             → (y ≡ 256 → ⊥) → (y ≡ 257 → ⊥) → Reached G S kids₀ (t + 1) (front_live (m - 1) K') kids'
-        scan_merges_at K' kids' e e₆ n₁ n₂ =
-            subst (λ (l : Lists). Reached G S kids₀ (t + 1) (front_live (m - 1) l) kids') (sym (e ∙ ap (merged_at W n0 y (n0 + t) m (n + (count + t))) ek))
+        scan_merges_front K' kids' e e₆ n₁ n₂ =
+            subst (λ (l : Lists). Reached G S kids₀ (t + 1) (front_live (m - 1) l) kids') (sym (e ∙ ap (merged_front W n0 y (n0 + t) m (n + (count + t))) ek))
             (turn_merges_front less y L.words L.rows refl refl least_at (n0 + t) refl _ _ _ _ _ kids' refl refl refl refl refl
             (e₆ ∙ ap (λ (l : Lists). with_node kids (count + t) (get_or l.nodes (first_at n0 l.rows y) 0) (get_or l.nodes (second_at n0 l.rows y) 0)) ek) n₁ n₂)

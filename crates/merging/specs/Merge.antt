@@ -1,11 +1,9 @@
 -- What a merge writes into the lent lists. Assumes nothing.
-use Rattle.std.specs.Prelude.{◌≡◌, List, [], ◌∷◌, ◌++◌, ℕ, ◌+◌, ◌*◌, ◌%◌, ◌<◌, ltb, length, get_or, set}
+use Rattle.std.specs.Prelude.{◌≡◌, List, [], ◌∷◌, ◌++◌, ℕ, ◌+◌, ◌*◌, ◌/◌, ◌%◌, ◌<◌, ltb, length, get_or, set}
 use Rattle.laws.specs.Booleans.{by_cases}
 use Rattle.slots.specs.Slots.{with_set}
-use Rattle.tables.specs.declared.partner.Choice.{Choice}
-use Rattle.tables.specs.declared.Row.{Row}
-use Rattle.tables.specs.declared.Row.TheVariants.{Stale, Gone}
-use Rattle.tables.specs.Lists.{Lists, lists_of, coded, coded-set}
+use Rattle.tables.specs.declared.row.Row.{Row}
+use Rattle.tables.specs.Lists.{Lists, lists_of, stale, gone, coded, coded-set}
 use Rattle.std.proofs.Common.{◌∙◌, ap}
 use Rattle.live.specs.Holders.{with_holders}
 use Rattle.live.specs.Merged.{merged_set}
@@ -40,34 +38,28 @@ scanned_in W weights n₀ M =
     lists_of (with_holders M.words W M.live (length M.live)) M.nodes M.sizes M.live
     (renewed_all (with_holders M.words W M.live (length M.live)) W weights M.sizes n₀ M.live M.rows (length M.live))
 
--- the tables of a choice: the one that goes first, and the one that goes second
-abbrev pub first_chosen : ℕ → Choice → ℕ
-first_chosen n₀ b = first_of n₀ b.pair.other b.table
-
-abbrev pub second_chosen : ℕ → Choice → ℕ
-second_chosen n₀ b = second_of n₀ b.pair.other b.table
-
--- the tables of a choice are merged into slot z, whose number is v
-abbrev pub merged_in : ℕ → ℕ → Choice → ℕ → ℕ → Lists → Lists
-merged_in W n₀ b z v M =
+-- the tables of the pair that stands for y are merged into slot z, whose number is v
+abbrev pub merged_in : ℕ → ℕ → ℕ → ℕ → ℕ → Lists → Lists
+merged_in W n₀ y z v M =
     lists_of
-    (with_set M.words W z (merged_set M.words W (first_chosen n₀ b) (second_chosen n₀ b)))
+    (with_set M.words W z (merged_set M.words W (first_at n₀ M.rows y) (second_at n₀ M.rows y)))
     (set M.nodes z v)
-    (set M.sizes z b.pair.bits)
-    (remaining (first_chosen n₀ b) (second_chosen n₀ b) M.live ++ (z ∷ []))
-    (marked M.rows (first_chosen n₀ b) (second_chosen n₀ b) z)
+    (set M.sizes z (get_or M.rows y 0 / 512))
+    (remaining (first_at n₀ M.rows y) (second_at n₀ M.rows y) M.live ++ (z ∷ []))
+    (marked M.rows (first_at n₀ M.rows y) (second_at n₀ M.rows y) z)
 
 -- the rows that a merge writes
-pub marked_coded : (rows : List Row) (i j k x y z : ℕ) → i ≡ x → j ≡ y → k ≡ z → coded (set (set (set rows i Gone) j Gone) k Stale) ≡ marked (coded rows) x y z
+pub marked_coded : (rows : List Row) (i j k x y z : ℕ) → i ≡ x → j ≡ y → k ≡ z → coded (set (set (set rows i gone) j gone) k stale) ≡ marked (coded rows) x y z
 marked_coded rows i j k x y z ei ej ek =
-    coded-set (set (set rows i Gone) j Gone) k Stale
-    ∙ ap (λ (l : List ℕ). set l k 258) (coded-set (set rows i Gone) j Gone ∙ ap (λ (l : List ℕ). set l j 259) (coded-set rows i Gone))
+    coded-set (set (set rows i gone) j gone) k stale
+    ∙ ap (λ (l : List ℕ). set l k 258) (coded-set (set rows i gone) j gone ∙ ap (λ (l : List ℕ). set l j 259) (coded-set rows i gone))
     ∙ (λ t. set (set (set (coded rows) (ei t) 259) (ej t) 259) (ek t) 258)
 
 -- the lists that it leaves
-pub lists_merged : (W n₀ : ℕ) (b : Choice) (z v : ℕ) (M : Lists) (words nodes sizes live rows : List ℕ)
-    → words ≡ with_set M.words W z (merged_set M.words W (first_chosen n₀ b) (second_chosen n₀ b)) → nodes ≡ set M.nodes z v → sizes ≡ set M.sizes z b.pair.bits
-    → live ≡ remaining (first_chosen n₀ b) (second_chosen n₀ b) M.live ++ (z ∷ []) → rows ≡ marked M.rows (first_chosen n₀ b) (second_chosen n₀ b) z
-    → lists_of words nodes sizes live rows ≡ merged_in W n₀ b z v M
-lists_merged W n₀ b z v M words nodes sizes live rows p q r s t =
+pub lists_merged : (W n₀ y z v : ℕ) (M : Lists) (words nodes sizes live rows : List ℕ)
+    → words ≡ with_set M.words W z (merged_set M.words W (first_at n₀ M.rows y) (second_at n₀ M.rows y)) → nodes ≡ set M.nodes z v
+    → sizes ≡ set M.sizes z (get_or M.rows y 0 / 512)
+    → live ≡ remaining (first_at n₀ M.rows y) (second_at n₀ M.rows y) M.live ++ (z ∷ [])
+    → rows ≡ marked M.rows (first_at n₀ M.rows y) (second_at n₀ M.rows y) z → lists_of words nodes sizes live rows ≡ merged_in W n₀ y z v M
+lists_merged W n₀ y z v M words nodes sizes live rows p q r s t =
     λ i. record { words = p i; nodes = q i; sizes = r i; live = s i; rows = t i }

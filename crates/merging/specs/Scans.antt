@@ -1,19 +1,13 @@
 -- A turn of greedy's merging, from the lists that the scan and the merge leave. Assumes nothing.
-use Rattle.std.specs.Prelude.{◌≡◌, refl, List, [], ◌∷◌, ◌++◌, ℕ, ◌+◌, ◌*◌, ◌/◌, ◌%◌, ◌<◌, length, get_or, set, Option, None, Some, Result, Err, Ok}
+use Rattle.std.specs.Prelude.{◌≡◌, refl, List, [], ◌∷◌, ◌++◌, ℕ, ◌+◌, ◌*◌, ◌<◌, length, get_or, set, Err, Ok}
 use Rattle.std.proofs.Common.{sym, ◌∙◌, ap, ap₂, subst, zero-add, suc-add, arith}
 use Rattle.spec.specs.Tree.{flat_of}
 use Rattle.tables.specs.declared.PairTooWide.{PairTooWide}
-use Rattle.tables.specs.declared.partner.Choice.{Choice}
-use Rattle.tables.specs.Lists.{Lists, pair_slot, pair_size}
-use Rattle.slots.specs.Slots.{with_set}
-use Rattle.live.specs.Merged.{merged_set}
-use Rattle.scores.specs.Scores.{first_of, second_of}
-use Rattle.rows.specs.Rows.{least_of, least_found}
-use Rattle.rows.specs.Within.{chosen_code, Named}
-use Rattle.merging.specs.Listed.{remaining}
-use Rattle.merging.specs.Merge.{first_at, second_at, marked, with_node, scanned_in, first_chosen, second_chosen, merged_in}
+use Rattle.tables.specs.Lists.{Lists}
+use Rattle.rows.specs.Rows.{least_of}
+use Rattle.merging.specs.Merge.{first_at, second_at, with_node, scanned_in, merged_in}
 use Rattle.merging.specs.Holds.{Given, Ghost}
-use Rattle.merging.specs.Connect.{Start, Reached, Connected, least_known, turn_ends, turn_refused, turn_merges}
+use Rattle.merging.specs.Connect.{Start, Reached, Connected, turn_ends, turn_refused, turn_merges}
 
 -- ---- the children of the array so far, and behind them those of the new nodes ----
 
@@ -35,47 +29,32 @@ node_behind pre l c t u v e =
 
 module _ (G : Given) (S : Ghost) (W n n0 count : ℕ) (weights kids₀ : List ℕ) (M₀ : Lists) (start : Start G S M₀ W n n0 count weights kids₀)
     (t : ℕ) (M : Lists) (kids : List ℕ) (R : Reached G S kids₀ t M kids) (less : t < n0)
-    (K : Lists) (r : Result (Option Choice) PairTooWide) (ek : K ≡ scanned_in W weights n0 M) (er : chosen_code r ≡ least_found K.sizes n0 K.rows K.live (length K.live))
+    (K : Lists) (y : ℕ) (ek : K ≡ scanned_in W weights n0 M) (ey : y ≡ least_of K.sizes n0 K.rows K.live (length K.live))
   where
     abbrev L : Lists
     L = scanned_in W weights n0 M
 
-    least_is : chosen_code r ≡ least_of M.sizes n0 L.rows M.live (length M.live)
-    least_is =
-        er ∙ ap (λ (l : Lists). least_found l.sizes n0 l.rows l.live (length l.live)) ek
-        ∙ least_known G S W n n0 count weights kids₀ M₀ start t M kids R L.words L.rows refl refl
+    least_is : y ≡ least_of M.sizes n0 L.rows M.live (length M.live)
+    least_is = ey ∙ ap (λ (l : Lists). least_of l.sizes n0 l.rows l.live (length l.live)) ek
 
     -- a pair is too wide
-    pub scan_refused : (nodes sizes live kids' : List ℕ) (e : PairTooWide) → r ≡ Err e → Connected G S kids₀ nodes sizes live kids' (Err e)
+    pub scan_refused : (nodes sizes live kids' : List ℕ) (e : PairTooWide) → y ≡ 257 → Connected G S kids₀ nodes sizes live kids' (Err e)
     scan_refused nodes sizes live kids' e z =
-        turn_refused G S W n n0 count weights kids₀ M₀ start t M kids R less (chosen_code r) L.words L.rows refl refl least_is nodes sizes live kids' e (ap chosen_code z)
+        turn_refused G S W n n0 count weights kids₀ M₀ start t M kids R less y L.words L.rows refl refl least_is nodes sizes live kids' e z
 
     -- no pair is left
-    pub scan_ends : r ≡ Ok None → Connected G S kids₀ K.nodes K.sizes K.live kids (Ok t)
+    pub scan_ends : y ≡ 256 → Connected G S kids₀ K.nodes K.sizes K.live kids (Ok t)
     scan_ends z =
         subst (λ (l : Lists). Connected G S kids₀ l.nodes l.sizes l.live kids (Ok t)) (sym ek)
-        (turn_ends G S W n n0 count weights kids₀ M₀ start t M kids R less (chosen_code r) L.words L.rows refl refl least_is (ap chosen_code z))
+        (turn_ends G S W n n0 count weights kids₀ M₀ start t M kids R less y L.words L.rows refl refl least_is z)
 
     -- the least pair is merged
-    pub scan_merges : (b : Choice) → r ≡ Ok (Some b) → Named K.rows (Some b) → (K' : Lists) (kids' : List ℕ) → K' ≡ merged_in W n0 b (n0 + t) (n + (count + t)) K
-        → kids' ≡ with_node kids (count + t) (get_or K.nodes (first_chosen n0 b) 0) (get_or K.nodes (second_chosen n0 b) 0)
-        → Reached G S kids₀ (t + 1) K' kids'
-    scan_merges b z named K' kids' e e₆ =
-        let y : ℕ = b.table in
-        let ey : chosen_code r ≡ y = ap chosen_code z in
-        let h : get_or L.rows y 0 ≡ b.pair.bits * 512 + b.pair.other = ap (λ (l : Lists). get_or l.rows y 0) (sym ek) ∙ named in
-        let slot : b.pair.other ≡ get_or L.rows y 0 % 512 = sym (ap (λ (c : ℕ). c % 512) h ∙ pair_slot b.pair) in
-        let fs : first_chosen n0 b ≡ first_at n0 L.rows y = ap (λ (x : ℕ). first_of n0 x y) slot in
-        let gs : second_chosen n0 b ≡ second_at n0 L.rows y = ap (λ (x : ℕ). second_of n0 x y) slot in
-        let ss : b.pair.bits ≡ get_or L.rows y 0 / 512 = sym (ap (λ (c : ℕ). c / 512) h ∙ pair_size b.pair) in
-        subst (λ (l : Lists). Reached G S kids₀ (t + 1) l kids') (sym (e ∙ ap (merged_in W n0 b (n0 + t) (n + (count + t))) ek))
-        (turn_merges G S W n n0 count weights kids₀ M₀ start t M kids R less y L.words L.rows refl refl (sym ey ∙ least_is)
-        (n0 + t) refl _ _ _ _ _ kids'
-        (ap₂ (λ (a c : ℕ). with_set L.words W (n0 + t) (merged_set L.words W a c)) fs gs)
-        refl
-        (ap (set L.sizes (n0 + t)) ss)
-        (ap₂ (λ (a c : ℕ). remaining a c L.live ++ ((n0 + t) ∷ [])) fs gs)
-        (ap₂ (λ (a c : ℕ). marked L.rows a c (n0 + t)) fs gs)
-        (e₆ ∙ ap (λ (l : Lists). with_node kids (count + t) (get_or l.nodes (first_chosen n0 b) 0) (get_or l.nodes (second_chosen n0 b) 0)) ek
-        ∙ ap₂ (λ (a c : ℕ). with_node kids (count + t) (get_or L.nodes a 0) (get_or L.nodes c 0)) fs gs)
-        (λ q. omega (arith, b.slot)) (λ q. omega (arith, b.slot)))
+    pub scan_merges : (K' : Lists) (kids' : List ℕ) → K' ≡ merged_in W n0 y (n0 + t) (n + (count + t)) K
+        → kids' ≡ with_node kids (count + t) (get_or K.nodes (first_at n0 K.rows y) 0) (get_or K.nodes (second_at n0 K.rows y) 0)
+        → (y ≡ 256 → ⊥) → (y ≡ 257 → ⊥) → Reached G S kids₀ (t + 1) K' kids'
+    scan_merges K' kids' e e₆ n₁ n₂ =
+        subst (λ (l : Lists). Reached G S kids₀ (t + 1) l kids') (sym (e ∙ ap (merged_in W n0 y (n0 + t) (n + (count + t))) ek))
+        (turn_merges G S W n n0 count weights kids₀ M₀ start t M kids R less y L.words L.rows refl refl least_is
+        (n0 + t) refl _ _ _ _ _ kids' refl refl refl refl refl
+        (e₆ ∙ ap (λ (l : Lists). with_node kids (count + t) (get_or l.nodes (first_at n0 l.rows y) 0) (get_or l.nodes (second_at n0 l.rows y) 0)) ek)
+        n₁ n₂)

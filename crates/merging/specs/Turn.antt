@@ -1,17 +1,17 @@
 -- One turn of greedy over the lent lists, up to the least pair: merging ends, is refused, or goes on with that pair. Assumes nothing.
 use Rattle.std.specs.Prelude.{true, false, ◌≡◌, List, ℕ, suc, ◌<◌, length, get_or, Err, Ok}
-use Rattle.std.proofs.Common.{sym, ◌∙◌, subst, arith}
+use Rattle.std.proofs.Common.{sym, subst, arith}
 use Rattle.spec.specs.Lists.{memb}
 use Rattle.spec.specs.Network.{Network}
 use Rattle.spec.specs.Tree.{Tree}
 use Rattle.spec.specs.declared.Refusal.TheVariants.{TableTooWide}
-use Rattle.spec.specs.Greedy.{size_of, merged_size, connect, merge}
+use Rattle.spec.specs.Greedy.{size_of, connect, merge}
 use Rattle.laws.specs.GreedySlots.{pair_at}
 use Rattle.laws.specs.ListLaws.{memb_at}
 use Rattle.live.specs.Holders.{with_holders}
-use Rattle.rows.specs.Rows.{renewed_all, unfound, not_unfound, least_of}
+use Rattle.rows.specs.Rows.{renewed_all, least_of}
 use Rattle.rows.specs.Pairs.{Says}
-use Rattle.rows.specs.Known.{Rises, Share, TooWide, Before, code_for, code_none, RowTo, none, over, pair}
+use Rattle.rows.specs.Known.{Rises, Share, TooWide, Before, code_for, RowTo}
 use Rattle.rows.specs.Renewed.{rows_are}
 use Rattle.rows.specs.LeastRow.{LeastTo, nothing, too_broad, at, least_is}
 use Rattle.merging.specs.Listed.{rising_rises, listed_ends, listed_refuses, listed_merges}
@@ -62,19 +62,6 @@ module _ (G : Given) (S : Ghost) (M : Lists) (H : Holds G S M) where
 
   pub entries : (q : ℕ) → q < length L → RowTo N n₀ tree L q q (get_or rows₁ (get_or L q 0) 0)
   entries q b = rows_are N n₀ tree L rises words₁ G.width N.weights M.sizes said S.next used M.rows H.kept q b
-
-  -- so each says something of its table's pairs
-  pub entries_found : (q : ℕ) → q < length L → unfound (get_or rows₁ (get_or L q 0) 0) ≡ false
-  entries_found q b = go _ (entries q b)
-    where
-      go : (c : ℕ) → RowTo N n₀ tree L q q c → unfound c ≡ false
-      go c (none e h) = not_unfound c (λ z. omega (arith, e)) (λ z. omega (arith, e))
-      go c (over e i l s w) = not_unfound c (λ z. omega (arith, e)) (λ z. omega (arith, e))
-      go c (pair i e l s w h) =
-          let x = get_or L i 0 in
-          let m = merged_size N (pair_at n₀ tree x (get_or L q 0)) in
-          let low : x < 256 = small x (memb_at L i (omega arith)) in
-          not_unfound c (λ z. code_none m x low 2 (omega arith) (sym e ∙ z)) (λ z. code_none m x low 3 (omega arith) (sym e ∙ z))
 
   -- the least pair: that of y with x, and no pair is too wide
   pub record Chosen (y : ℕ) : Type 0 where

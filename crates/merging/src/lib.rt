@@ -2,29 +2,29 @@
 //! Greedy's merging, turn after turn: the two tables of the least pair make one.
 //! A table keeps its slot, and each new table takes the next one.
 ghost use Rattle.std.specs.Prelude.{[], ◌∷◌, ◌++◌, ◌≡◌, ◌+◌, ◌<◌, ◌≤◌, length, get_or, IfOk};
-ghost use Rattle.tables.specs.Lists.{coded, lists_in, IsSameLoan};
-ghost use Rattle.rows.specs.Rows.{least_found};
-ghost use Rattle.rows.specs.Within.{chosen_code, NamedIn};
+ghost use Rattle.tables.specs.Lists.{coded, chosen_code, lists_in};
+ghost use Rattle.rows.specs.Rows.{least_of};
 ghost use Rattle.merging.specs.Listed.{remaining};
 ghost use Rattle.merging.specs.Holds.{Given, Ghost};
 ghost use Rattle.merging.specs.Connect.{Start, Connected};
 ghost use Rattle.merging.specs.Scans.{kids_behind};
-ghost use Rattle.merging.specs.Merge.{first_chosen, second_chosen, with_node, scanned_in, merged_in};
+ghost use Rattle.merging.specs.Merge.{first_at, second_at, with_node, scanned_in, merged_in};
 
 // Stays: `tables: &mut Tables, scoring: &Scoring`: the tables are written, and what the scores are made of beside them stays; a value that held both would lend both to be written.
-// Stays: `IsSameLoan tables.old tables.new`: the words are lent in the tables, and only a clause can say that the same come back.
 // Stays: `x: usize, y: usize`: two slots that are taken out of one list.
 use arrayvec::ArrayVec;
-use tables::partner::Choice;
+use rows::Pairs;
+use tables::PairTooWide;
+use tables::choice::Choice;
+use tables::row::Row;
 use tables::scoring::Scoring;
 use tables::slotted::Tables;
-use tables::{PairTooWide, Row};
 
 /// The most tables at the start: the nodes that they make take the slots behind theirs, of 256 in all.
 const MAX_TABLES: usize = 128;
 
 /// Takes the slots `x` and `y` out of a list.
-pub fn remove<const CAP: usize>(live: &mut ArrayVec<u8, CAP>, x: usize, y: usize)
+pub fn remove<const CAP: usize>(live: &mut ArrayVec<u16, CAP>, x: usize, y: usize)
     ensures items { live.new.items ≡ remaining x y live.old.items }
     ensures few { length live.new.items ≤ length live.old.items }
 {
@@ -51,50 +51,71 @@ struct Children {
     right: u16,
 }
 
-/// Merges the tables of a choice into slot `z`, whose number is `node`.
+/// Merges the two tables of the pair that the row of slot `y` names into slot `z`, whose number is `node`.
 // Stays: the tables' lists go by slot, and each is lent by itself elsewhere.
-fn merge(tables: &mut Tables, scoring: &Scoring, choice: Choice, z: u8, node: u16) -> Children
+fn merge(
+    sets: &mut [u64],
+    tables: &mut Tables,
+    scoring: &Scoring,
+    y: u16,
+    z: u16,
+    node: u16,
+) -> Children
     requires { length tables.old.live.items < 256 }
-    ensures same { IsSameLoan tables.old tables.new }
-    ensures lists { lists_in tables.new ≡ merged_in scoring.now.width scoring.now.start choice z node (lists_in tables.old) }
+    ensures lists { lists_in sets.new tables.new ≡ merged_in scoring.now.width scoring.now.start y z node (lists_in sets.old tables.old) }
     ensures few { length tables.new.live.items ≤ length tables.old.live.items + 1 }
-    ensures left { result.left ≡ get_or tables.old.nodes (first_chosen scoring.now.start choice) 0 }
-    ensures right { result.right ≡ get_or tables.old.nodes (second_chosen scoring.now.start choice) 0 }
+    ensures left { result.left ≡ get_or tables.old.nodes (first_at scoring.now.start (coded tables.old.rows) y) 0 }
+    ensures right { result.right ≡ get_or tables.old.nodes (second_at scoring.now.start (coded tables.old.rows) y) 0 }
 {
-    let other = usize::from(choice.pair.other);
-    let table = usize::from(choice.table);
-    let first = scores::first(scoring.start, other, table);
-    let second = scores::second(scoring.start, other, table);
-    let left = tables.nodes[first];
-    let right = tables.nodes[second];
     let slot = usize::from(z);
-    live::put_merged(&mut *tables.sets, scoring.width, first, second, slot);
-    tables.nodes[slot] = node;
-    tables.sizes[slot] = usize::from(choice.pair.bits);
-    tables.rows[first] = Row::Gone;
-    tables.rows[second] = Row::Gone;
-    tables.rows[slot] = Row::Stale;
+    let table = usize::from(y);
+    let row = Row::at(&tables.rows, table);
+    let first = scores::first(scoring.start, row.other(), table);
+    let second = scores::second(scoring.start, row.other(), table);
+    let left = cells::get_or(&tables.nodes, first, 0);
+    let right = cells::get_or(&tables.nodes, second, 0);
+    live::put_merged(sets, scoring.width, first, second, slot);
+    cells::put(&mut tables.nodes, slot, node);
+    cells::put(&mut tables.sizes, slot, row.bits());
+    cells::put(&mut tables.rows, first, Row::GONE);
+    cells::put(&mut tables.rows, second, Row::GONE);
+    cells::put(&mut tables.rows, slot, Row::STALE);
     remove(&mut tables.live, first, second);
     tables.live.push(z);
     Children { left, right }
 }
 
-/// Scans the live tables for the least pair of all, none where no two share an index; refused where a pair is too wide.
-fn scan(tables: &mut Tables, scoring: &Scoring) -> Result<Option<Choice>, PairTooWide>
-    ensures same { IsSameLoan tables.old tables.new }
-    ensures lists { lists_in tables.new ≡ scanned_in scoring.now.width scoring.now.weights.now scoring.now.start (lists_in tables.old) }
-    ensures least { chosen_code result ≡ least_found tables.new.sizes scoring.now.start (coded tables.new.rows) tables.new.live.items (length tables.new.live.items) }
-    ensures named { NamedIn (coded tables.new.rows) result }
+/// Scans the live tables for the one with the least pair of all, none where no two share an index; refused where a pair is too wide.
+fn scan(
+    sets: &mut [u64],
+    tables: &mut Tables,
+    scoring: &Scoring,
+) -> Result<Option<Choice>, PairTooWide>
+    ensures lists { lists_in sets.new tables.new ≡ scanned_in scoring.now.width scoring.now.weights.now scoring.now.start (lists_in sets.old tables.old) }
+    ensures least { chosen_code result ≡ least_of tables.new.sizes scoring.now.start (coded tables.new.rows) tables.new.live.items (length tables.new.live.items) }
 {
-    live::mark_holders(tables, scoring.width);
-    rows::renew_all(tables, scoring);
-    rows::least(&*tables, scoring.start)
+    live::put_holders(sets, scoring.width, tables.live.as_slice());
+    rows::renew_all(
+        sets,
+        &tables.sizes,
+        scoring,
+        tables.live.as_slice(),
+        &mut tables.rows,
+    );
+    let pairs = Pairs {
+        sizes: &tables.sizes,
+        start: scoring.start,
+        rows: &tables.rows,
+    };
+    pairs.least(tables.live.as_slice())
 }
 
 /// Merges the least pair of the live tables and its like until none share an index, and returns how many merges there were; refused where a
 /// pair is too wide. The array so far has `count` nodes over `n` leaves. Each merge makes one more, whose children are put into `kids`.
+/// Of more than 128 tables none is merged, and 0 is returned: greedy starts with no more.
 // Stays: the turns write the tables and may be refused, which a closure of `position` would hold and hide.
 pub fn connect(
+    sets: &mut [u64],
     tables: &mut Tables,
     scoring: &Scoring,
     n: usize,
@@ -102,9 +123,8 @@ pub fn connect(
     kids: &mut [u16],
 ) -> Result<usize, PairTooWide>
     requires { (n < 16384) × (count < 16384) × (scoring.now.start ≤ 256) }
-    ensures same { IsSameLoan tables.old tables.new }
     ensures bound { IfOk result (λ t. t ≤ scoring.now.start) }
-    ensures connected { (G : Given) (S : Ghost) → Start G S (lists_in tables.old) scoring.now.width n scoring.now.start count scoring.now.weights.now (kids_behind S kids.old) → Connected G S (kids_behind S kids.old) tables.new.nodes tables.new.sizes tables.new.live.items (kids_behind S kids.new) result }
+    ensures connected { (G : Given) (S : Ghost) → Start G S (lists_in sets.old tables.old) scoring.now.width n scoring.now.start count scoring.now.weights.now (kids_behind S kids.old) → Connected G S (kids_behind S kids.old) tables.new.nodes tables.new.sizes tables.new.live.items (kids_behind S kids.new) result }
 {
     // More tables than greedy ever starts with: `Start` cannot hold, since the slots of their nodes would run past the last one, so nothing is merged.
     if MAX_TABLES < scoring.start {
@@ -115,14 +135,14 @@ pub fn connect(
     }
     // Stays: a number of turns, over no list: each turn scans the tables that the last one left.
     for t in 0..scoring.start {
-        let Some(choice) = scan(tables, scoring)? else {
+        let Some(choice) = scan(sets, tables, scoring)? else {
             return Ok(t);
         };
         // Stays: the number fits by what is known here; `try_from` would add a failure that never comes.
-        let slot = (scoring.start + t) as u8;
+        let slot = (scoring.start + t) as u16;
         // Stays: the number fits by what is known here; `try_from` would add a failure that never comes.
         let node = (n + (count + t)) as u16;
-        let children = merge(tables, scoring, choice, slot, node);
+        let children = merge(sets, tables, scoring, choice.table, slot, node);
         put_node(kids, t, children.left, children.right);
     }
     Ok(scoring.start)

@@ -1,17 +1,19 @@
 -- The least pair of each live table, kept from turn to turn in a list by slot, and the least of all. Assumes nothing.
 -- An entry of the list is 256 where the table has no pair with one before it, 257 where such a pair is too wide, 258 where it is yet to be
 -- found, 259 for a table that is gone, and else 512 times the merged size bits and the other slot.
-use Rattle.std.specs.Prelude.{Bool, true, false, not, ◌&&◌, ◌||◌, ◌≡◌, List, eqb, length, get_or}
+use Rattle.std.specs.Prelude.{Bool, true, false, not, ◌&&◌, ◌||◌, ◌≡◌, List, Option, None, Some, eqb, length, get_or}
 use Rattle.std.proofs.Math.Bool.{cond}
 use Rattle.std.proofs.Math.Path.{refl, ap}
 use Rattle.std.proofs.Common.{sym, ◌∙◌, arith, length-set}
-use Prim.Native.Nat.{ℕ, zero, suc, ◌+◌, ◌-◌, ◌≤◌, ◌<◌, ◌/◌, ◌%◌}
+use Prim.Native.Nat.{ℕ, zero, suc, ◌+◌, ◌-◌, ◌≤◌, ◌/◌, ◌%◌}
 use Rattle.std.proofs.Math.ListN.{set}
 use borrow.Author.Tests.{eq-eqb, ne_eqb}
 use Rattle.spec.specs.Greedy.{Key, key_before}
 use Rattle.laws.specs.Booleans.{by_cases}
 use Rattle.cells.specs.Loop.{turns, turns_next}
 use Rattle.scores.specs.Scores.{key_at, row_of}
+use Rattle.tables.specs.declared.choice.Choice.{Choice}
+use Rattle.tables.specs.Lists.{choice_code}
 
 -- does an entry stand: it was found, and its other table is not gone
 abbrev pub stands : List ℕ → ℕ → Bool
@@ -41,6 +43,15 @@ module _ (ws : List ℕ) (W : ℕ) (wt sizes : List ℕ) (n₀ : ℕ) (live : Li
         q ∙ ap (set rows y) p ∙ ap (λ (i : ℕ). set rows i (row_of ws W wt sizes n₀ live k i)) ey
         ∙ ap (λ (b : Bool). cond b rows (set rows (get_or live k 0) (row_of ws W wt sizes n₀ live k (get_or live k 0)))) (sym e ∙ tests)
 
+  -- the loop over the live tables
+  pub renewed_none : (rows : List ℕ) → rows ≡ renewed_all rows 0
+  unfolding renewed_all turns
+  renewed_none rows = refl
+
+  pub renewed_next : (rows : List ℕ) (k : ℕ) (l l' : List ℕ) → l ≡ renewed_all rows k → l' ≡ renewed k l → l' ≡ renewed_all rows (k + 1)
+  unfolding renewed_all
+  renewed_next rows k l l' e q = turns_next _ _ k e q
+
   pub renewed_length : (k : ℕ) (rows : List ℕ) → length (renewed k rows) ≡ length rows
   unfolding renewed
   renewed_length k rows =
@@ -55,6 +66,10 @@ module _ (sizes : List ℕ) (n₀ : ℕ) (rows : List ℕ) where
   -- the key of the pair that an entry names
   abbrev pub entry_key : ℕ → Key
   entry_key y = key_at sizes n₀ (get_or rows y 0 % 512) y (get_or rows y 0 / 512)
+
+  -- of the table whose pair is the least so far and y, the one whose pair comes first
+  abbrev pub sooner_of : ℕ → ℕ → ℕ
+  sooner_of best y = cond (eqb best 256 || key_before (entry_key y) (entry_key best)) y best
 
   -- the table whose pair is the least so far (256: none, 257: a pair is too wide), when that of y is looked at too
   unfoldable pub bettered : ℕ → ℕ → ℕ
@@ -93,6 +108,10 @@ module _ (sizes : List ℕ) (n₀ : ℕ) (rows : List ℕ) where
         better_none e = rw (ne_eqb best 257 n, ne_eqb (get_or rows y 0) 257 l, eq-eqb (get_or rows y 0) 256 e)
 
         module _ (f : get_or rows y 0 ≡ 256 → ⊥) where
+          pub better_looked : sooner_of best y ≡ bettered best y
+          unfolding bettered
+          better_looked = rw (ne_eqb best 257 n, ne_eqb (get_or rows y 0) 257 l, ne_eqb (get_or rows y 0) 256 f)
+
           pub better_first : best ≡ 256 → y ≡ bettered best y
           unfolding bettered
           better_first e = rw (ne_eqb best 257 n, ne_eqb (get_or rows y 0) 257 l, ne_eqb (get_or rows y 0) 256 f, eq-eqb best 256 e)
@@ -105,59 +124,41 @@ module _ (sizes : List ℕ) (n₀ : ℕ) (rows : List ℕ) where
           unfolding bettered
           better_later g k = rw (ne_eqb best 257 n, ne_eqb (get_or rows y 0) 257 l, ne_eqb (get_or rows y 0) 256 f, ne_eqb best 256 g, k)
 
--- does an entry say nothing of a pair yet: it is yet to be found, or the table is gone
-abbrev pub unfound : ℕ → Bool
-unfound r = eqb r 258 || eqb r 259
+-- ---- the least of all, as the loop finds it ----
 
-pub not_unfound : (r : ℕ) → (r ≡ 258 → ⊥) → (r ≡ 259 → ⊥) → unfound r ≡ false
-not_unfound r a b = rw (ne_eqb r 258 a, ne_eqb r 259 b)
+module _ (sizes : List ℕ) (n₀ : ℕ) (rows live : List ℕ) where
+  pub least_none : 256 ≡ least_of sizes n₀ rows live 0
+  unfolding least_of turns
+  least_none = refl
 
--- the same as `bettered` and `least_of`, but that a table whose entry says nothing yet is passed over
-module _ (sizes : List ℕ) (n₀ : ℕ) (rows : List ℕ) where
-  unfoldable pub bettered_found : ℕ → ℕ → ℕ
-  bettered_found best y = cond (unfound (get_or rows y 0)) best (bettered sizes n₀ rows best y)
+  pub least_next : (k best b y : ℕ) → best ≡ least_of sizes n₀ rows live k → y ≡ get_or live k 0 → b ≡ bettered sizes n₀ rows best y → b ≡ least_of sizes n₀ rows live (k + 1)
+  unfolding least_of
+  least_next k best b y e ey eb = turns_next _ _ k e (eb ∙ ap (bettered sizes n₀ rows best) ey)
 
-  unfoldable pub least_found : List ℕ → ℕ → ℕ
-  least_found live m = turns (λ k best. bettered_found best (get_or live k 0)) 256 m
+  -- once a pair is too wide, it stays so
+  sticks : (k d : ℕ) → least_of sizes n₀ rows live k ≡ 257 → least_of sizes n₀ rows live (d + k) ≡ 257
+  unfolding least_of turns
+  sticks k zero e = ap (least_of sizes n₀ rows live) (let z : 0 + k ≡ k = omega arith in z) ∙ e
+  sticks k (suc d) e =
+      ap (least_of sizes n₀ rows live) (let z : suc d + k ≡ suc (d + k) = omega arith in z)
+      ∙ sym (better_refused sizes n₀ rows (least_of sizes n₀ rows live (d + k)) (get_or live (d + k) 0) (sticks k d e)) ∙ sticks k d e
 
-  pub found_passed : (best y : ℕ) → unfound (get_or rows y 0) ≡ true → best ≡ bettered_found best y
-  unfolding bettered_found
-  found_passed best y e = rw e
+  pub least_sticks : (j k : ℕ) → j ≤ k → least_of sizes n₀ rows live j ≡ 257 → 257 ≡ least_of sizes n₀ rows live k
+  least_sticks j k h e = sym (sticks j (k - j) e) ∙ ap (least_of sizes n₀ rows live) (let z : (k - j) + j ≡ k = omega arith in z)
 
-  pub found_looked : (best y : ℕ) → unfound (get_or rows y 0) ≡ false → bettered sizes n₀ rows best y ≡ bettered_found best y
-  unfolding bettered_found
-  found_looked best y e = rw e
+-- ---- choices ----
 
-  found_refused : (best y : ℕ) → best ≡ 257 → best ≡ bettered_found best y
-  found_refused best y e =
-      by_cases (unfound (get_or rows y 0)) (λ u. found_passed best y u) (λ u. better_refused sizes n₀ rows best y e ∙ found_looked best y u)
+-- a choice is never that a pair is too wide
+pub choice_apart : (c : Option Choice) → choice_code c ≡ 257 → ⊥
+choice_apart None e = omega arith
+choice_apart (Some c) e = c.apart 1 (omega arith) e
 
-  -- ---- as the loop finds it ----
+module _ (sizes : List ℕ) (n₀ : ℕ) (rows : List ℕ) (best : Option Choice) (y r : ℕ) (e : r ≡ get_or rows y 0) where
+  pub takes_wide : r ≡ 257 → 257 ≡ bettered sizes n₀ rows (choice_code best) y
+  takes_wide q = better_over sizes n₀ rows (choice_code best) y (choice_apart best) (sym e ∙ q)
 
-  pub least_none : (live : List ℕ) → 256 ≡ least_found live 0
-  unfolding least_found turns
-  least_none live = refl
+  pub takes_none : r ≡ 256 → choice_code best ≡ bettered sizes n₀ rows (choice_code best) y
+  takes_none q = better_none sizes n₀ rows (choice_code best) y (choice_apart best) (λ z. omega (arith, e, q)) (sym e ∙ q)
 
-  module _ (live : List ℕ) where
-    pub least_next : (k best b y : ℕ) → best ≡ least_found live k → y ≡ get_or live k 0 → b ≡ bettered_found best y → b ≡ least_found live (k + 1)
-    unfolding least_found
-    least_next k best b y e ey eb = turns_next _ _ k e (eb ∙ ap (bettered_found best) ey)
-
-    -- once a pair is too wide, it stays so
-    sticks : (k d : ℕ) → least_found live k ≡ 257 → least_found live (d + k) ≡ 257
-    unfolding least_found turns
-    sticks k zero e = ap (least_found live) (let z : 0 + k ≡ k = omega arith in z) ∙ e
-    sticks k (suc d) e =
-        ap (least_found live) (let z : suc d + k ≡ suc (d + k) = omega arith in z)
-        ∙ sym (found_refused (least_found live (d + k)) (get_or live (d + k) 0) (sticks k d e)) ∙ sticks k d e
-
-    pub least_sticks : (j k : ℕ) → j ≤ k → least_found live j ≡ 257 → 257 ≡ least_found live k
-    least_sticks j k h e = sym (sticks j (k - j) e) ∙ ap (least_found live) (let z : (k - j) + j ≡ k = omega arith in z)
-
-    -- where each entry says something, it is the least of all
-    pub least_same : (m : ℕ) → ((k : ℕ) → k < m → unfound (get_or rows (get_or live k 0) 0) ≡ false) → least_found live m ≡ least_of sizes n₀ rows live m
-    unfolding least_found least_of turns
-    least_same zero h = refl
-    least_same (suc m) h =
-        sym (found_looked (least_found live m) (get_or live m 0) (h m (omega arith)))
-        ∙ ap (λ (b : ℕ). bettered sizes n₀ rows b (get_or live m 0)) (least_same m (λ k b. h k (omega arith)))
+  pub takes_pair : (r ≡ 257 → ⊥) → (r ≡ 256 → ⊥) → sooner_of sizes n₀ rows (choice_code best) y ≡ bettered sizes n₀ rows (choice_code best) y
+  takes_pair w n = better_looked sizes n₀ rows (choice_code best) y (choice_apart best) (λ z. w (e ∙ z)) (λ z. n (e ∙ z))

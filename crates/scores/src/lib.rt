@@ -1,13 +1,13 @@
 #![tactic(auto)]
 //! Scores of pairs of live tables, and the least pair of a table with those before it.
-ghost use Rattle.std.specs.Prelude.{◌≡◌, ◌+◌, ◌^◌, ◌<◌, ◌≤◌, get_or, Some};
-ghost use Rattle.tables.specs.Lists.{pair_code, least_code};
+ghost use Rattle.std.specs.Prelude.{◌≡◌, ◌+◌, ◌^◌, ◌<◌, ◌≤◌, get_or};
+ghost use Rattle.tables.specs.Lists.{code};
 ghost use Rattle.tables.specs.Scores.{Scores};
 ghost use Rattle.scores.specs.Scores.{power, first_of, second_of, key_at, over_forty, lesser_of, considered, row_of};
 
 // Stays: `y < 1048576`: a bound of a number, so that a place fits a machine word; a type of its own would be unwrapped at each use.
 // Stays: `x: usize, y: usize`: two slots of one list, the lower first.
-use tables::partner::Partner;
+use tables::row::Row;
 use tables::scoring::Scoring;
 use tables::{PairTooWide, Score};
 
@@ -42,13 +42,12 @@ pub fn second(start: usize, x: usize, y: usize) -> usize
     if y < start { y } else { x }
 }
 
-/// The place in greedy's order of the pair of `y` with another table.
-pub fn score(sizes: &[usize], start: usize, y: usize, pair: Partner) -> Score
-    ensures { Scores (key_at sizes.now start pair.other y pair.bits) result }
+/// The place in greedy's order of the pair of slots `x` and `y`, whose merged table has `bits` size bits.
+pub fn score(sizes: &[usize], start: usize, x: usize, y: usize, bits: usize) -> Score
+    ensures { Scores (key_at sizes.now start x y bits) result }
 {
-    let x = usize::from(pair.other);
     Score {
-        raised: exp2(usize::from(pair.bits)) + (1 << 41) - takes(sizes, x, y),
+        raised: exp2(bits) + (1 << 41) - takes(sizes, x, y),
         first: first(start, x, y),
         second: second(start, x, y),
     }
@@ -61,71 +60,65 @@ fn too_wide(sizes: &[usize], x: usize, y: usize) -> bool
     40 < cells::get_or(sizes, x, 0) || 40 < cells::get_or(sizes, y, 0)
 }
 
-/// Of the least pair of `y` so far and one more, the one that comes first.
-// Stays: the order is that of scores, which are made from the sizes, so the values themselves have none. Both pairs are of the table `y`; in `rows` each
-// choice brings its own, and one function for both would take the two scores beside the two values.
-fn lesser(sizes: &[usize], start: usize, y: usize, best: Option<Partner>, pair: Partner) -> Partner
-    ensures { pair_code (Some result) ≡ lesser_of sizes.now start y (pair_code best) pair.other pair.bits }
+/// Of the least pair of `y` so far and its pair with `x`, whose merged table has `bits` size bits, the one that comes first.
+// Stays: the order is that of scores, which are made from the sizes, so the values themselves have none.
+fn lesser(sizes: &[usize], start: usize, y: usize, best: Row, x: usize, bits: usize) -> Row
+    requires { (bits ≤ 40) × (x < 1048576) }
+    ensures { code result ≡ lesser_of sizes.now start y (code best) x bits }
 {
-    let Some(known) = best else {
+    let pair = Row::pair(x, bits);
+    if best == Row::ALONE {
         return pair;
-    };
-    if score(sizes, start, y, pair).is_before(score(sizes, start, y, known)) {
+    }
+    let known = score(sizes, start, best.other(), y, best.bits());
+    if score(sizes, start, x, y, bits).is_before(known) {
         pair
     } else {
-        known
+        best
     }
 }
 
-/// The least pair of `y` so far, when its pair with `x` is looked at too; refused where that is too wide.
-fn consider(
-    sets: &[u64],
-    sizes: &[usize],
-    scoring: &Scoring,
-    y: usize,
-    best: Option<Partner>,
-    x: u8,
-) -> Result<Option<Partner>, PairTooWide>
+/// The least pair of `y` so far, when its pair with `x` is looked at too.
+fn consider(sets: &[u64], sizes: &[usize], scoring: &Scoring, y: usize, best: Row, x: u16) -> Row
     requires { y < 1048576 }
-    ensures { least_code result ≡ considered sets.now scoring.now.width scoring.now.weights.now sizes.now scoring.now.start y (pair_code best) x }
+    ensures { code result ≡ considered sets.now scoring.now.width scoring.now.weights.now sizes.now scoring.now.start y (code best) x }
 {
     let w = scoring.width;
     let left = usize::from(x);
+    if best == Row::TOO_WIDE {
+        return best;
+    }
     if !live::share(sets, w, left, y) {
-        return Ok(best);
+        return best;
     }
     let bits = live::merged_size(sets, w, left, y, scoring.weights);
     if 40 < bits {
-        return Err(PairTooWide);
+        return Row::from(PairTooWide);
     }
     if too_wide(sizes, left, y) {
-        return Err(PairTooWide);
+        return Row::from(PairTooWide);
     }
-    let pair = Partner {
-        other: x,
-        // Stays: the number fits by what is known here; `try_from` would add a failure that never comes.
-        bits: bits as u8,
-    };
-    Ok(Some(lesser(sizes, scoring.start, y, best, pair)))
+    lesser(sizes, scoring.start, y, best, left, bits)
 }
 
-/// The least pair of `y` with the first `k` slots of a list; past its end the slot is 0. Refused where such a pair is too wide.
+/// The least pair of `y` with the first `k` slots of a list; past its end the slot is 0. `Row::ALONE` where `y` shares an index with none of them,
+/// `Row::TOO_WIDE` where a pair has over 40 bits.
 // Stays: asks no more of its callers than lists that fit: `k` may be more than the list has.
 pub fn row(
     sets: &[u64],
     sizes: &[usize],
     scoring: &Scoring,
-    live: &[u8],
+    live: &[u16],
     k: usize,
     y: usize,
-) -> Result<Option<Partner>, PairTooWide>
+) -> Row
     requires { y < 1048576 }
-    ensures { least_code result ≡ row_of sets.now scoring.now.width scoring.now.weights.now sizes.now scoring.now.start live.now k y }
+    ensures { code result ≡ row_of sets.now scoring.now.width scoring.now.weights.now sizes.now scoring.now.start live.now k y }
 {
-    let mut best = None;
+    let mut best = Row::ALONE;
     for i in 0..k {
         let x = cells::get_or(live, i, 0);
-        best = consider(sets, sizes, scoring, y, best, x)?;
+        best = consider(sets, sizes, scoring, y, best, x);
     }
-    Ok(best)
+    best
 }

@@ -11,13 +11,12 @@ use Rattle.std.proofs.Math.Decide.{ℕ_discrete}
 use Rattle.std.proofs.Math.ListN.{length-set}
 use Rattle.std.proofs.Math.Seq.{get_or-set_other}
 use Rattle.laws.specs.Booleans.{by_cases}
-use Rattle.cells.specs.Loop.{turns, turns_next, turns_more}
+use Rattle.cells.specs.Loop.{turns, turns_next}
 use Rattle.slots.specs.Slots.{held, with_set, with_set_length, with_set_then, held_with, held_with_other}
 use Rattle.slots.specs.Writes.{among, leaf_has}
 use Rattle.slots.specs.Weigh.{weighed, either}
-use Rattle.tables.specs.declared.Row.{Row}
-use Rattle.tables.specs.declared.Row.TheVariants.{Stale}
-use Rattle.tables.specs.Lists.{Lists, lists_of, with_bits, coded, coded_length}
+use Rattle.tables.specs.declared.row.Row.{Row}
+use Rattle.tables.specs.Lists.{stale, Lists, lists_of, with_bits, coded, coded_length}
 
 -- ---- numbers put at the places 0, 1, .. ----
 
@@ -157,12 +156,12 @@ prepared_in W wt n counts legs outputs leaves M =
     (lists_of (start_words W n counts legs outputs leaves M.words) (copied M.nodes leaves (length leaves)) M.sizes (range (length leaves)) (filled (length M.rows) 258))
 
 -- rows none of which is found
-pub stale_coded : (n : ℕ) → coded (replicate n Stale) ≡ filled n 258
+pub stale_coded : (n : ℕ) → coded (replicate n stale) ≡ filled n 258
 unfolding coded filled
 stale_coded zero = refl
 stale_coded (suc n) = ap (λ (l : List ℕ). 258 ∷ l) (stale_coded n)
 
-pub stale_filled : (rows : List Row) → length rows ≡ 256 → coded (replicate 256 Stale) ≡ filled (length (coded rows)) 258
+pub stale_filled : (rows : List Row) → length rows ≡ 256 → coded (replicate 256 stale) ≡ filled (length (coded rows)) 258
 stale_filled rows e = stale_coded 256 ∙ ap (λ (k : ℕ). filled k 258) (sym (coded_length rows ∙ e))
 
 -- ---- as the loops write them ----
@@ -178,18 +177,28 @@ unfolding with_leaves
 leaves_next W counts legs leaves ws l r i v e ev er =
     turns_next _ _ i e (er ∙ ap (λ (u : ℕ). with_set l W i (leaf_has counts legs u)) ev)
 
+-- no size yet, and one size more
+module _ (ws : List ℕ) (W : ℕ) (wt sizes : List ℕ) where
+  pub sizes_none : sizes ≡ with_sizes ws W wt sizes 0
+  unfolding with_sizes turns
+  sizes_none = refl
+
+  pub sizes_next : (l s : List ℕ) (i b : ℕ) → l ≡ with_sizes ws W wt sizes i → b ≡ weighed wt [] (either ws W i i) (W * 64)
+      → s ≡ set l i b → s ≡ with_sizes ws W wt sizes (i + 1)
+  unfolding with_sizes
+  sizes_next l s i b e eb es = turns_next _ _ i e (es ∙ ap (set l i) eb)
+
+-- the same of the tables
 module _ (W : ℕ) (wt : List ℕ) (M : Lists) where
   pub none_weighed : M ≡ weighed_in W wt 0 M
-  unfolding with_sizes turns
-  none_weighed = refl
+  none_weighed = ap (with_bits M) (sizes_none M.words W wt M.sizes)
 
   pub next_weighed : (K : Lists) (s : List ℕ) (i b : ℕ) → K ≡ weighed_in W wt i M → b ≡ weighed wt [] (either K.words W i i) (W * 64)
       → s ≡ set K.sizes i b → with_bits K s ≡ weighed_in W wt (i + 1) M
-  unfolding with_sizes
   next_weighed K s i b e eb es =
-      ap (with_bits K) (es ∙ ap (set K.sizes i) eb)
-      ∙ ap (λ (L : Lists). with_bits L (set L.sizes i (weighed wt [] (either L.words W i i) (W * 64)))) e
-      ∙ ap (with_bits M) (sym (turns_more (λ k l. set l k (weighed wt [] (either M.words W k k) (W * 64))) M.sizes i))
+      ap (λ (L : Lists). with_bits L s) e
+      ∙ ap (with_bits M)
+      (sizes_next M.words W wt M.sizes K.sizes s i b (ap (λ (L : Lists). L.sizes) e) (eb ∙ ap (λ (L : Lists). weighed wt [] (either L.words W i i) (W * 64)) e) es)
 
 -- the sets of the start, one step after the other
 pub sets_started : (W n : ℕ) (counts legs outputs leaves ws a b r : List ℕ) → a ≡ with_set ws W 257 (among leaves 0 (length leaves))

@@ -5,15 +5,15 @@ ghost use Rattle.spec.specs.Lists.{range};
 ghost use Rattle.slots.specs.Slots.{with_set};
 ghost use Rattle.slots.specs.Writes.{among, leaf_has};
 ghost use Rattle.slots.specs.Weigh.{either, weighed};
-ghost use Rattle.tables.specs.Lists.{lists_in, IsSameLoan};
-ghost use Rattle.start.specs.Leaves.{with_other, outside_to, with_leaves, weighed_in, start_words, prepared_in, put_all};
+ghost use Rattle.tables.specs.Lists.{lists_in};
+ghost use Rattle.start.specs.Leaves.{with_other, outside_to, with_leaves, with_sizes, start_words, prepared_in, put_all};
 
 // Stays: `tables: &mut Tables, scoring: &Scoring`: the tables are written, and what the scores are made of beside them stays; a value that held both would lend both to be written.
-// Stays: `IsSameLoan tables.old tables.new`: the words are lent in the tables, and only a clause can say that the same come back.
 use arrayvec::ArrayVec;
+use tables::row::Row;
 use tables::scoring::Scoring;
 use tables::slotted::Tables;
-use tables::{OUTSIDE, Row, TWICE};
+use tables::{OUTSIDE, TWICE};
 
 /// Makes slot `s` the set of the indices of leaf `v`.
 // Stays: the network's lists are lent apart, so no check of them is asked for; the bounds are those of places in memory.
@@ -95,24 +95,23 @@ fn put_sets(
 }
 
 /// The size bits of the table in slot `i`.
-fn size_bits(tables: &Tables, scoring: &Scoring, i: usize) -> usize
+fn size_bits(sets: &[u64], scoring: &Scoring, i: usize) -> usize
     requires { i < 1048576 }
-    ensures { result ≡ weighed scoring.now.weights.now [] (either tables.now.sets.now scoring.now.width i i) (scoring.now.width * 64) }
+    ensures { result ≡ weighed scoring.now.weights.now [] (either sets.now scoring.now.width i i) (scoring.now.width * 64) }
 {
     let weights = scoring.weights;
-    slots::weigh(&*tables.sets, scoring.width, i, i, weights, &weights[..0])
+    slots::weigh(sets, scoring.width, i, i, weights, &weights[..0])
 }
 
 /// Puts the size bits of the tables in the first `n` slots down.
-// Stays: the loop lends the same tables to each turn; `for_each` with a closure over them is no plainer. The number is the slot that is weighed as well as a place.
-fn weigh_all(tables: &mut Tables, scoring: &Scoring, n: usize)
+// Stays: the number is the slot that is weighed as well as a place, and there may be more slots than places.
+fn weigh_all(sets: &[u64], scoring: &Scoring, n: usize, sizes: &mut [usize])
     requires { n < 1048576 }
-    ensures same { IsSameLoan tables.old tables.new }
-    ensures lists { lists_in tables.new ≡ weighed_in scoring.now.width scoring.now.weights.now n (lists_in tables.old) }
+    ensures { sizes.new ≡ with_sizes sets.now scoring.now.width scoring.now.weights.now sizes.old n }
 {
     for i in 0..n {
-        let bits = size_bits(&*tables, scoring, i);
-        cells::put(&mut tables.sizes, i, bits);
+        let bits = size_bits(sets, scoring, i);
+        cells::put(sizes, i, bits);
     }
 }
 
@@ -131,14 +130,14 @@ pub fn count_up(list: &mut [u16], n: usize)
 
 /// Puts the slots of `count` tables, all of them live, in place of those that a list has.
 // Stays: the numbers are what is pushed, and no list is read.
-fn put_live(live: &mut ArrayVec<u8, 256>, count: usize)
+fn put_live(live: &mut ArrayVec<u16, 256>, count: usize)
     requires { count ≤ 256 }
     ensures { live.new.items ≡ range count }
 {
     live.clear();
     for slot in 0..count {
         // Stays: the number fits by what is known here; `try_from` would add a failure that never comes.
-        live.push(slot as u8);
+        live.push(slot as u16);
     }
 }
 
@@ -146,6 +145,7 @@ fn put_live(live: &mut ArrayVec<u8, 256>, count: usize)
 /// and the slots, all of them live; none has its least pair yet. Leaves are `n` in all.
 // Stays: `n` is how many leaves there are in all, planned or not, and the promise does not ask that the list of counts has as many.
 pub fn prepare(
+    sets: &mut [u64],
     tables: &mut Tables,
     scoring: &Scoring,
     n: usize,
@@ -155,20 +155,11 @@ pub fn prepare(
     leaves: &[u16],
 )
     requires { (n ≤ scoring.now.width * 64) × (length outputs.now ≤ 4294967296) × (length leaves.now ≤ 256) }
-    ensures same { IsSameLoan tables.old tables.new }
-    ensures lists { lists_in tables.new ≡ prepared_in scoring.now.width scoring.now.weights.now n counts.now legs.now outputs.now leaves.now (lists_in tables.old) }
+    ensures { lists_in sets.new tables.new ≡ prepared_in scoring.now.width scoring.now.weights.now n counts.now legs.now outputs.now leaves.now (lists_in sets.old tables.old) }
 {
-    put_sets(
-        &mut *tables.sets,
-        scoring.width,
-        n,
-        counts,
-        legs,
-        outputs,
-        leaves,
-    );
+    put_sets(sets, scoring.width, n, counts, legs, outputs, leaves);
     cells::copy(&mut tables.nodes, leaves, leaves.len());
-    weigh_all(tables, scoring, leaves.len());
+    weigh_all(sets, scoring, leaves.len(), &mut tables.sizes);
     put_live(&mut tables.live, leaves.len());
-    tables.rows = [Row::Stale; 256];
+    tables.rows = [Row::STALE; 256];
 }

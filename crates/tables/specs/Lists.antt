@@ -1,10 +1,9 @@
 -- Greedy's five lists, whatever keeps them. Assumes nothing.
-use Rattle.std.specs.Prelude.{◌≡◌, List, [], ◌∷◌, ℕ, zero, suc, map, ◌+◌, ◌*◌, ◌/◌, ◌%◌, ◌<◌, length, get_or, set, Option, None, Some, Result, Ok, Err}
-use Rattle.std.proofs.Common.{refl, ap, arith}
+use Rattle.std.specs.Prelude.{◌≡◌, List, [], ◌∷◌, ℕ, zero, suc, map, length, get_or, set, Option, None, Some, Result, Ok, Err}
+use Rattle.std.proofs.Common.{refl, ap}
 use Rattle.std.proofs.lemmas.List.{length-map}
-use Rattle.tables.specs.declared.Row.{Row}
-use Rattle.tables.specs.declared.Row.TheVariants.{Stale, Gone, TooWide, Found}
-use Rattle.tables.specs.declared.partner.Partner.{Partner}
+use Rattle.tables.specs.declared.row.Row.{Row}
+use Rattle.tables.specs.declared.choice.Choice.{Choice}
 use Rattle.tables.specs.declared.PairTooWide.{PairTooWide}
 use Rattle.tables.specs.declared.slotted.Tables.{Tables}
 
@@ -19,22 +18,26 @@ pub record Lists : Type 0 where
 abbrev pub lists_of : List ℕ → List ℕ → List ℕ → List ℕ → List ℕ → Lists
 lists_of words nodes sizes live rows = record { words = words; nodes = nodes; sizes = sizes; live = live; rows = rows }
 
--- A pair that is looked for as a number: 256 where there is none, and else 512 times the merged size bits and the other slot.
-abbrev pub pair_code : Option Partner → ℕ
-pair_code None = 256
-pair_code (Some p) = p.bits * 512 + p.other
-
--- the same, or 257 where a pair is too wide
-abbrev pub least_code : Result (Option Partner) PairTooWide → ℕ
-least_code (Err r) = 257
-least_code (Ok p) = pair_code p
-
--- a row as a number: 258 where it is yet to be found, 259 for a table that is gone
+-- A row's number: 256 where there is no pair, 257 where one is too wide, 258 where it is yet to be found, 259 for a table that is gone, and
+-- else 512 times the merged size bits and the other slot.
 abbrev pub code : Row → ℕ
-code Stale = 258
-code Gone = 259
-code TooWide = 257
-code (Found p) = pair_code p
+code r = r.number
+
+-- one that is yet to be found, and one of a table that is gone
+abbrev pub stale : Row
+stale = record { number = 258 }
+
+abbrev pub gone : Row
+gone = record { number = 259 }
+
+-- the table of a choice: 256 where there is none, 257 where a pair is too wide
+abbrev pub choice_code : Option Choice → ℕ
+choice_code None = 256
+choice_code (Some c) = c.table
+
+abbrev pub chosen_code : Result (Option Choice) PairTooWide → ℕ
+chosen_code (Err r) = 257
+chosen_code (Ok c) = choice_code c
 
 -- the rows as numbers
 unfoldable pub coded : List Row → List ℕ
@@ -50,16 +53,16 @@ coded-set [] i r = refl
 coded-set (x ∷ l) zero r = refl
 coded-set (x ∷ l) (suc i) r = ap (λ (k : List ℕ). code x ∷ k) (coded-set l i r)
 
--- what stands past the end is no table's
-pub coded_at : (l : List Row) (i : ℕ) (d : Row) → i < length l → get_or (coded l) i 0 ≡ code (get_or l i d)
+-- what stands past the end has the number 0
+pub coded_at : (l : List Row) (i : ℕ) (d : Row) → code d ≡ 0 → code (get_or l i d) ≡ get_or (coded l) i 0
 unfolding coded
-coded_at [] i d h = absurd (omega arith)
-coded_at (x ∷ l) zero d h = refl
-coded_at (x ∷ l) (suc i) d h = coded_at l i d (omega arith)
+coded_at [] i d e = e
+coded_at (x ∷ l) zero d e = refl
+coded_at (x ∷ l) (suc i) d e = coded_at l i d e
 
--- the lists of some tables
-abbrev pub lists_in : Tables → Lists
-lists_in t = lists_of t.sets.now t.nodes t.sizes t.live.items (coded t.rows)
+-- the lists of some tables, with their sets
+abbrev pub lists_in : List ℕ → Tables → Lists
+lists_in sets t = lists_of sets t.nodes t.sizes t.live.items (coded t.rows)
 
 -- one of the lists replaced
 abbrev pub with_sets : Lists → List ℕ → Lists
@@ -74,21 +77,6 @@ with_live M y = lists_of M.words M.nodes M.sizes y M.rows
 abbrev pub with_rows : Lists → List ℕ → Lists
 with_rows M y = lists_of M.words M.nodes M.sizes M.live y
 
--- the same words are lent, whatever they hold
-abbrev pub IsSameLoan : Tables → Tables → Type 0
-IsSameLoan old new = new.sets.ghost_name ≡ old.sets.ghost_name
-
--- a pair's number, and back
-pub pair_slot : (p : Partner) → (p.bits * 512 + p.other) % 512 ≡ p.other
-pair_slot p = omega (arith, p.slot)
-
-pub pair_size : (p : Partner) → (p.bits * 512 + p.other) / 512 ≡ p.bits
-pair_size p = omega (arith, p.slot)
-
--- a pair is none of the other numbers
-pub pair_apart : (p : Partner) (k : ℕ) → k < 256 → p.bits * 512 + p.other ≡ 256 + k → ⊥
-pair_apart p k h e = omega (arith, p.slot)
-
-pub not_wide : (b : Option Partner) → pair_code b ≡ 257 → ⊥
-not_wide None e = omega arith
-not_wide (Some p) e = pair_apart p 1 (omega arith) e
+-- a row is told by its number
+pub not_coded : (r : Row) (n : ℕ) → (r ≡ record { number = n } → ⊥) → code r ≡ n → ⊥
+not_coded r n h e = h (ap (λ (k : ℕ). record { number = k }) e)

@@ -1,17 +1,18 @@
 #![tactic(auto)]
-//! Greedy's tables in one value: the sets by slot in lent words, and beside them typed local lists. What its crates share: what is known of a
-//! table's least pair, and the order of pairs.
+//! Greedy's tables: their sets, by slot in lent words, and beside these typed local lists. What its crates share: what is known of a table's least
+//! pair, the table that has the least pair of all, and the order of pairs.
 
 ghost use Rattle.std.specs.Prelude.{◌≡◌};
 ghost use Rattle.spec.specs.declared.Refusal.TheVariants.{TableTooWide};
 ghost use Rattle.spec.specs.Greedy.{Key, key_before};
-ghost use Rattle.tables.specs.Lists.{code, least_code};
+ghost use Rattle.tables.specs.Lists.{chosen_code};
 ghost use Rattle.tables.specs.Scores.{Scores};
 
-use partner::Partner;
+use choice::Choice;
 use spec::Refusal;
 
-pub mod partner;
+pub mod choice;
+pub mod row;
 pub mod scoring;
 pub mod slotted;
 
@@ -39,27 +40,16 @@ impl From<PairTooWide> for Refusal {
     }
 }
 
-/// What is known of a table's least pair with the live tables before it.
-#[derive(Clone, Copy, Debug, PartialEq, Eq)]
-pub enum Row {
-    /// It is yet to be found.
-    Stale,
-    /// The table is gone.
-    Gone,
-    /// A table of such a pair, or its merged table, has over 40 bits.
-    TooWide,
-    /// The other table of the pair; none where the table shares no index with one before it.
-    Found(Option<Partner>),
-}
-
-impl From<Result<Option<Partner>, PairTooWide>> for Row {
-    ghost from_gives = { λ found row. code row ≡ least_code found };
-
-    /// What was found, as a row.
-    fn from(found: Result<Option<Partner>, PairTooWide>) -> Row {
-        match found {
-            Ok(pair) => Row::Found(pair),
-            Err(PairTooWide) => Row::TooWide,
+impl Choice {
+    /// What a slot answers: 256 stands for no table, and 257 says that a pair is too wide. All others are tables'.
+    pub fn of(table: u16) -> Result<Option<Choice>, PairTooWide>
+        ensures { chosen_code result ≡ table }
+    {
+        // Stays: the definitions know what is chosen by a table's slot, and by these two where there is none.
+        match table {
+            256 => Ok(None),
+            257 => Err(PairTooWide),
+            _ => Ok(Some(Choice { table })),
         }
     }
 }

@@ -1,21 +1,20 @@
 // Greedy's lists in one value.
 ghost use Rattle.std.specs.Prelude.{◌≡◌, length};
 
-use crate::Row;
+use crate::row::Row;
 use arrayvec::ArrayVec;
 
-/// Greedy's lists: all by slot but the list of live slots. A table keeps its slot, and each new table takes the next one.
+/// Greedy's lists beside the sets, which lie in lent words: all by slot but the list of live slots. A table keeps its slot, and each new table
+/// takes the next one.
 // Stays: the lists by slot are lent one at a time, to functions that ask for lists that fit; a list of rows would be lent whole.
 #[derive(Drop)]
-pub struct Tables<'a> {
-    /// the sets in lent words
-    pub sets: &'a mut [u64],
+pub struct Tables {
     /// the numbers of the tables' nodes
     pub nodes: [u16; 256],
     /// the size bits of the tables
     pub sizes: [usize; 256],
     /// the slots of the live tables, rising
-    pub live: ArrayVec<u8, 256>,
+    pub live: ArrayVec<u16, 256>,
     /// the least pairs
     pub rows: [Row; 256],
     ghost slots: { length rows ≡ 256 },

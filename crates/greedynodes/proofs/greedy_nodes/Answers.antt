@@ -4,9 +4,8 @@ use Rattle.std.proofs.Math.ListN.{length-replicate}
 use Rattle.spec.specs.Tree.{flat_of}
 use Rattle.spec.specs.declared.Refusal.TheVariants.{TableTooWide}
 use Rattle.merging.specs.Removed.{flat_length}
-use Rattle.tables.specs.declared.Row.{Row}
-use Rattle.tables.specs.declared.Row.TheVariants.{Stale}
-use Rattle.tables.specs.Lists.{coded, coded_length}
+use Rattle.tables.specs.declared.row.Row.{Row}
+use Rattle.tables.specs.Lists.{stale, coded, coded_length}
 use Rattle.greedynodes.specs.Begin.{fits_narrower}
 use Rattle.greedynodes.specs.Ends.{Planned, apart}
 use Rattle.greedynodes.specs.Copied.{nodes_refused, nodes_built}
@@ -31,7 +30,7 @@ returns-in_err-merges-clause-planned c =
     (Err TableTooWide)
     (λ N a asks. is_wide N a c.set_width.result d.n d.count d.weights.now d.counts.now d.legs.now d.outputs.now d.leaves.now d.words.now (replicate 256 0) asks
     (fits_narrower (c.set_width.ensures.least W fits.indices fits.leaf_sets) c.set_width.ensures.holds.0 c.set_width.ensures.holds.1 fits)
-    _ _ _ (laid_new d.leaves.now _ _ (coded (replicate 256 Stale)) _ fits.few refl refl (omega (arith, coded_length (replicate 256 Stale), length-replicate {A = Row} 256 Stale)) refl) _ c.prepare.ensures.lists
+    _ _ _ (laid_new d.leaves.now _ _ (coded (replicate 256 stale)) _ fits.few refl refl (omega (arith, coded_length (replicate 256 stale), length-replicate {A = Row} 256 stale)) refl) _ c.prepare.ensures
     _ _ _ _ _ c.connect.result c.in_err-merges.field-0.0 z c.connect.ensures.connected)
     N a d.kids.now asks TableTooWide refl)
 
@@ -45,9 +44,9 @@ returns-clause-planned c =
     (Ok c.join_rest-top.result)
     (λ N a asks. is_joined N a c.set_width.result d.n d.count d.weights.now d.counts.now d.legs.now d.outputs.now d.leaves.now d.words.now (replicate 256 0) asks
     (fits_narrower (c.set_width.ensures.least W fits.indices fits.leaf_sets) c.set_width.ensures.holds.0 c.set_width.ensures.holds.1 fits)
-    _ _ _ (laid_new d.leaves.now _ _ (coded (replicate 256 Stale)) _ fits.few refl refl (omega (arith, coded_length (replicate 256 Stale), length-replicate {A = Row} 256 Stale)) refl) _ c.prepare.ensures.lists
+    _ _ _ (laid_new d.leaves.now _ _ (coded (replicate 256 stale)) _ fits.few refl refl (omega (arith, coded_length (replicate 256 stale), length-replicate {A = Row} 256 stale)) refl) _ c.prepare.ensures
     _ _ _ _ c.in_ok-merges.merges c.connect.result z c.connect.ensures.connected
-    _ c.join_rest-top.result (omega (arith, c.join_rest-top.type_inv)) (λ N' tree L b before r. c.join_rest-top.ensures.joined N' tree L b before (flat_of a) (omega (arith, flat_length a, asks.array)) r))
+    _ c.join_rest-top.result (omega (arith, c.join_rest-top.type_inv)) (λ N' tree L b before r. c.join_rest-top.ensures N' tree L b before (flat_of a) (omega (arith, flat_length a, asks.array)) r))
     N a d.kids.now asks (λ e q. apart q)
     (d.count * 2) (c.saturating_sub.result * 2) refl (omega (arith, c.saturating_sub.ensures)) (omega (arith, c.saturating_sub.ensures, fits.few, length-replicate {A = ℕ} 256 0))
     c.copy_out.new.kids c.copy_out.ensures

@@ -1,8 +1,7 @@
 use Rattle.std.proofs.Common.{rules, Err, Ok, Some, None}
 use Rattle.tables.specs.declared.PairTooWide.{PairTooWide}
 use Rattle.spec.specs.Tree.{flat_of}
-use Rattle.tables.specs.Lists.{Lists, coded, lists_in}
-use Rattle.rows.specs.Within.{NamedIn}
+use Rattle.tables.specs.Lists.{Lists, chosen_code, lists_in}
 use Rattle.merging.specs.Removed.{flat_length}
 use Rattle.merging.specs.Merge.{with_node}
 use Rattle.merging.specs.Connect.{Connected, reached_end}
@@ -24,8 +23,8 @@ returns-in_err-choice-clause-connected c =
     let e : c.from_residual.result ≡ Err c.in_err-choice.field-0.0 = search rules in
     let less : l.t < s.start = omega arith in
     λ G S start. subst (λ (q : Result ℕ PairTooWide). Connected G S (kids_behind S d.kids.now) c.scan.new.tables.nodes c.scan.new.tables.sizes c.scan.new.tables.live.items (kids_behind S l.kids) q) (sym e)
-    (scan_refused G S s.width d.n s.start d.count s.weights.now (kids_behind S d.kids.now) (lists_in d.tables.now) start l.t (lists_in l.tables) (kids_behind S l.kids) (l.invariant.3 G S start) less
-    (lists_in c.scan.new.tables) c.scan.result c.scan.ensures.lists c.scan.ensures.least _ _ _ _ c.in_err-choice.field-0.0 z)
+    (scan_refused G S s.width d.n s.start d.count s.weights.now (kids_behind S d.kids.now) (lists_in d.sets.now d.tables.now) start l.t (lists_in l.sets l.tables) (kids_behind S l.kids) (l.invariant.2 G S start) less
+    (lists_in c.scan.new.sets c.scan.new.tables) _ c.scan.ensures.lists c.scan.ensures.least _ _ _ _ c.in_err-choice.field-0.0 (ap chosen_code z))
 
 pub returns-in_default-clause-connected : goal.returns-in_default-clause-connected
 returns-in_default-clause-connected c =
@@ -34,8 +33,8 @@ returns-in_default-clause-connected c =
     let l = c.loop-t in
     let z : c.scan.result ≡ Ok None = search rules in
     let less : l.t < s.start = omega arith in
-    λ G S start. scan_ends G S s.width d.n s.start d.count s.weights.now (kids_behind S d.kids.now) (lists_in d.tables.now) start l.t (lists_in l.tables) (kids_behind S l.kids) (l.invariant.3 G S start) less
-    (lists_in c.scan.new.tables) c.scan.result c.scan.ensures.lists c.scan.ensures.least z
+    λ G S start. scan_ends G S s.width d.n s.start d.count s.weights.now (kids_behind S d.kids.now) (lists_in d.sets.now d.tables.now) start l.t (lists_in l.sets l.tables) (kids_behind S l.kids) (l.invariant.2 G S start) less
+    (lists_in c.scan.new.sets c.scan.new.tables) _ c.scan.ensures.lists c.scan.ensures.least (ap chosen_code z)
 
 pub loop-t-preserved : goal.loop-t-preserved
 loop-t-preserved c =
@@ -43,19 +42,20 @@ loop-t-preserved c =
     let s = d.scoring.now in
     let l = c.loop-t in
     let z : c.scan.result ≡ Ok (Some c.in-Some.choice) = search rules in
-    let named = subst (NamedIn (coded c.scan.new.tables.rows)) z c.scan.ensures.named in
+    let y = c.in-Some.choice.table in
+    let least = sym (ap chosen_code z) ∙ c.scan.ensures.least in
     let less : l.t < s.start = omega arith in
     let kept = ap (λ (M : Lists). length M.live) c.scan.ensures.lists in (
       omega arith,
-      c.merge-children.ensures.same ∙ c.scan.ensures.same ∙ l.invariant.1,
-      omega (arith, c.merge-children.ensures.few, kept, l.invariant.2),
+      omega (arith, c.merge-children.ensures.few, kept, l.invariant.1),
       (λ G S start.
-          scan_merges G S s.width d.n s.start d.count s.weights.now (kids_behind S d.kids.now) (lists_in d.tables.now) start l.t (lists_in l.tables) (kids_behind S l.kids) (l.invariant.3 G S start) less
-          (lists_in c.scan.new.tables) c.scan.result c.scan.ensures.lists c.scan.ensures.least c.in-Some.choice z named
-          (lists_in c.merge-children.new.tables) (kids_behind S c.put_node.new.kids) c.merge-children.ensures.lists
+          scan_merges G S s.width d.n s.start d.count s.weights.now (kids_behind S d.kids.now) (lists_in d.sets.now d.tables.now) start l.t (lists_in l.sets l.tables) (kids_behind S l.kids) (l.invariant.2 G S start) less
+          (lists_in c.scan.new.sets c.scan.new.tables) y c.scan.ensures.lists least
+          (lists_in c.merge-children.new.sets c.merge-children.new.tables) (kids_behind S c.put_node.new.kids) c.merge-children.ensures.lists
           (ap (λ (k : List ℕ). flat_of S.array ++ k) c.put_node.ensures
           ∙ sym (node_behind (flat_of S.array) l.kids d.count l.t _ _ (omega (arith, flat_length S.array, start.made)))
-          ∙ ap₂ (λ (a b : ℕ). with_node (kids_behind S l.kids) (d.count + l.t) a b) c.merge-children.ensures.left c.merge-children.ensures.right)),
+          ∙ ap₂ (λ (a b : ℕ). with_node (kids_behind S l.kids) (d.count + l.t) a b) c.merge-children.ensures.left c.merge-children.ensures.right)
+          (c.in-Some.choice.apart 0 (omega arith)) (c.in-Some.choice.apart 1 (omega arith))),
     )
 
 pub returns-clause-connected : goal.returns-clause-connected
@@ -65,4 +65,4 @@ returns-clause-connected c =
     let l = c.loop-t in
     let e : l.t ≡ s.start = omega arith in
     λ G S start. subst (λ (t : ℕ). Connected G S (kids_behind S d.kids.now) l.tables.nodes l.tables.sizes l.tables.live.items (kids_behind S l.kids) (Ok t)) e
-    (reached_end G S s.width d.n s.start d.count s.weights.now (kids_behind S d.kids.now) (lists_in d.tables.now) start l.t (lists_in l.tables) (kids_behind S l.kids) e (l.invariant.3 G S start))
+    (reached_end G S s.width d.n s.start d.count s.weights.now (kids_behind S d.kids.now) (lists_in d.sets.now d.tables.now) start l.t (lists_in l.sets l.tables) (kids_behind S l.kids) e (l.invariant.2 G S start))

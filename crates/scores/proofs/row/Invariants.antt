@@ -1,4 +1,4 @@
-use Rattle.tables.specs.Lists.{pair_code}
+use Rattle.tables.specs.Lists.{code}
 use Rattle.scores.specs.Scores.{row_of}
 use Prim.Native.Nat.{◌≤◌}
 use mathlib.Core.Path.{◌≡◌}
@@ -6,4 +6,4 @@ use Rattle.scores.proofs.row.Given as goal
 
 abbrev pub invariant-loop-i : goal.invariant-loop-i
 invariant-loop-i l =
-    (l.i ≤ l.k) × (pair_code l.best ≡ row_of l.sets l.scoring.width l.scoring.weights.now l.sizes l.scoring.start l.live l.i l.y)
+    (l.i ≤ l.k) × (code l.best ≡ row_of l.sets l.scoring.width l.scoring.weights.now l.sizes l.scoring.start l.live l.i l.y)
