@@ -33,7 +33,7 @@ fn weight_of(vw: &[f64], mates: &[u16], v: usize) -> f64
 }
 
 // `v` becomes part of the next coarse vertex, `c`, unless its mate is lower: then of its mate's. Returns how many coarse vertices there are then.
-// Stays: one index names a vertex in lists of different owners, two to read and two to write.
+// Stays: one index names a vertex in lists of different owners: its weight and its mate are read, its place is written.
 fn join(
     vw: &[f64],
     mates: &[u16],
@@ -59,12 +59,13 @@ fn join(
 }
 
 // The coarse vertex of each vertex, and the weights of these. Returns how many there are.
+// Stays: the number itself is meant, a vertex: `join` reads its weight and its mate by it and writes its place, in lists of different owners.
 fn join_all(vw: &[f64], mates: &[u16], places: &mut [u16], coarse: &mut [f64]) -> usize
     requires { length vw.now ≤ 128 }
     ensures { (joined_of places.new coarse.new result ≡ joined vw.now mates.now (joined_of places.old coarse.old 0) (length vw.now)) × (result ≤ length vw.now) }
 {
     let mut c: usize = 0;
-    for (v, _) in vw.iter().enumerate() {
+    for v in 0..vw.len() {
         c = join(vw, mates, places, coarse, v, c);
     }
     c
@@ -170,7 +171,7 @@ fn is_worthwhile(n: usize, left: usize) -> bool
 /// A coarser hypergraph, by a matching in a drawn order, in slots of its own, with `weights2` and `vw2`, and the coarse vertex of each vertex in `places`. The
 /// list `mates` is for the matching. Returns how many nets and vertices the coarser hypergraph has: `Ok` where it is
 /// worthwhile, and `Err` where more than 95 of 100 vertices are left. The size in `Err` is as good as that in `Ok`: the hypergraph is laid in both.
-// Stays: asks no more of its callers than lists that fit.
+// Stays: asks a hypergraph in the words and room for the coarser one (`HasRoom`): a `Graph` only reads its words, which are written here; a struct of the four lists would be made and taken apart in each call.
 pub fn coarsen(
     words: &mut [u64],
     layout: &Layout,

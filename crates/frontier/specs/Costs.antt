@@ -1,6 +1,8 @@
 -- What opened nodes cost: 2 to the work bits of each. Assumes nothing.
-use Rattle.std.specs.Prelude.{◌≡◌, refl, List, ℕ, zero, suc, ◌+◌, ◌*◌, ◌%◌, ◌^◌, ◌≤◌, ◌<◌, get_or}
-use Rattle.std.proofs.Common.{ap, ◌∙◌, one-mul, add-one, arith, lit<, pow_mono, shl_exact}
+use Rattle.std.specs.Prelude.{◌≡◌, refl, List, ℕ, zero, suc, ◌+◌, ◌*◌, ◌%◌, ◌^◌, ◌≤◌, ◌<◌, get_or, map}
+use Rattle.std.specs.List.{sum, range_with_len}
+use Rattle.std.proofs.lemmas.List.FromFn.{sum_by-map-range_with_len_more}
+use Rattle.std.proofs.Common.{sym, ap, ◌∙◌, one-mul, add-one, arith, lit<, pow_mono, shl_exact}
 use Rattle.std.proofs.Math.Decide.{dec_le}
 
 -- the first c of a list of nodes
@@ -29,25 +31,35 @@ pub cost_none : (works opened : List ℕ) → 0 ≡ cost_below works opened 0
 unfolding cost_below
 cost_none works opened = refl
 
--- one node more, with its work bits w
-module _ (works opened : List ℕ) (c i v w : ℕ) (less : i < c) (fits : cost_below works opened c < 9007199254740992)
-    (hv : v ≡ get_or opened i 0) (hw : w ≡ get_or works v 0)
-  where
-    same : w ≡ get_or works (get_or opened i 0) 0
-    same = hw ∙ ap (λ x. get_or works x 0) hv
+-- the cost of the opened node at place i, as a shift of 1 makes it
+abbrev pub node_cost : List ℕ → List ℕ → ℕ → ℕ
+node_cost works opened i = 1 * 2 ^ get_or works (get_or opened i 0) 0 % 2 ^ 64
 
-    total : cost_below works opened i + 2 ^ w ≤ cost_below works opened c
-    total = omega (arith, cost_next works opened i, ap (λ x. 2 ^ x) same, cost_most works opened (i + 1) c (omega arith))
+module _ (works opened : List ℕ) (c : ℕ) (fits : cost_below works opened c < 9007199254740992) where
+  total : (i : ℕ) → i < c → cost_below works opened i + 2 ^ get_or works (get_or opened i 0) 0 ≤ cost_below works opened c
+  total i less = omega (arith, cost_next works opened i, cost_most works opened (i + 1) c (omega arith))
 
-    pub small_work : w < 53
-    small_work =
-        elim (dec_le 53 w) [
-          | yes k ↦ absurd (omega (arith, total, pow_mono {i = 53} {j = w} k))
-          | no k ↦ omega arith
-        ]
+  pub small_work : (i : ℕ) → i < c → get_or works (get_or opened i 0) 0 < 53
+  small_work i less =
+      elim (dec_le 53 (get_or works (get_or opened i 0) 0)) [
+        | yes k ↦ absurd (omega (arith, total i less, pow_mono {i = 53} {j = get_or works (get_or opened i 0) 0} k))
+        | no k ↦ omega arith
+      ]
 
-    pub shifted : 1 * 2 ^ w % 2 ^ 64 ≡ 2 ^ w
-    shifted = shl_exact 1 w 64 (lit< tt) (omega (arith, small_work)) ∙ one-mul (2 ^ w)
+  pub shifted : (i : ℕ) → i < c → node_cost works opened i ≡ 2 ^ get_or works (get_or opened i 0) 0
+  shifted i less =
+      shl_exact 1 (get_or works (get_or opened i 0) 0) 64 (lit< tt) (omega (arith, small_work i less)) ∙ one-mul (2 ^ get_or works (get_or opened i 0) 0)
 
-    pub cost_add : (sum : ℕ) → sum ≡ cost_below works opened i → (sum + 1 * 2 ^ w % 2 ^ 64 ≡ cost_below works opened (i + 1)) × (sum + 1 * 2 ^ w % 2 ^ 64 < 9007199254740992)
-    cost_add sum e = (omega (arith, shifted, cost_next works opened i, ap (λ x. 2 ^ x) same), omega (arith, shifted, total))
+  costs_below : (i : ℕ) → i ≤ c → sum (map (node_cost works opened) (range_with_len 0 i)) ≡ cost_below works opened i
+  costs_below zero h = cost_none works opened
+  costs_below (suc i) h =
+      ap (λ (n : ℕ). sum (map (node_cost works opened) (range_with_len 0 n))) (sym (add-one i))
+      ∙ sum_by-map-range_with_len_more (λ (n : ℕ). n) (node_cost works opened) 0 i i (omega arith)
+      ∙ omega (arith, costs_below i (omega arith), shifted i (omega arith), cost_next works opened i)
+      ∙ ap (cost_below works opened) (add-one i)
+
+  pub costs_all : sum (map (node_cost works opened) (range_with_len 0 c)) ≡ cost_below works opened c
+  costs_all = costs_below c (omega arith)
+
+  pub costs_fit : sum (map (node_cost works opened) (range_with_len 0 c)) < 2 ^ 64
+  costs_fit = omega (arith, costs_all, fits)

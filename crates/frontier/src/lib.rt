@@ -152,13 +152,12 @@ pub fn old_cost(works: &[u16], opened: &[u16], c: usize) -> u64
     requires { cost_below works.now opened.now c < 9007199254740992 }
     ensures { result ≡ cost_below works.now opened.now c }
 {
-    let mut sum: u64 = 0;
-    for i in 0..c {
-        let v = usize::from(cells::get_or(opened, i, 0));
-        let work = cells::get_or(works, v, 0);
-        sum += 1 << work;
-    }
-    sum
+    (0..c)
+        .map(|i| {
+            let v = usize::from(cells::get_or(opened, i, 0));
+            1 << cells::get_or(works, v, 0)
+        })
+        .sum()
 }
 
 /// What all of the opened nodes cost.

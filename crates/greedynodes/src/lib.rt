@@ -87,7 +87,7 @@ pub fn greedy_nodes(
 }
 
 /// The same over an accepted network's lists: it is lent 1,036 words or more, asked for at most 128 leaves, and the array has fewer than 8,192 nodes.
-// Stays: `count` is how many nodes the array has so far, and `kids` is longer.
+// Stays: `count` is how many nodes the array has so far, and `kids` is longer; the leaves are some of the network's, and both bounds are of this call alone.
 pub fn plan_leaves(
     words: &mut [u64],
     network: &Accepted,

@@ -47,6 +47,7 @@ fn offer(part: &[u8], links: &[f64], draws: &mut Draws, u: usize, best: Candidat
 }
 
 /// The vertex of side 0 with the strongest connection, if side 0 has a vertex. Each vertex of side 0 takes a draw.
+// Stays: the number itself is meant, a vertex: `offer` reads its side and its link by it, and makes it the candidate's; how long `part` is, is not asked.
 pub fn strongest(part: &[u8], links: &[f64], draws: &mut Draws) -> Candidate
     requires { length links.now ≤ 65536 }
     ensures strongest { strong_in result.link result.vertex draws.new ≡ strongest_in part.now links.now (length links.now) draws.old }
@@ -56,7 +57,7 @@ pub fn strongest(part: &[u8], links: &[f64], draws: &mut Draws) -> Candidate
         link: -1.0,
         vertex: None,
     };
-    for (u, _) in links.iter().enumerate() {
+    for u in 0..links.len() {
         best = offer(part, links, draws, u, best);
     }
     best

@@ -1,18 +1,21 @@
 -- Have two slots an index in common: word by word, up to the first word that has one. Assumes nothing.
-use Rattle.std.specs.Prelude.{Bool, false, ◌&&◌, ◌≡◌, List, [], ◌∷◌, ◌++◌, get_or}
+use Rattle.std.specs.Prelude.{Bool, false, ◌&&◌, ◌≡◌, List, [], ◌++◌, get_or, length}
 use Rattle.std.proofs.Math.Bool.{true}
-use Rattle.std.proofs.Math.Path.{sym, ap, ap₂}
-use Rattle.std.proofs.Common.{◌∙◌, arith}
-use Prim.Native.Nat.{ℕ, suc, ◌+◌, ◌-◌, ◌*◌, ◌^◌, ◌<◌}
+use Rattle.std.proofs.Math.Path.{refl, sym, subst, ap, ap₂}
+use Rattle.std.proofs.Common.{◌∙◌, arith, add-one}
+use Prim.Native.Nat.{ℕ, zero, suc, ◌+◌, ◌-◌, ◌*◌, ◌^◌, ◌<◌}
 use Rattle.std.proofs.Math.Nat.{mul-le-mul_right, suc-mul}
-use Rattle.std.specs.Int.Bits.{bit_and}
+use Rattle.std.specs.Int.Bits.{bit_and, and_lt}
+use Rattle.std.specs.Bool.{MatchBool}
+use Rattle.std.specs.List.{range_with_len, AllWithin, HoldsAt}
+use Rattle.std.proofs.lemmas.List.FromFn.{length-range_with_len, get_or-range_with_len}
 use Rattle.std.specs.Int.Count.{count_trailing_zeros}
 use Rattle.spec.specs.Lists.{memb, keep, range, anyb}
-use Rattle.laws.specs.Booleans.{by_cases, clash}
-use Rattle.laws.specs.ListLaws.{memb_head, memb-keep, memb-range, keep_passes, any_intro, any_elim}
+use Rattle.laws.specs.Booleans.{by_cases, clash, or_intror}
+use Rattle.laws.specs.ListLaws.{memb_head, memb-keep, memb-range, keep_passes, memb-append, any_intro, any_elim}
 use Rattle.bits.specs.Digits.{and_digits}
 use Rattle.bits.specs.Lowest.{Tests, places, places_step, places_none, tz_small}
-use Rattle.slots.specs.Slots.{held, held-digit}
+use Rattle.slots.specs.Slots.{Words, held, held-digit}
 use Rattle.slots.specs.Rising.{word_more}
 
 -- is index j in both slots
@@ -53,14 +56,38 @@ module _ (ws : List ℕ) (W x y : ℕ) where
       (λ f. sym f)
 
   -- a word with a common index
-  pub share_found : (k a b : ℕ) → k < W → a ≡ get_or ws (x * W + k) 0 → b ≡ get_or ws (y * W + k) 0 → (bit_and a b ≡ 0 → ⊥) → bit_and a b < 2 ^ 64
-      → both (k * 64) ≡ [] → true ≡ shares ws W x y
+  pub share_found : (k : ℕ) → k < W → (bit_and (get_or ws (x * W + k) 0) (get_or ws (y * W + k) 0) ≡ 0 → ⊥) → bit_and (get_or ws (x * W + k) 0) (get_or ws (y * W + k) 0) < 2 ^ 64
+      → true ≡ shares ws W x y
   unfolding shares
-  share_found k a b l p q n lt h =
-      let pos : 0 < bit_and a b = omega (arith, n) in
-      let j = k * 64 + count_trailing_zeros 64 (bit_and a b) in
-      let small : j < W * 64 = omega (arith, tz_small 64 (bit_and a b) pos lt, mul-le-mul_right {m = suc k} {n = W} 64 l, suc-mul k 64) in
-      let e : both ((k + 1) * 64) ≡ j ∷ places (k * 64) 64 (bit_and (bit_and a b) (bit_and a b - 1)) =
-      both_next k a b p q ∙ rw h (places_step (k * 64) 64 (bit_and a b) pos lt) in
-      let m : memb j (both ((k + 1) * 64)) ≡ true = ap (memb j) e ∙ memb_head j (places (k * 64) 64 (bit_and (bit_and a b) (bit_and a b - 1))) in
+  share_found k l n lt =
+      let v = bit_and (get_or ws (x * W + k) 0) (get_or ws (y * W + k) 0) in
+      let pos : 0 < v = omega (arith, n) in
+      let j = k * 64 + count_trailing_zeros 64 v in
+      let small : j < W * 64 = omega (arith, tz_small 64 v pos lt, mul-le-mul_right {m = suc k} {n = W} 64 l, suc-mul k 64) in
+      let last : memb j (places (k * 64) 64 v) ≡ true = ap (memb j) (places_step (k * 64) 64 v pos lt) ∙ memb_head j (places (k * 64) 64 (bit_and v (v - 1))) in
+      let m : memb j (both ((k + 1) * 64)) ≡ true = ap (memb j) (both_next k _ _ refl refl) ∙ memb-append j (both (k * 64)) (places (k * 64) 64 v) ∙ or_intror (memb j (both (k * 64))) (memb j (places (k * 64) 64 v)) last in
       sym (any_intro (common ws W x y) j (range (W * 64)) (keep_passes j (common ws W x y) (range ((k + 1) * 64)) m) (memb-range j (W * 64) small))
+
+  -- what a search word by word found
+  abbrev pub Shared : ℕ → Type 0
+  Shared k = bit_and (get_or ws (x * W + k) 0) (get_or ws (y * W + k) 0) ≡ 0 → ⊥
+
+  abbrev pub Apart : ℕ → Type 0
+  Apart k = bit_and (get_or ws (x * W + k) 0) (get_or ws (y * W + k) 0) ≡ 0
+
+  no_words : (k : ℕ) → ((i : ℕ) → i < k → Apart i) → both (k * 64) ≡ []
+  no_words zero h = refl
+  no_words (suc k) h = ap (λ (n : ℕ). both (n * 64)) (sym (add-one k)) ∙ share_next k _ _ refl refl (h k (omega arith)) (no_words k (λ i l. h i (omega arith)))
+
+  numbered : (k : ℕ) → k < W → get_or (range_with_len 0 W) k 0 ≡ k
+  numbered k l = get_or-range_with_len 0 W k 0 l ∙ omega arith
+
+  -- `any` over the numbers of the words
+  pub share_any : Words ws → (r : Bool)
+      → MatchBool r ((k : ℕ) × (k < length (range_with_len 0 W)) × HoldsAt Shared (range_with_len 0 W) k) (AllWithin Apart (range_with_len 0 W) 0 (length (range_with_len 0 W)))
+      → r ≡ shares ws W x y
+  share_any fits true h =
+      let l : h.0 < W = omega (arith, h.1, length-range_with_len 0 W) in
+      share_found h.0 l (subst Shared (numbered h.0 l) (h.2 0)) (and_lt 64 _ _ (fits _) (fits _))
+  share_any fits false h =
+      share_end W refl (no_words W (λ i l. subst Apart (numbered i l) (h i 0 (omega arith) (omega (arith, l, length-range_with_len 0 W)))))

@@ -1,8 +1,10 @@
 -- The table that a merge of two makes: an index of both stays where slot 258 holds it, an index of one where slot 257 does. Its words,
 -- and its size, word by word. Assumes nothing.
-use Rattle.std.specs.Prelude.{Bool, true, false, not, ◌&&◌, ◌||◌, cond, ◌≡◌, List, [], ℕ, ◌+◌, ◌*◌, ◌^◌, ◌<◌, get_or, set}
+use Rattle.std.specs.Prelude.{Bool, true, false, not, ◌&&◌, ◌||◌, cond, ◌≡◌, List, [], ℕ, zero, suc, ◌+◌, ◌*◌, ◌^◌, ◌<◌, ◌≤◌, get_or, set, map}
+use Rattle.std.specs.List.{sum, range_with_len}
+use Rattle.std.proofs.lemmas.List.FromFn.{sum_by-map-range_with_len_more}
 use Rattle.std.proofs.Math.Path.{refl, ap}
-use Rattle.std.proofs.Common.{sym, ◌∙◌, ap₂}
+use Rattle.std.proofs.Common.{sym, ◌∙◌, ap₂, add-one}
 use native.Mathlib.Omega.{arith}
 use Rattle.std.specs.Int.Bits.{bit_and, bit_or, bit_xor, and_lt}
 use Rattle.std.proofs.lemmas.Nat.{or_lt, xor_lt}
@@ -12,7 +14,7 @@ use Rattle.bits.specs.Digits.{digit, or_digits, and_digits, xor_digits}
 use Rattle.bits.specs.Lowest.{Tests, places}
 use Rattle.slots.specs.Slots.{held, word_of, written, Words, held-digit, word_is, written_other, written_next, place_eq}
 use Rattle.slots.specs.Rising.{word_more}
-use Rattle.slots.specs.Weigh.{open_weight, weighed, word_weight}
+use Rattle.slots.specs.Weigh.{Light, open_weight, weighed, word_weight, weighed_none, weighed_most}
 
 -- does an index stay: is it in the first, in the second, in two tables or more, in three or more
 abbrev pub stays : Bool → Bool → Bool → Bool → Bool
@@ -68,8 +70,7 @@ module _ (ws : List ℕ) (W x y : ℕ) where
 
   module _ (wt fl : List ℕ) where
     pub size_none : 0 ≡ weighed wt fl (merged_set ws W x y) (0 * 64)
-    unfolding weighed
-    size_none = refl
+    size_none = weighed_none wt fl (merged_set ws W x y)
 
     pub size_next : (k sum v r : ℕ) → sum ≡ weighed wt fl (merged_set ws W x y) (k * 64) → v ≡ word_at k
         → r ≡ word_weight wt fl (k * 64) v → sum + r ≡ weighed wt fl (merged_set ws W x y) ((k + 1) * 64)
@@ -83,6 +84,26 @@ module _ (ws : List ℕ) (W x y : ℕ) where
           ap (sum_of (open_weight wt fl)) (word_more 64 (merged_set ws W x y) k (word_at k) (merged_tests k)),
           sum_append (open_weight wt fl) (keep (merged_set ws W x y) (range (k * 64))) (places (k * 64) 64 (word_at k)),
         )
+
+  module _ (wt : List ℕ) where
+    -- the weights of word k
+    abbrev pub weight_at : ℕ → ℕ
+    weight_at k = word_weight wt [] (k * 64) (word_at k)
+
+    sized : (k : ℕ) → sum (map weight_at (range_with_len 0 k)) ≡ weighed wt [] (merged_set ws W x y) (k * 64)
+    sized zero = size_none wt []
+    sized (suc k) =
+        ap (λ (n : ℕ). sum (map weight_at (range_with_len 0 n))) (sym (add-one k))
+        ∙ sum_by-map-range_with_len_more (λ (n : ℕ). n) weight_at 0 k k (omega arith)
+        ∙ size_next wt [] k _ _ (weight_at k) (sized k) refl refl
+        ∙ ap (λ (n : ℕ). weighed wt [] (merged_set ws W x y) (n * 64)) (add-one k)
+
+    pub size_all : sum (map weight_at (range_with_len 0 W)) ≡ pair_bits ws W wt x y
+    unfolding pair_bits
+    size_all = sized W
+
+    pub size_fits : W ≤ 16 → Light wt → sum (map weight_at (range_with_len 0 W)) < 2 ^ 64
+    size_fits h light = omega (arith, sized W, weighed_most wt [] (merged_set ws W x y) (W * 64) light)
 
   -- ---- written into slot z ----
 

@@ -10,7 +10,7 @@ ghost use Rattle.live.specs.Merged.{merged_set, pair_bits, word_at};
 
 // Stays: `w ≤ 16`, `s < 1048576`, `x < 1048576`, `y < 1048576`, `k < 1048576`: bounds of numbers, so that a place fits a machine word; a type of its own would be unwrapped at each use.
 // Stays: `x: usize, y: usize`: two slots of one list, read side by side.
-// Stays: `sets: &[u64], w: usize`, `w: usize, s: usize`: a set is named by its list, the width of a set and its slot; two or three of one list are read in one call, so none can hold the list.
+// Stays: `sets: &[u64], w: usize`, `w: usize, s: usize`: a set is named by its list, the width of a set and its slot; two or three of one list are read in one call, so none can hold the list; a value of list and width would be made anew for each read between two writes.
 // Stays: `Light weights.now`: the weights are lent alone here; where scores are made `Scoring` has the fact.
 use tables::{OUTSIDE, THRICE, TWICE};
 
@@ -25,19 +25,12 @@ fn word(sets: &[u64], w: usize, s: usize, k: usize) -> u64
 }
 
 /// Have slots `x` and `y` an index in common.
-// Stays: two slots are read side by side, by the number of a word; a closure of `any` over these numbers would have the same two reads.
+// Stays: by the number of a word, at which both slots are read; past the end of the list they are empty.
 pub fn share(sets: &[u64], w: usize, x: usize, y: usize) -> bool
     requires { (w ≤ 16) × (x < 1048576) × (y < 1048576) }
     ensures { result ≡ shares sets.now w x y }
 {
-    for k in 0..w {
-        let a = word(sets, w, x, k);
-        let b = word(sets, w, y, k);
-        if a & b != 0 {
-            return true;
-        }
-    }
-    false
+    (0..w).any(|k| word(sets, w, x, k) & word(sets, w, y, k) != 0)
 }
 
 /// What two or more tables hold, and what three or more hold, in a word of their sets.
@@ -106,17 +99,17 @@ fn merged_word(sets: &[u64], w: usize, x: usize, y: usize, k: usize) -> u64
 }
 
 /// Its size bits.
+// Stays: by the number of a word, which is the base of its indices as well.
 pub fn merged_size(sets: &[u64], w: usize, x: usize, y: usize, weights: &[u8]) -> usize
     requires { (w ≤ 16) × (x < 1048576) × (y < 1048576) × Light weights.now }
     ensures { result ≡ pair_bits sets.now w weights.now x y }
 {
-    let mut sum: usize = 0;
-    // Stays: four slots of one list are read side by side, by total reads; a slot past the end is no slice.
-    for k in 0..w {
-        let v = merged_word(sets, w, x, y, k);
-        sum += slots::weigh_word(v, k * 64, weights, &weights[..0]);
-    }
-    sum
+    (0..w)
+        .map(|k| {
+            let v = merged_word(sets, w, x, y, k);
+            slots::weigh_word(v, k * 64, weights, &weights[..0])
+        })
+        .sum()
 }
 
 /// Makes slot `z` the table that a merge of slots `x` and `y` makes.

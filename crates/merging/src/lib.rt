@@ -10,7 +10,7 @@ ghost use Rattle.merging.specs.Connect.{Start, Connected};
 ghost use Rattle.merging.specs.Scans.{kids_behind};
 ghost use Rattle.merging.specs.Merge.{first_at, second_at, with_node, scanned_in, merged_in};
 
-// Stays: `tables: &mut Tables, scoring: &Scoring`: the tables are written, and what the scores are made of beside them stays; a value that held both would lend both to be written.
+// Stays: `tables: &mut Tables, scoring: &Scoring`: the one is written and the other read; a value that lends both would have each clause say that the same tables come back.
 // Stays: `x: usize, y: usize`: two slots that are taken out of one list.
 use arrayvec::ArrayVec;
 use rows::Pairs;
@@ -37,9 +37,9 @@ pub fn put_node(kids: &mut [u16], count: usize, l: u16, r: u16)
     requires { count < 1048576 }
     ensures { kids.new ≡ with_node kids.old count l r }
 {
-    // Stays: the two children of a node stand side by side in the flat list of the stored tree and the C interface.
+    // Stays: the two children of a node stand side by side in a flat list, as in that of the C interface, into which a caller above puts them.
     cells::put(kids, count * 2, l);
-    // Stays: the second child stands behind the first in the flat list of the stored tree and the C interface.
+    // Stays: the second child stands behind the first, in the same list.
     cells::put(kids, count * 2 + 1, r);
 }
 
@@ -52,7 +52,6 @@ struct Children {
 }
 
 /// Merges the two tables of the pair that the row of slot `y` names into slot `z`, whose number is `node`.
-// Stays: the tables' lists go by slot, and each is lent by itself elsewhere.
 fn merge(
     sets: &mut [u64],
     tables: &mut Tables,
@@ -113,7 +112,8 @@ fn scan(
 /// Merges the least pair of the live tables and its like until none share an index, and returns how many merges there were; refused where a
 /// pair is too wide. The array so far has `count` nodes over `n` leaves. Each merge makes one more, whose children are put into `kids`.
 /// Of more than 128 tables none is merged, and 0 is returned: greedy starts with no more.
-// Stays: the turns write the tables and may be refused, which a closure of `position` would hold and hide.
+// Stays: the turns write the tables and may be refused, which a closure of `position` would hold and hide; `n` and `count` are numbers of leaves and nodes,
+// and no lengths of `kids`, which is the flat list that is written.
 pub fn connect(
     sets: &mut [u64],
     tables: &mut Tables,

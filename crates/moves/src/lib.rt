@@ -42,7 +42,7 @@ pub fn weight_on(part: &[u8], vw: &[f64], s: usize) -> f64
 }
 
 /// Vertex `v` goes to the other side: in the list `part`, in the slots `sides` and `sides + 1`, and in the weights of the sides, `loads`.
-// Stays: asks no more of its callers than lists that fit; one index names a vertex in the partition and in the weights.
+// Stays: asks a vertex, and one partition in `part` and the slots (`Split`): a `Bipartition` would ask two loads too, a `Layout` the nets. One index names a vertex in the partition and in the weights.
 pub fn move_vertex(
     words: &mut [u64],
     sides: usize,
@@ -68,7 +68,7 @@ pub fn move_vertex(
 }
 
 /// Can the other side take vertex `v`, if no side may weigh more than `most_weight`; `loads` has what each side weighs.
-// Stays: asks no more of its callers than lists that fit; one index names a vertex in the partition and in the weights.
+// Stays: asks nothing of its callers; one index names a vertex in the partition and in the weights.
 pub fn fits(part: &[u8], loads: &[f64], vw: &[f64], most_weight: f64, v: usize) -> bool
     ensures { Fits vw.now most_weight v (sides_as part.now loads.now) result }
 {
@@ -78,7 +78,7 @@ pub fn fits(part: &[u8], loads: &[f64], vw: &[f64], most_weight: f64, v: usize) 
 }
 
 /// Takes back the moves after the first `peak` of `count`, the last one first; `moves` lists their vertices.
-// Stays: asks no more of its callers than lists that fit.
+// Stays: asks one partition in `part` and the slots (`Split`), and moves of vertices (`Under`): a `Bipartition` would ask two loads too, a `Layout` the nets, a `Pass` its sums; the method is for these.
 pub fn roll_back(
     words: &mut [u64],
     sides: usize,

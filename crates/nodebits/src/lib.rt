@@ -99,7 +99,7 @@ struct Between {
     dropped: usize,
 }
 
-// Stays: three slots of one list are read at the same word, whose number is the base of its indices as well.
+// Stays: one walk over the words of three slots makes two sums; a chain for each sum would read the three slots again. The number of a word is the base of its indices as well.
 fn overlap(sets: &[u64], w: usize, l: usize, r: usize, v: usize, effective: &[u8]) -> Between
     requires { StepKnown w l r v sets.now effective.now }
     ensures { (result.shared ≡ weighed effective.now [] (λ j. held sets.now w l j && held sets.now w r j) (w * 64)) × (result.dropped ≡ weighed effective.now [] (λ j. either sets.now w l r j && not (held sets.now w v j)) (w * 64)) }

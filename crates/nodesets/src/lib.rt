@@ -102,7 +102,7 @@ fn trim_all(sets: &mut [u64], outside: &[u64], w: usize, n: usize, kids: &[u16],
 
 /// Makes slot v of `sets` the set of the indices that node v lists, for every node v of a tree of `n` leaves, of a network with `o` outputs;
 /// `outside` is worked in.
-// Stays: asks no more of its callers than lists that fit.
+// Stays: asks a tree and its step order (`Ordered`), and of the network two bounds: a `Tree` would ask at most 512 leaves, an `Accepted` the weights too, and all that is checked of a network.
 pub fn node_sets(
     sets: &mut [u64],
     outside: &mut [u64],

@@ -38,7 +38,7 @@ impl From<Tag> for u8 {
 }
 
 impl Tag {
-    // Stays: the conversion is `From`; this is its name as a method, which a refusal's number has too.
+    // Stays: a public function that callers in other crates use, so what it promises stays; the conversion is `u8::from`.
     /// The byte that stands in a file: 1 to 6.
     pub fn number(self) -> u8
         ensures { result ≡ tag_number self }

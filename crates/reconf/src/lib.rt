@@ -100,7 +100,7 @@ pub struct Visited {
 
 /// Visits node `v` of the tree `kids` of `n` leaves, whose sets and work bits are at hand: the region below it, down to a frontier of at most as many
 /// members as asked, is rebuilt in `kids` if a tree over the members is cheaper.
-// Stays: asks no more of its callers than lists that fit: neither a price list nor an accepted network's lists; `n` is the number of leaves.
+// Stays: asks a tree of `n` leaves, its sets and work bits, and its accepted network's weights (`Visitable`): a `PriceList` would ask the sizes too, a `Task` the network's legs and outputs.
 pub fn reconf_node(
     words: &mut [u64],
     sets: &[u64],

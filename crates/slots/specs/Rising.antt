@@ -5,6 +5,9 @@ use Rattle.std.proofs.Math.Path.{ap}
 use Rattle.std.specs.Int.Count.{ones}
 use Rattle.std.proofs.lemmas.Nat.{ones-le}
 use Rattle.std.proofs.Math.ListN.{length}
+use Rattle.std.specs.Prelude.{map}
+use Rattle.std.specs.List.{sum, range_with_len}
+use Rattle.std.proofs.lemmas.List.FromFn.{sum_by-map-range_with_len_more}
 use Rattle.std.proofs.lemmas.List.Edits.{sets}
 use Rattle.std.proofs.Math.Seq.{length-sets}
 use Rattle.spec.specs.Lists.{memb, keep, from, range}
@@ -13,7 +16,7 @@ use Rattle.laws.specs.ListLaws.{keep_ext, memb-keep-range, kept_few}
 use Rattle.bits.specs.Digits.{digit}
 use Rattle.bits.specs.Lowest.{Tests, places, places_ones, keep-places}
 use Rattle.cells.specs.Cells.{take-sets}
-use Rattle.slots.specs.Slots.{held, with_set, held-digit, held_with}
+use Rattle.slots.specs.Slots.{Words, held, with_set, held-digit, held_with}
 
 -- the members of slot s, rising
 unfoldable pub rising_of : List ℕ → ℕ → ℕ → List ℕ
@@ -156,3 +159,22 @@ module _ (ws : List ℕ) (W s : ℕ) where
   pub count_end : (k n : ℕ) → k ≡ W → n ≡ length (below_of (k * 64)) → n ≡ length (rising_of ws W s)
   unfolding rising_of
   count_end k n e h = h ∙ ap (λ (n : ℕ). length (below_of (n * 64))) e
+
+  -- the digits that are set in each word, added up over the first k words
+  abbrev pub ones_at : ℕ → ℕ
+  ones_at k = ones (get_or ws (s * W + k) 0)
+
+  counted : Words ws → (k : ℕ) → sum (map ones_at (range_with_len 0 k)) ≡ length (below_of (k * 64))
+  counted fits zero = refl
+  counted fits (suc k) =
+      ap (λ (n : ℕ). sum (map ones_at (range_with_len 0 n))) (sym (add-one k))
+      ∙ sum_by-map-range_with_len_more (λ (n : ℕ). n) ones_at 0 k k (omega arith)
+      ∙ count_next k _ _ _ (counted fits k) refl (fits _) refl
+      ∙ ap (λ (n : ℕ). length (below_of (n * 64))) (add-one k)
+
+  pub count_all : Words ws → sum (map ones_at (range_with_len 0 W)) ≡ length (rising_of ws W s)
+  unfolding rising_of
+  count_all fits = count_end W _ refl (counted fits W)
+
+  pub count_fits : Words ws → W ≤ 16 → sum (map ones_at (range_with_len 0 W)) < 2 ^ 64
+  count_fits fits h = omega (arith, count_all fits, rising_few ws W s)

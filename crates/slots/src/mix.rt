@@ -4,7 +4,7 @@ ghost use Rattle.std.specs.Int.Bits.{bit_and, bit_or, and_lt};
 ghost use Rattle.std.proofs.lemmas.Nat.{or_lt};
 ghost use Rattle.bits.specs.Digits.{Digitwise, bit_diff, or_digits, and_digits, diff_digits, diff_lt};
 ghost use Rattle.slots.specs.Slots.{held, with_set};
-// Stays: `words: &mut [u64], w: usize`, `w: usize, a: usize`, `a: usize, b: usize`, `b: usize, c: usize`: a slot is named by its list, width and number; three of one list are read and written in one call, so none can hold the list.
+// Stays: `words: &mut [u64], w: usize`, `w: usize, a: usize`, `a: usize, b: usize`, `b: usize, c: usize`: a slot is named by its list, width and number; three of one list are read and written in one call, so none can hold the list; a value of list and width would have each clause say that the same words come back.
 // Stays: `w ≤ 16`, `a < 1048576`, `b < 1048576`, `c < 1048576`: bounds of numbers, so that a place fits a machine word.
 
 /// An operation on words that works digit by digit: what it does to words, and to the question whether an index is in a set.

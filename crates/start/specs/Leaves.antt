@@ -1,14 +1,15 @@
 -- Greedy's start in lent lists: the leaves' tables in slots with their sizes, and the indices that stay whatever is merged. Assumes nothing.
-use Rattle.std.specs.Prelude.{Bool, false, not, ◌&&◌, ◌||◌, cond, ◌≡◌, length, get_or, set, replicate}
+use Rattle.std.specs.Prelude.{Bool, false, not, ◌&&◌, ◌||◌, cond, ◌≡◌, length, get_or, set, replicate, min, drop}
 use Rattle.std.proofs.Math.Bool.{true, or_assoc, or-false}
 use Rattle.std.proofs.Math.Path.{refl, ap, fun_ext}
-use Rattle.std.proofs.Common.{sym, ◌∙◌, arith, add-one, get_or-set_same}
+use Rattle.std.proofs.Common.{sym, ◌∙◌, arith, add-one, get_or-set_same, ext_get_or, length-append, length-drop}
 use mathlib.Core.List.{List, [], ◌∷◌, ◌++◌}
 use Rattle.spec.specs.Lists.{from, range}
 use Rattle.spec.specs.Memory.{copied, filled}
-use Prim.Native.Nat.{ℕ, zero, suc, ◌+◌, ◌*◌, ◌≤◌, ◌<◌}
-use Rattle.std.proofs.Math.Decide.{ℕ_discrete}
-use Rattle.std.proofs.Math.ListN.{length-set}
+use Prim.Native.Nat.{ℕ, zero, suc, ◌+◌, ◌-◌, ◌*◌, ◌≤◌, ◌<◌}
+use Rattle.std.proofs.Math.Decide.{ℕ_discrete, dec_le}
+use Rattle.std.proofs.Math.ListN.{length-set, get_or-append}
+use Rattle.std.proofs.lemmas.List.{get_or-append_right, get_or-drop}
 use Rattle.std.proofs.Math.Seq.{get_or-set_other}
 use Rattle.laws.specs.Booleans.{by_cases}
 use Rattle.cells.specs.Loop.{turns, turns_next}
@@ -37,6 +38,25 @@ module _ (f : ℕ → ℕ) (l : List ℕ) where
         | yes e ↦ rw e (get_or-set_same (put_all f l n) n (f n) 0 (omega (arith, put_length n)))
         | no e ↦ get_or-set_other (put_all f l n) n k (f n) 0 e ∙ put_at n k (omega (arith, e)) b
       ]
+
+  pub put_past : (n k d : ℕ) → n ≤ k → get_or (put_all f l n) k d ≡ get_or l k d
+  unfolding turns
+  put_past zero k d h = refl
+  put_past (suc n) k d h = get_or-set_other (put_all f l n) n k (f n) d (λ e. omega (arith, e)) ∙ put_past n k d (omega arith)
+
+  -- the front that was written, back before the places after it
+  pub put_front : (front : List ℕ) (n e : ℕ) → e ≡ min n (length l) → length front ≡ e → ((k : ℕ) → k < e → get_or front k 0 ≡ f k)
+      → front ++ drop e l ≡ put_all f l n
+  put_front front n e q long done =
+      ext_get_or 0 (front ++ drop e l) (put_all f l n)
+      (omega (arith, length-append front (drop e l), length-drop e l, put_length n))
+      (λ k b. elim (dec_le e k) [
+        | no h ↦ get_or-append front (drop e l) 0 k (omega (arith, h)) ∙ done k (omega (arith, h)) ∙ sym (put_at n k (omega (arith, h)) (omega (arith, h)))
+        | yes h ↦ (let r : e + (k - e) ≡ k = omega (arith, h) in
+            let w : k < length l = omega (arith, b, length-append front (drop e l), length-drop e l, long) in
+            get_or-append_right front (drop e l) e k 0 long h ∙ get_or-drop e l (k - e) 0 ∙ ap (λ (m : ℕ). get_or l m 0) r
+            ∙ sym (put_past n k 0 (omega (arith, h, w))))
+      ])
 
 -- ---- the sets of the leaves ----
 

@@ -8,7 +8,7 @@ ghost use Rattle.slots.specs.Weigh.{either, weighed};
 ghost use Rattle.tables.specs.Lists.{lists_in};
 ghost use Rattle.start.specs.Leaves.{with_other, outside_to, with_leaves, with_sizes, start_words, prepared_in, put_all};
 
-// Stays: `tables: &mut Tables, scoring: &Scoring`: the tables are written, and what the scores are made of beside them stays; a value that held both would lend both to be written.
+// Stays: `tables: &mut Tables, scoring: &Scoring`: the one is written and the other read; a value that lends both would have each clause say that the same tables come back.
 use arrayvec::ArrayVec;
 use tables::row::Row;
 use tables::scoring::Scoring;
@@ -39,7 +39,7 @@ fn put_leaves(sets: &mut [u64], w: usize, counts: &[u8], legs: &[u16], leaves: &
 }
 
 /// Makes slot `s` the set of the numbers of a list.
-// Stays: the bounds are those of places in memory.
+// Stays: the bounds are those of places in memory, and a type of such numbers would be unwrapped at each use; a set is named by its list, width and slot.
 fn put_list(sets: &mut [u64], w: usize, s: usize, list: &[u16])
     requires { (w ≤ 16) × (s < 1048576) × (length list.now ≤ 4294967296) }
     ensures { sets.new ≡ with_set sets.old w s (among list.now 0 (length list.now)) }
@@ -104,32 +104,31 @@ fn size_bits(sets: &[u64], scoring: &Scoring, i: usize) -> usize
 }
 
 /// Puts the size bits of the tables in the first `n` slots down.
-// Stays: the number is the slot that is weighed as well as a place, and there may be more slots than places.
 fn weigh_all(sets: &[u64], scoring: &Scoring, n: usize, sizes: &mut [usize])
     requires { n < 1048576 }
     ensures { sizes.new ≡ with_sizes sets.now scoring.now.width scoring.now.weights.now sizes.old n }
 {
-    for i in 0..n {
-        let bits = size_bits(sets, scoring, i);
-        cells::put(sizes, i, bits);
+    let most = n.min(sizes.len());
+    for (i, size) in sizes[..most].iter_mut().enumerate() {
+        *size = size_bits(sets, scoring, i);
     }
 }
 
-/// Puts 0, 1, .. at the first `n` places.
-// Stays: `fill_with` would count by hand in its closure. The one of `matching` fills its whole list, and is a private step of a crate that stands on no part of greedy.
+/// Puts 0, 1, .. at the first `n` places, as far as the list goes.
+// Stays: the one of `matching` fills its whole list, and is a private step of a crate that stands on no part of greedy.
 pub fn count_up(list: &mut [u16], n: usize)
     requires { n < 65536 }
     ensures { list.new ≡ put_all (λ i. i) list.old n }
 {
-    // Stays: tried as `list.iter_mut().take(n).enumerate()`: the proof of the promise did not close, since behind `take` the places are known by what was yielded.
-    for i in 0..n {
+    let most = n.min(list.len());
+    for (i, place) in list[..most].iter_mut().enumerate() {
         // Stays: the number fits by what is known here; `try_from` would add a failure that never comes.
-        cells::put(list, i, i as u16);
+        *place = i as u16;
     }
 }
 
 /// Puts the slots of `count` tables, all of them live, in place of those that a list has.
-// Stays: the numbers are what is pushed, and no list is read.
+// Stays: `extend` over the numbers answers a `Result`, for a list that runs out of room, which is never so here.
 fn put_live(live: &mut ArrayVec<u16, 256>, count: usize)
     requires { count ≤ 256 }
     ensures { live.new.items ≡ range count }

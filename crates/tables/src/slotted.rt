@@ -6,7 +6,7 @@ use arrayvec::ArrayVec;
 
 /// Greedy's lists beside the sets, which lie in lent words: all by slot but the list of live slots. A table keeps its slot, and each new table
 /// takes the next one.
-// Stays: the lists by slot are lent one at a time, to functions that ask for lists that fit; a list of rows would be lent whole.
+// Stays: the rows are written while the sizes and the live slots are read, and the definitions are on lists apart; one list of records would be lent whole.
 #[derive(Drop)]
 pub struct Tables {
     /// the numbers of the tables' nodes

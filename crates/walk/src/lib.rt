@@ -25,7 +25,7 @@ pub fn stated() -> usize
 }
 
 // The number of an internal node, or else the other one.
-// Stays: it chooses one of two numbers, where `pick` of halves in `bisect` puts leaves into a list; each is of its own module alone.
+// Stays: the node on top of a stack, where `first` of `scores`, which chooses in the same way, names a slot of a pair; one name for both could say neither.
 fn pick(n: usize, x: usize, other: usize) -> usize
     ensures { result ≡ picked n x other }
 {

@@ -1,25 +1,19 @@
-use mathlib.Core.List.{[]}
-use Rattle.slots.specs.Weigh.{weighed}
-use Rattle.live.specs.Merged.{merged_set, pair_bits, size_none, size_next}
-use native.Mathlib.Omega.{arith}
-use Prim.Native.Nat.{ℕ, ◌*◌}
-use mathlib.Core.Path.{◌≡◌, ap, ◌∙◌}
+use Rattle.std.proofs.Common.{rules, arith, ◌∙◌}
+use Rattle.std.proofs.lemmas.Iterator.{YieldsList-from_map, YieldsList-from_range}
+use Rattle.std.proofs.lemmas.Iterator.Consumers.{sum_from_yields_List, fits_from_yields_list}
+use Rattle.live.specs.Merged.{weight_at, size_all, size_fits}
 use Rattle.live.proofs.merged_size.Goals as goal
 
-pub loop-k-init : goal.loop-k-init
-loop-k-init c = let d = c.args in (omega arith, size_none d.sets.now d.w d.x d.y d.weights.now [], omega arith)
-
-pub loop-k-preserved : goal.loop-k-preserved
-loop-k-preserved c = let d = c.args in
-    let l = c.loop-k in (
-      omega arith,
-      size_next d.sets.now d.w d.x d.y d.weights.now [] l.k l.sum c.merged_word-v.result c.weigh_word-sum.result l.invariant.1 c.merged_word-v.ensures c.weigh_word-sum.ensures.0,
-      omega (arith, c.weigh_word-sum.ensures.1, l.invariant.2),
-    )
+pub sum-requires-clause-fits : goal.sum-requires-clause-fits
+sum-requires-clause-fits c =
+    let d = c.args in
+    fits_from_yields_list c.map.result _
+    (YieldsList-from_map _ (weight_at d.sets.now d.w d.x d.y d.weights.now) (YieldsList-from_range 0 d.w d.w c.map.ensures.source (omega arith)) c.map.ensures.closure (λ x r q k. search rules))
+    (size_fits d.sets.now d.w d.x d.y d.weights.now c.requires.0 c.requires.3)
 
 pub returns : goal.returns
-unfolding pair_bits
-returns c = let d = c.args in
-    let l = c.loop-k in
-    let e : l.k ≡ d.w = omega arith in
-    l.invariant.1 ∙ ap (λ (n : ℕ). weighed d.weights.now [] (merged_set d.sets.now d.w d.x d.y) (n * 64)) e
+returns c =
+    let d = c.args in
+    sum_from_yields_List c.map.result c.sum.result c.sum.ensures.ran
+    (YieldsList-from_map _ (weight_at d.sets.now d.w d.x d.y d.weights.now) (YieldsList-from_range 0 d.w d.w c.map.ensures.source (omega arith)) c.map.ensures.closure (λ x r q k. search rules))
+    ∙ size_all d.sets.now d.w d.x d.y d.weights.now

@@ -1,18 +1,19 @@
-use Rattle.slots.specs.Rising.{count_next, count_end}
-use native.Mathlib.Omega.{arith}
+use Rattle.std.proofs.Common.{rules, arith, ◌∙◌}
+use Rattle.std.proofs.lemmas.Iterator.{YieldsList-from_map, YieldsList-from_range}
+use Rattle.std.proofs.lemmas.Iterator.Consumers.{sum_from_yields_List, fits_from_yields_list}
+use Rattle.slots.specs.Rising.{ones_at, count_all, count_fits}
 use Rattle.slots.proofs.count.Goals as goal
 
-pub loop-k-preserved : goal.loop-k-preserved
-loop-k-preserved c =
+pub sum-requires-clause-fits : goal.sum-requires-clause-fits
+sum-requires-clause-fits c =
     let d = c.args in
-    let l = c.loop-k in (
-      omega arith,
-      count_next d.words.now d.w d.s l.k l.n c.get_or.result c.count_ones-n.result l.invariant.1
-          c.get_or.ensures (omega arith) c.count_ones-n.ensures.0,
-      omega (arith, c.count_ones-n.ensures.1, l.invariant.2),
-    )
+    fits_from_yields_list c.map.result _
+    (YieldsList-from_map _ (ones_at d.words.now d.w d.s) (YieldsList-from_range 0 d.w d.w c.map.ensures.source (omega arith)) c.map.ensures.closure (λ x r q k. search rules))
+    (count_fits d.words.now d.w d.s (λ i. omega (arith, c.type_inv.words i)) c.requires.0)
 
 pub returns : goal.returns
 returns c =
     let d = c.args in
-    count_end d.words.now d.w d.s c.loop-k.k c.loop-k.n (omega arith) c.loop-k.invariant.1
+    sum_from_yields_List c.map.result c.sum.result c.sum.ensures.ran
+    (YieldsList-from_map _ (ones_at d.words.now d.w d.s) (YieldsList-from_range 0 d.w d.w c.map.ensures.source (omega arith)) c.map.ensures.closure (λ x r q k. search rules))
+    ∙ count_all d.words.now d.w d.s (λ i. omega (arith, c.type_inv.words i))

@@ -1,17 +1,20 @@
-use Rattle.slots.specs.Weigh.{weigh_next, weighed_none}
-use native.Mathlib.Omega.{arith}
+use Rattle.std.proofs.Common.{rules, arith, ◌∙◌, ◌*◌}
+use Rattle.std.proofs.lemmas.Iterator.{YieldsList-from_map, YieldsList-from_range}
+use Rattle.std.proofs.lemmas.Iterator.Consumers.{sum_from_yields_List, fits_from_yields_list}
+use Rattle.slots.specs.Weigh.{either, either_weight, weigh_all, weighed_most}
 use Rattle.slots.proofs.weigh.Goals as goal
 
-pub loop-k-init : goal.loop-k-init
-loop-k-init c = (omega arith, weighed_none _ _ _, omega arith)
-
-pub loop-k-preserved : goal.loop-k-preserved
-loop-k-preserved c =
+pub sum-requires-clause-fits : goal.sum-requires-clause-fits
+sum-requires-clause-fits c =
     let d = c.args in
-    let l = c.loop-k in (
-      omega arith,
-      weigh_next d.words.now d.w d.a d.b d.weights.now d.flags.now l.k l.sum c.get_or-x.result
-          c.get_or-y.result c.weigh_word-sum.result l.invariant.1 c.get_or-x.ensures c.get_or-y.ensures
-          c.weigh_word-sum.ensures.0,
-      omega (arith, c.weigh_word-sum.ensures.1, l.invariant.2),
-    )
+    fits_from_yields_list c.map.result _
+    (YieldsList-from_map _ (either_weight d.words.now d.w d.a d.b d.weights.now d.flags.now) (YieldsList-from_range 0 d.w d.w c.map.ensures.source (omega arith)) c.map.ensures.closure (λ x r q k. search rules))
+    (omega (arith, weigh_all d.words.now d.w d.a d.b d.weights.now d.flags.now d.w, weighed_most d.weights.now d.flags.now (either d.words.now d.w d.a d.b) (d.w * 64) c.requires.3))
+
+pub returns : goal.returns
+returns c =
+    let d = c.args in
+    let e = sum_from_yields_List c.map.result c.sum.result c.sum.ensures.ran
+    (YieldsList-from_map _ (either_weight d.words.now d.w d.a d.b d.weights.now d.flags.now) (YieldsList-from_range 0 d.w d.w c.map.ensures.source (omega arith)) c.map.ensures.closure (λ x r q k. search rules))
+    ∙ weigh_all d.words.now d.w d.a d.b d.weights.now d.flags.now d.w in
+    (e, omega (arith, e, weighed_most d.weights.now d.flags.now (either d.words.now d.w d.a d.b) (d.w * 64) c.requires.3))

@@ -1,7 +1,5 @@
-use Rattle.start.specs.Leaves.{put_all}
-use Prim.Native.Nat.{◌≤◌}
-use mathlib.Core.Path.{◌≡◌}
+use Rattle.std.proofs.Common.{◌≡◌, ◌<◌, length, ℕ, take, get_or}
 use Rattle.start.proofs.count_up.Given as goal
 
 abbrev pub invariant-loop-i : goal.invariant-loop-i
-invariant-loop-i l = (l.i ≤ l.n) × (l.list ≡ put_all (λ k. k) l.initial.list l.i)
+invariant-loop-i l = (length l.place-items ≡ length (take l.most l.fn.list)) × ((k : ℕ) → k < l.i → get_or l.place-items k 0 ≡ k)
