@@ -11,7 +11,7 @@ ghost use Rattle.live.specs.Merged.{merged_set, pair_bits, word_at};
 // Stays: `w ≤ 16`, `s < 1048576`, `x < 1048576`, `y < 1048576`, `k < 1048576`: bounds of numbers, so that a place fits a machine word; a type of its own would be unwrapped at each use.
 // Stays: `x: usize, y: usize`: two slots of one list, read side by side.
 // Stays: `sets: &[u64], w: usize`, `w: usize, s: usize`: a set is named by its list, the width of a set and its slot; two or three of one list are read in one call, so none can hold the list; a value of list and width would be made anew for each read between two writes.
-// Stays: `Light weights.now`: the weights are lent alone here; where scores are made `Scoring` has the fact.
+// Stays: `Light weights.now`: a size takes the weights alone; a `Scoring`, which has the fact, would bring how many slots are the start's.
 use tables::{OUTSIDE, THRICE, TWICE};
 
 /// Word `k` of slot `s`. The read is total, as the definition's: past the end a slot is empty.

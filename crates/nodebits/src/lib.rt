@@ -177,7 +177,8 @@ fn inner_bits(
 }
 
 /// Writes each node's size bits and work bits, of a tree of `n` leaves; a leaf has no work. The nodes' sets are there.
-// Stays: asks no more of its callers than lists that fit.
+// Stays: asks that the sets are those of a tree's nodes, and that a leaf's weighs what its indices weigh (`Known`), of any width and network: an `Accepted`
+// and a `Tree` in their place would ask all that is checked of them.
 pub fn node_bits(
     sizes: &mut [u16],
     works: &mut [u16],
