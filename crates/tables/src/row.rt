@@ -6,7 +6,7 @@ use crate::PairTooWide;
 
 /// What is known of a table's least pair with the live tables before it: its number is 512 times the size bits of the table that a merge of the
 /// two makes, and the slot of the other table. No table has slot 256 to 259, so the rows without a pair have these numbers.
-// Stays: tried as an enum, with a pair's slot and its bits: a row took three words, and greedy up to 1.16 of the time that it took at the beginning;
+// Stays: tried as an enum, with a pair's slot and its bits: a row took three words, and greedy 1.0 to 1.2 of the time that it took at the beginning;
 // with fewer bits there are numbers that a row could not have.
 #[derive(Clone, Copy, Debug, PartialEq, Eq)]
 pub struct Row {
