@@ -10,6 +10,7 @@ mod sums;
 
 use network::Network;
 use std::io::{self, Read, Write};
+use stored::standard::{StandardInput, StandardOutput};
 
 // Stays: `input: &mut R, out: &mut W`: what a run reads and what it writes; half of the functions here take one of them.
 // Stays: `out: &mut W, file: &[u8]`: where a line goes, and what it is about; the file is no part of the output.
@@ -68,6 +69,6 @@ fn run_all<R: Read, W: Write>(input: &mut R, out: &mut W) -> io::Result<()> {
 }
 
 // Stays: where a program begins. What programs share stands in `stored::run`; what is left names what this one runs.
-fn main(rt: HostRuntime) {
-    stored::run(&rt, run_all);
+fn main() {
+    stored::run(StandardInput, StandardOutput, run_all);
 }

@@ -1,6 +1,5 @@
 // Plans stored network files by bisection and writes a line for each.
 // The form of input and output is stated in harness/src/bisection/record.rs, which makes both.
-use byteorder::{BigEndian, ReadBytesExt};
 use network::Network;
 use std::io::{self, Read, Write};
 
@@ -23,6 +22,14 @@ fn plan<W: Write>(out: &mut W, network: &Network, asked: usize, draws: &[u64]) -
     writeln!(out)
 }
 
+// Stays: std has no From of usize for u64.
+// A word of eight bytes: two numbers, the high one first.
+fn next_word<R: Read>(input: &mut R) -> u64 {
+    let high = stored::next_number(input) as u64;
+    let low = stored::next_number(input) as u64;
+    high * 4294967296 + low
+}
+
 // The words: word k, from 0 on, is (k + 1) × step modulo 2^64.
 fn put_words(words: &mut [u64], step: u64) {
     let mut word: u64 = 0;
@@ -38,10 +45,7 @@ pub(crate) fn next_case<R: Read, W: Write>(input: &mut R, out: &mut W) -> io::Re
     let mut words = [0u64; 65536];
     let asked = stored::next_number(input);
     let count = stored::next_number(input).min(65536);
-    put_words(
-        &mut words[..count],
-        input.read_u64::<BigEndian>().unwrap_or(0),
-    );
+    put_words(&mut words[..count], next_word(input));
     let network = stored::next_network(input, out);
     plan(out, &network, asked, &words[..count])
 }

@@ -6,6 +6,7 @@ mod greedy_runs; // greedy_runs.rt: greedy's plans
 mod improvement_runs; // improvement_runs.rt: trees improved
 
 use std::io::{self, Read, Write};
+use stored::standard::{StandardInput, StandardOutput};
 
 // Stays: `input: &mut R, out: &mut W`: what a run reads and what it writes; there is nothing else that a run has.
 // Stays: what this program runs; only the name is another program's.
@@ -17,6 +18,6 @@ fn run_all<R: Read, W: Write>(input: &mut R, out: &mut W) -> io::Result<()> {
 }
 
 // Stays: where a program begins. What programs share stands in `stored::run`; what is left names what this one runs.
-fn main(rt: HostRuntime) {
-    stored::run(&rt, run_all);
+fn main() {
+    stored::run(StandardInput, StandardOutput, run_all);
 }

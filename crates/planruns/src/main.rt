@@ -5,6 +5,7 @@ ghost use Rattle.std.specs.Prelude.{◌≤◌};
 mod slices; // slices.rt: trees sliced
 
 use std::io::{self, Read, Write};
+use stored::standard::{StandardInput, StandardOutput};
 
 // Stays: `input: &mut R, out: &mut W`: what a run reads and what it writes; there is nothing else that a run has.
 
@@ -30,6 +31,6 @@ fn run<R: Read, W: Write>(input: &mut R, out: &mut W) -> io::Result<()> {
 }
 
 // Stays: where a program begins. What programs share stands in `stored::run`; what is left names what this one runs.
-fn main(rt: HostRuntime) {
-    stored::run(&rt, run);
+fn main() {
+    stored::run(StandardInput, StandardOutput, run);
 }

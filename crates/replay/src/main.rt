@@ -10,6 +10,7 @@ mod words; // words.rt: the listing
 // Stays: `out: &mut W, file: &[u8]`: where a call writes and what it reads, lent for that call alone.
 
 use std::io::{self, Read, Write};
+use stored::standard::{StandardInput, StandardOutput};
 
 // One case: the listing and the records, or the number of the refusal.
 fn price<W: Write>(out: &mut W, file: &[u8]) -> io::Result<()> {
@@ -38,6 +39,6 @@ fn run_all<R: Read, W: Write>(input: &mut R, out: &mut W) -> io::Result<()> {
 }
 
 // Stays: where a program begins. What programs share stands in `stored::run`; what is left names what this one runs.
-fn main(rt: HostRuntime) {
-    stored::run(&rt, run_all);
+fn main() {
+    stored::run(StandardInput, StandardOutput, run_all);
 }

@@ -1,5 +1,5 @@
 -- A case that was run well. Assumes nothing.
-use Rattle.std.proofs.Common.{◌≡◌, ℕ, suc, ◌+◌, Ok, Result, subst, sym, arith, refl}
+use Rattle.std.proofs.Common.{◌≡◌, ℕ, suc, ◌+◌, Ok, Result, subst, arith, refl}
 use Rattle.std.specs.Fn.{Shared}
 use Rattle.stored.specs.Cases.{Gives, GiveOk}
 use denote.Ref.{MutBor}

@@ -10,11 +10,12 @@ ghost use Rattle.netfile.specs.Answers.{network_in};
 ghost use Rattle.stored.specs.Cases.{NumberRead, Gives, GiveOk};
 ghost use Rattle.stored.specs.Written.{spaced, flagged};
 
+pub mod standard; // standard.rt: standard input and output
 pub mod sums; // sums.rt: sums over lists
 
 use byteorder::{BigEndian, ReadBytesExt};
 use network::Network;
-use std::io::{self, Chain, Input, Print, Printer, Read, Repeat, Write};
+use std::io::{self, Chain, Read, Repeat, Write};
 
 // Stays: `input: &mut R, out: &mut W`: what a run reads and what it writes; most functions below a case take one of them.
 
@@ -26,18 +27,18 @@ pub fn with_zeros<R: Read>(input: R) -> Chain<R, Repeat>
     input.chain(io::repeat(0))
 }
 
-/// Runs a program on what its host reads and prints. An input that ends early goes on with zeros. A write that fails ends the run, and is not told.
-pub fn run<
-    'a,
-    H: Input + Print,
-    F: Fn(&mut Chain<H::Reader, Repeat>, &mut Printer<'a, H>) -> io::Result<()>,
->(host: &'a H, all: F)
+/// Runs a program on a reader and a writer. An input that ends early goes on with zeros. A write that fails ends the run, and is not told.
+pub fn run<R: Read + Drop, W: Write + Drop, F: Fn(&mut Chain<R, Repeat>, &mut W) -> io::Result<()>>(
+    reader: R,
+    writer: W,
+    all: F,
+)
     requires { F.IsAlwaysCallable all }
     ensures { (before : _) × (answer : _) × (after : _)
         × Gives F.Fn all before answer after × (repeat_byte (chain_second before.0) ≡ 0) }
 {
-    let mut input = with_zeros(host.reader());
-    let mut out = io::writer(host);
+    let mut input = with_zeros(reader);
+    let mut out = writer;
     let _ = all(&mut input, &mut out);
 }
 

@@ -6,6 +6,7 @@ ghost use Rattle.std.specs.Prelude.{◌≤◌};
 
 use network::Network;
 use std::io::{self, Read, Write};
+use stored::standard::{StandardInput, StandardOutput};
 
 // Is the tree valid.
 // Stays: a stored tree need be none: the calls that are run here check it.
@@ -71,6 +72,6 @@ fn run_all<R: Read, W: Write>(input: &mut R, out: &mut W) -> io::Result<()> {
 }
 
 // Stays: where a program begins. What programs share stands in `stored::run`; what is left names what this one runs.
-fn main(rt: HostRuntime) {
-    stored::run(&rt, run_all);
+fn main() {
+    stored::run(StandardInput, StandardOutput, run_all);
 }
