@@ -78,7 +78,7 @@ fn take_weights<'a>(payload: &[u8], weights: &mut [u8]) -> Result<Scan<'a>, Refu
     ensures { (c l o : List ℕ) → Takes (take_weights payload.now) result weights.new c l o }
 {
     payloads::check_weights(payload)?;
-    cells::place(weights, 0, payload);
+    payloads::put_bytes(weights, payload);
     let counts = Counts {
         index_count: payload.len(),
         leaf_count: 0,

@@ -77,7 +77,7 @@ pub fn put_flags(ask: Asked, m: usize, flags: &mut [u8])
 {
     if let Asked::Flagged(given) = ask {
         let n = given.len();
-        cells::place(flags, 0, given);
+        payloads::put_bytes(flags, given);
         if n < m {
             cells::fill(&mut flags[n..m], 0);
         }

@@ -103,6 +103,16 @@ pub fn check_tree(bytes: &[u8], n: usize) -> Result<(), Refusal>
     }
 }
 
+// Stays: `copy_from_slice`, by which `cells::place` copies, is a `memmove` where both lists come from outside, and a host of the library for C need not have one.
+/// Copies the bytes to the front of a list of bytes, as far as it goes.
+pub fn put_bytes(to: &mut [u8], bytes: &[u8])
+    ensures { to.new ≡ placed to.old 0 bytes.now }
+{
+    for k in 0..to.len().min(bytes.len()) {
+        to[k] = bytes[k];
+    }
+}
+
 // Stays: of a list that is written through a zip only the length is known afterwards.
 /// Copies the bytes to the front of a list of indices, as far as it goes.
 pub fn copy_bytes(to: &mut [u16], bytes: &[u8])

@@ -15,4 +15,4 @@ pub returns : goal.returns
 unfolding net_of
 returns c = let p = c.args.payload.now in
     let e = sym c.in_ok-check_weights.was ∙ c.check_weights.ensures in
-    λ x y z. rw (c.bare.ensures, c.place.ensures) (weights_taken p c.args.weights.now x y z (omega (arith, c.requires, weights_fit p e)) e)
+    λ x y z. rw (c.bare.ensures, c.put_bytes.ensures) (weights_taken p c.args.weights.now x y z (omega (arith, c.requires, weights_fit p e)) e)
