@@ -88,8 +88,9 @@ pub fn unsplit_in(
     requires { (1036 ≤ length ws.old) × (length leaves.now ≤ 128) × (count < 8192) }
     ensures { (N : Net) (a : List Pair) → Asks N a (length network.now.leg_counts.now) count network.now.weights.now network.now.leg_counts.now network.now.legs.now network.now.outputs.now leaves.now kids.old → Unsplit N a leaves.now draws.now kids.old kids.new result }
 {
+    // So many words hold the slots of four words each, as `plan_leaves` lends them too.
     unsplit(
-        ws,
+        &mut ws[..1036],
         network.weights,
         network.leg_counts.len(),
         network.leg_counts,

@@ -100,8 +100,9 @@ pub fn plan_leaves(
     ensures untouched { OnErr result (kids.new ≡ kids.old) }
     ensures why { IfErr result (λ r. r ≡ TableTooWide) }
 {
+    // So many words hold the slots of four words each: of a length that the compiler knows, a slot's words are checked at once.
     greedy_nodes(
-        words,
+        &mut words[..1036],
         network.weights,
         network.leg_counts.len(),
         network.leg_counts,

@@ -26,6 +26,7 @@ fn word(sets: &[u64], w: usize, s: usize, k: usize) -> u64
 
 /// Have slots `x` and `y` an index in common.
 // Stays: by the number of a word, at which both slots are read; past the end of the list they are empty.
+#[inline(always)]
 pub fn share(sets: &[u64], w: usize, x: usize, y: usize) -> bool
     requires { (w ≤ 16) × (x < 1048576) × (y < 1048576) }
     ensures { result ≡ shares sets.now w x y }
@@ -87,6 +88,7 @@ pub fn put_holders(sets: &mut [u64], w: usize, live: &[u16])
 }
 
 /// Word `k` of the table that a merge of slots `x` and `y` makes.
+#[inline(always)]
 fn merged_word(sets: &[u64], w: usize, x: usize, y: usize, k: usize) -> u64
     requires { (w ≤ 16) × (x < 1048576) × (y < 1048576) × (k < 1048576) }
     ensures { result ≡ word_at sets.now w x y k }
@@ -100,6 +102,7 @@ fn merged_word(sets: &[u64], w: usize, x: usize, y: usize, k: usize) -> u64
 
 /// Its size bits.
 // Stays: by the number of a word, which is the base of its indices as well.
+#[inline(always)]
 pub fn merged_size(sets: &[u64], w: usize, x: usize, y: usize, weights: &[u8]) -> usize
     requires { (w ≤ 16) × (x < 1048576) × (y < 1048576) × Light weights.now }
     ensures { result ≡ pair_bits sets.now w weights.now x y }

@@ -79,6 +79,7 @@ fn lesser(sizes: &[usize], start: usize, y: usize, best: Row, x: usize, bits: us
 }
 
 /// The least pair of `y` so far, when its pair with `x` is looked at too.
+#[inline(always)]
 fn consider(sets: &[u64], sizes: &[usize], scoring: &Scoring, y: usize, best: Row, x: u16) -> Row
     requires { y < 1048576 }
     ensures { code result ≡ considered sets.now scoring.now.width scoring.now.weights.now sizes.now scoring.now.start y (code best) x }
@@ -101,10 +102,10 @@ fn consider(sets: &[u64], sizes: &[usize], scoring: &Scoring, y: usize, best: Ro
     lesser(sizes, scoring.start, y, best, left, bits)
 }
 
-/// The least pair of `y` with the first `k` slots of a list; past its end the slot is 0. `Row::ALONE` where `y` shares an index with none of them,
-/// `Row::TOO_WIDE` where a pair has over 40 bits.
+// The least pair of `y` with the first `k` slots of a list, as `row` answers it.
 // Stays: asks no more of its callers than lists that fit: `k` may be more than the list has.
-pub fn row(
+#[inline(always)]
+fn least_row(
     sets: &[u64],
     sizes: &[usize],
     scoring: &Scoring,
@@ -121,4 +122,73 @@ pub fn row(
         best = consider(sets, sizes, scoring, y, best, x);
     }
     best
+}
+
+/// The least pair of `y` with the first `k` slots of a list; past its end the slot is 0. `Row::ALONE` where `y` shares an index with none of them,
+/// `Row::TOO_WIDE` where a pair has over 40 bits.
+// Stays: a switch on the width, of which each arm is the same call. A network's sets have four words at most, and for a width that the compiler knows it unrolls the loops
+// over words; with the width handed on alone, greedy took half again as much and more where many tables share one of 256 indices.
+pub fn row(
+    sets: &[u64],
+    sizes: &[usize],
+    scoring: &Scoring,
+    live: &[u16],
+    k: usize,
+    y: usize,
+) -> Row
+    requires { y < 1048576 }
+    ensures { code result ≡ row_of sets.now scoring.now.width scoring.now.weights.now sizes.now scoring.now.start live.now k y }
+{
+    let (weights, start) = (scoring.weights, scoring.start);
+    match scoring.width {
+        1 => least_row(
+            sets,
+            sizes,
+            &Scoring {
+                width: 1,
+                weights,
+                start,
+            },
+            live,
+            k,
+            y,
+        ),
+        2 => least_row(
+            sets,
+            sizes,
+            &Scoring {
+                width: 2,
+                weights,
+                start,
+            },
+            live,
+            k,
+            y,
+        ),
+        3 => least_row(
+            sets,
+            sizes,
+            &Scoring {
+                width: 3,
+                weights,
+                start,
+            },
+            live,
+            k,
+            y,
+        ),
+        4 => least_row(
+            sets,
+            sizes,
+            &Scoring {
+                width: 4,
+                weights,
+                start,
+            },
+            live,
+            k,
+            y,
+        ),
+        _ => least_row(sets, sizes, scoring, live, k, y),
+    }
 }

@@ -1,6 +1,6 @@
 use Rattle.scores.specs.Scores.{row_none, row_next}
 use native.Mathlib.Omega.{arith}
-use Rattle.scores.proofs.row.Goals as goal
+use Rattle.scores.proofs.least_row.Goals as goal
 
 pub loop-i-init : goal.loop-i-init
 loop-i-init c = let d = c.args in

@@ -2,7 +2,7 @@ use Rattle.tables.specs.Lists.{code}
 use Rattle.scores.specs.Scores.{row_of}
 use Prim.Native.Nat.{◌≤◌}
 use mathlib.Core.Path.{◌≡◌}
-use Rattle.scores.proofs.row.Given as goal
+use Rattle.scores.proofs.least_row.Given as goal
 
 abbrev pub invariant-loop-i : goal.invariant-loop-i
 invariant-loop-i l =
