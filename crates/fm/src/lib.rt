@@ -18,6 +18,8 @@ use draws::Draws;
 use partition::Hypergraph;
 use queue::Entry;
 
+pub mod lists; // lists.rt: the same in three lists of any three lengths
+
 /// Enters vertex `u` again, with the next stamp, unless it is in the slot `locked`.
 fn enter_again(
     graph: &Hypergraph,

@@ -4,3 +4,4 @@ pub mod Until
 pub mod Makes
 pub mod Turns
 pub mod First
+pub mod FirstApart

@@ -48,6 +48,10 @@ run count sum best peak words over = record { count = count; sum = sum; best = b
 abbrev pub lists_of : Work → List Entry → Lists
 lists_of b l = lists b.words.now b.part.now b.loads.now (keys_of l) (stamps_of l) (waits_of l) b.moves.now
 
+-- the lists where the keys, the stamps and the flags are three
+abbrev pub lists_apart : Work → List Float → List ℕ → List ℕ → Lists
+lists_apart b keys stamps waiting = lists b.words.now b.part.now b.loads.now keys stamps waiting b.moves.now
+
 -- the same lists are lent, whatever they hold
 abbrev pub IsSameLoan : Work → Work → Type 0
 IsSameLoan old new =

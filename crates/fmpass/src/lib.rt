@@ -19,7 +19,11 @@ use moves::{Bipartition, Pass};
 use partition::{Hypergraph, Layout};
 use queue::Entry;
 
+pub mod lists; // lists.rt: the same over keys, stamps and flags in three lists
+
 // Stays: `entries: &mut [Entry], draws: &mut Draws`: the entries are emptied for each pass and the draws go on behind it; a struct of the two would be made for each pass and taken apart at each call below.
+// Stays: `layout: &Layout, work: &Work`, `layout: &Layout, work: &mut Work`, `draws: &mut Draws, pass: &mut Pass`: the layout is read by all, while the work, the draws and the
+// counts are lent for one pass, each by a caller that reads them by themselves after it.
 // Stays: `IsSameLoan work.old work.new`: what each step that is lent the lists promises; no value could hold it, as it is of two times.
 // Stays: `Stands (place_of layout.now) (lists_of work.old entries.old) (run_in pass.old draws.old)`: one fact of five values that are lent apart, broken and restored within a turn.
 // Stays: `Stamped 1073741824 (stamps_of entries.old)`, `layout.now.sides < 32766`, `v < length layout.now.vertex_weights.now`: bounds of numbers, so that a slot and a stamp fit a word; types of their own would be unwrapped at each use.

@@ -1,7 +1,10 @@
 -- Lists of which the first places are in use: the fronts of a network's are an accepted network's, that of a tree's pairs is a tree of it, and
 -- what pricing leaves of the fronts it leaves of the lists. Assumes nothing.
-use Rattle.std.specs.Prelude.{Bool, true, false, ◌≡◌, refl, List, [], ◌∷◌, map, ℕ, suc, ◌*◌, ◌/◌, ◌%◌, ◌≤◌, length, take, Option, None, Some}
-use Rattle.std.proofs.Common.{sym, ◌∙◌, ap, ap₂, subst, arith, ne_eqb, length-take-le}
+use Rattle.std.specs.Prelude.{Bool, true, false, ◌≡◌, refl, List, [], ◌∷◌, map, ℕ, suc, ◌*◌, ◌/◌, ◌%◌, ◌≤◌, length, take, replicate, Option, None, Some}
+use Rattle.std.proofs.Common.{sym, ◌∙◌, ap, ap₂, subst, arith, ne_eqb, length-take-le, get_or-take}
+use Rattle.std.proofs.Math.ListN.{get_or-eq_default}
+use Rattle.std.proofs.Math.Decide.{dec_lt}
+use Rattle.std.proofs.lemmas.List.{length-replicate}
 use Rattle.std.proofs.Math.Seq.{take-length}
 use Rattle.spec.specs.Lists.{range}
 use Rattle.spec.specs.Layout.{firsts, row_at, network_of}
@@ -13,17 +16,20 @@ use Rattle.spec.specs.Calls.{wrong_tree, node_places, step_places}
 use Rattle.spec.specs.declared.Prices.{Prices}
 use Rattle.laws.specs.Accepted.{accepted_means}
 use Rattle.laws.specs.Booleans.{clash}
-use Rattle.laws.specs.LayoutLaws.{firsts_length}
+use Rattle.laws.specs.LayoutLaws.{firsts_length, firsts_is}
+use Rattle.spec.specs.Memory.{filled, copied}
+use Rattle.cells.specs.Cells.{filled_all, copied_length, copied_at, copied_past}
 use Rattle.walk.specs.declared.valid.Tree.{Tree}
 use Rattle.network.specs.Lists.{lists_net, Holds}
-use Rattle.network.specs.Layouts.{firsts-take, firsts_all, layout_index_count, layout_front}
+use Rattle.network.specs.Layouts.{firsts-take, firsts_all, layout_index_count, layout_output_count, layout_front}
 use Rattle.network.specs.Views.{net_in}
 use Rattle.network.specs.declared.accepted.Accepted.{Accepted}
 use Rattle.nodesets.specs.Passes.{nodes}
 use Rattle.nodesets.specs.Lists.{ordered_steps}
+use Rattle.pricing.specs.declared.fronts.Fronts.{Fronts}
 use Rattle.pricing.specs.declared.list.PriceList.{PriceList}
 use Rattle.pricing.specs.Lists.{HasRoom}
-use Rattle.pricing.specs.Promise.{FitsIn, Priceable, HasLeavesOf, IsOrderOf, Filled, Pricing}
+use Rattle.pricing.specs.Promise.{FitsIn, Priceable, Room, HasLeavesOf, IsOrderOf, Filled, Pricing}
 use Rattle.pricing.specs.Final.{leaf_count_lem, places}
 
 -- ---- a tree's list, which may have an odd last place ----
@@ -171,3 +177,76 @@ module _ {W m n o : ℕ} {weights counts rows outputs kids order : List ℕ} (p 
     fronts_pricing {steps₀} {steps} {r} q =
         subst (λ (b : List Pair). Pricing W (network_of m n o weights counts rows outputs) flag b sets₀ sizes₀ works₀ steps₀ sets sizes works steps r) fronts_pairs
         (subst (λ (M : Network). Pricing W M flag (pairs_of t.kids.now) sets₀ sizes₀ works₀ steps₀ sets sizes works steps r) fronts_net q)
+
+-- ---- the lists as one value ----
+
+abbrev pub net_of : Fronts → Network
+net_of f = network_of f.m f.n f.o f.weights.now f.counts.now f.legs.now f.outputs.now
+
+abbrev pub ArePriceable : ℕ → Fronts → List ℕ → Type 0
+ArePriceable W f order = Priceable W f.m f.n f.o f.weights.now f.counts.now f.legs.now f.outputs.now f.kids.now order
+
+-- the lists that are filled are long enough
+abbrev pub HaveRoom : ℕ → Fronts → List ℕ → PriceList → (outside steps : ℕ) → Type 0
+HaveRoom W f order p outside steps = Room W f.n f.kids.now order outside (length p.sets.now) (length p.sizes.now) (length p.works.now) steps
+
+-- each list has its front, and network and tree of the fronts pass their checks
+pub record HasFronts (f : Fronts) : Type 0 where
+  pub weights : f.m ≤ length f.weights.now
+  pub counts : f.n ≤ length f.counts.now
+  pub outputs : f.o ≤ 32
+  pub holds : Holds (take f.m f.weights.now) (take f.n f.counts.now) f.legs.now (firsts f.o f.outputs.now)
+  pub few : f.n ≤ 512
+  pub right : wrong_tree f.n (paired f.kids.now) ≡ false
+
+-- as do those of lists that can be priced
+pub has_fronts : {W : ℕ} {f : Fronts} {order : List ℕ} → ArePriceable W f order → HasFronts f
+has_fronts {W} {f} {order} p =
+    record {
+      weights = p.weight_places;
+      counts = p.row_places.counted;
+      outputs = omega (arith, p.accepted.few_outputs, layout_output_count f.m f.n f.o f.weights.now f.counts.now f.legs.now f.outputs.now);
+      holds = front_holds p;
+      few = front_few p;
+      right = front_right p;
+    }
+
+-- a list begins with the outputs, and with 0 for those past the end of theirs
+abbrev pub ArePadded : Fronts → List ℕ → Type 0
+ArePadded f l = take f.o l ≡ firsts f.o f.outputs.now
+
+-- outputs that are copied over zeros are followed by zeros
+pub padded_front : (o m : ℕ) (outputs l : List ℕ) → o ≤ m → l ≡ copied (replicate m 0) outputs o → take o l ≡ firsts o outputs
+unfolding filled
+padded_front o m outputs l h e =
+    let d = replicate m 0 in
+    let long : length d ≡ m = length-replicate m 0 in
+    ap (take o) e
+    ∙ firsts_is o outputs (take o (copied d outputs o)) (length-take-le o (copied d outputs o) (omega (arith, long, copied_length d outputs o)))
+    (λ k b. get_or-take o (copied d outputs o) k 0 b ∙ elim (dec_lt k (length outputs)) [
+      | yes q ↦ copied_at d outputs o k 0 b (omega (arith, long)) q
+      | no q ↦ copied_past d outputs o k 0 (omega arith) ∙ filled_all m k 0 ∙ sym (get_or-eq_default outputs 0 (omega arith))
+    ])
+
+-- the network of the fronts, and their tree
+pub record IsNetworkOf (f : Fronts) (a : Accepted) : Type 0 where
+  pub weights_are : a.weights.now ≡ take f.m f.weights.now
+  pub counts_are : a.leg_counts.now ≡ take f.n f.counts.now
+  pub legs_are : a.legs.now ≡ f.legs.now
+  pub outputs_are : a.outputs.now ≡ firsts f.o f.outputs.now
+
+pub record IsTreeOf (f : Fronts) (t : Tree) : Type 0 where
+  pub kids_are : t.kids.now ≡ paired f.kids.now
+  pub leaves_are : t.leaves ≡ f.n
+
+pub are_fronts : {f : Fronts} {a : Accepted} {t : Tree} → IsNetworkOf f a → IsTreeOf f t
+    → AreFronts f.m f.n f.o f.weights.now f.counts.now f.legs.now f.outputs.now f.kids.now a t
+are_fronts {f} {a} {t} w k =
+    record {
+      weights_are = w.weights_are;
+      counts_are = w.counts_are;
+      legs_are = w.legs_are;
+      outputs_are = w.outputs_are;
+      kids_are = k.kids_are;
+      leaves_are = k.leaves_are;
+    }

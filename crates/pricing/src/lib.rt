@@ -14,6 +14,7 @@ ghost use Rattle.pricing.specs.Answers.{widest_in};
 ghost use Rattle.pricing.specs.Sums.{work_sum, slice_share};
 ghost use Rattle.pricing.specs.Lines.{lines};
 
+pub mod fronts; // fronts.rt: pricing in lists of which the first places are in use
 pub mod list; // list.rt: the price list
 
 use list::PriceList;

@@ -1,3 +1,4 @@
 pub mod Open
 pub mod Queues
 pub mod Enters
+pub mod Apart

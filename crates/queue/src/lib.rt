@@ -10,12 +10,14 @@ ghost use Rattle.queue.specs.Queues.{queue_in, no_words, first_of};
 
 // Stays: `graph: &Hypergraph, entries: &mut [Entry]`, `entries: &mut [Entry], draws: &mut Draws`: a struct that lends the entries and the draws would be made at each call, since
 // moves between the calls write the words that the hypergraph reads.
+// Stays: `base ≤ 64`, `sides < 32768`, `v < graph.now.place.vertex_count`: bounds of numbers, so that a place fits a machine word; a type of its own would be unwrapped at each use.
 
 use bits::Digits;
 use draws::Draws;
 use partition::Hypergraph;
 
 mod entries;
+pub mod lists; // lists.rt: the same in three lists of any three lengths
 
 pub use entries::Entry;
 

@@ -124,6 +124,22 @@ fn least_row(
     best
 }
 
+// The same scoring, with the width that is given: where that is a number, the compiler knows the width.
+// Stays: a value with ghost fields is written out, as `..` takes none of them.
+#[inline(always)]
+fn of_width<'a>(scoring: &Scoring<'a>, width: usize) -> Scoring<'a>
+    requires { width ≡ scoring.now.width }
+    ensures width { result.width ≡ scoring.now.width }
+    ensures weights { result.weights ≡ scoring.now.weights }
+    ensures start { result.start ≡ scoring.now.start }
+{
+    Scoring {
+        width,
+        weights: scoring.weights,
+        start: scoring.start,
+    }
+}
+
 /// The least pair of `y` with the first `k` slots of a list; past its end the slot is 0. `Row::ALONE` where `y` shares an index with none of them,
 /// `Row::TOO_WIDE` where a pair has over 40 bits.
 // Stays: a switch on the width, of which each arm is the same call. A network's sets have four words at most, and for a width that the compiler knows it unrolls the loops
@@ -139,56 +155,11 @@ pub fn row(
     requires { y < 1048576 }
     ensures { code result ≡ row_of sets.now scoring.now.width scoring.now.weights.now sizes.now scoring.now.start live.now k y }
 {
-    let (weights, start) = (scoring.weights, scoring.start);
     match scoring.width {
-        1 => least_row(
-            sets,
-            sizes,
-            &Scoring {
-                width: 1,
-                weights,
-                start,
-            },
-            live,
-            k,
-            y,
-        ),
-        2 => least_row(
-            sets,
-            sizes,
-            &Scoring {
-                width: 2,
-                weights,
-                start,
-            },
-            live,
-            k,
-            y,
-        ),
-        3 => least_row(
-            sets,
-            sizes,
-            &Scoring {
-                width: 3,
-                weights,
-                start,
-            },
-            live,
-            k,
-            y,
-        ),
-        4 => least_row(
-            sets,
-            sizes,
-            &Scoring {
-                width: 4,
-                weights,
-                start,
-            },
-            live,
-            k,
-            y,
-        ),
+        1 => least_row(sets, sizes, &of_width(scoring, 1), live, k, y),
+        2 => least_row(sets, sizes, &of_width(scoring, 2), live, k, y),
+        3 => least_row(sets, sizes, &of_width(scoring, 3), live, k, y),
+        4 => least_row(sets, sizes, &of_width(scoring, 4), live, k, y),
         _ => least_row(sets, sizes, scoring, live, k, y),
     }
 }

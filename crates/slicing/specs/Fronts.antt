@@ -12,6 +12,7 @@ use Rattle.walk.specs.declared.valid.Tree.{Tree}
 use Rattle.network.specs.Layouts.{layout_index_count}
 use Rattle.network.specs.Views.{net_in}
 use Rattle.network.specs.declared.accepted.Accepted.{Accepted}
+use Rattle.pricing.specs.declared.fronts.Fronts.{Fronts}
 use Rattle.pricing.specs.Fronts.{AreFronts, fronts_net, fronts_pairs, fronts_outside}
 use Rattle.slicing.specs.Promise.{plan_with}
 use Rattle.slicing.specs.Turns.{TurnPriceable, TurnRoom, HasOutside, Within, Turned, Sliced}
@@ -78,3 +79,9 @@ module _ {m n o : ℕ} {weights counts rows outputs kids order : List ℕ} (p : 
       let c : index_count N ≡ m = layout_index_count m n o weights counts rows outputs in
       let s = subst (λ (M : Network). Sliced M target t.kids.now flags₀ (index_count M) flags) (fronts_net p f) q in
       sliced_pairs (fronts_pairs p f) (subst (λ (k : ℕ). Sliced N target t.kids.now flags₀ k flags) c s)
+
+-- ---- the lists as one value ----
+
+-- the words that are worked in suffice for the nodes, and so do a turn's own lists
+abbrev pub HaveTurnRoom : Fronts → List ℕ → ℕ → Type 0
+HaveTurnRoom f order outside = TurnRoom f.n f.kids.now order outside

@@ -7,6 +7,7 @@ ghost use Rattle.network.specs.Views.{net_in};
 ghost use Rattle.pricing.specs.Promise.{HasLeavesOf, IsOrderOf};
 ghost use Rattle.slicing.specs.Turns.{with_flag, is_index, HasOutside, Within, Turned, Sliced};
 
+pub mod fronts; // fronts.rt: slicing in lists of which the first places are in use
 mod ranks; // ranks.rt: the index that is sliced next
 mod tallies; // tallies.rt: sums by index over the steps and the tables of a tree
 

@@ -1,4 +1,4 @@
--- The program's output: after pricing a plan's tree with flags that agree with the plan's, `put_plan` leaves the definition's bytes in front
+-- The program's output: after pricing a plan's tree with flags that agree with the plan's, `Printout::put` leaves the definition's bytes in front
 -- of the buffer. Assumes nothing.
 use Rattle.std.specs.Prelude.{◌≡◌, true, List, ℕ, ◌*◌, ◌≤◌, ◌<◌, length, Ok}
 use Rattle.std.proofs.Common.{subst}

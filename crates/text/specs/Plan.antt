@@ -134,7 +134,7 @@ module _ (W : ℕ) (N : Network) (flag : ℕ → Bool) (a : List Pair) (fine : v
 abbrev pub plan_from : List Pair → List ℕ → ℕ → ℕ → Plan
 plan_from a flags improved splits = record { tree = a; flag = flag_at flags; rebuilt = improved; tried = splits }
 
--- WHAT IS WRITTEN IS THE PLAN'S TEXT: after pricing with these flags, `put_plan` leaves the definition's bytes in front of the buffer
+-- WHAT IS WRITTEN IS THE PLAN'S TEXT: after pricing with these flags, `Printout::put` leaves the definition's bytes in front of the buffer
 module _ (W : ℕ) (N : Network) (flags : List ℕ) (a : List Pair) (fine : valid (leaf_count N) a ≡ true) (fits : index_count N ≤ W * 64)
     {sets₀ sizes₀ works₀ steps₀ sets sizes works steps : List ℕ} {r : Prices}
     (p : Pricing W N (flag_at flags) a sets₀ sizes₀ works₀ steps₀ sets sizes works steps r)
