@@ -14,6 +14,8 @@ ghost use Rattle.live.specs.Merged.{merged_set, pair_bits, word_at};
 // Stays: `Light weights.now`: a size takes the weights alone; a `Scoring`, which has the fact, would bring how many slots are the start's.
 use tables::{OUTSIDE, THRICE, TWICE};
 
+pub mod fronts; // fronts.rt: live tables in a list with a count beside it
+
 /// Word `k` of slot `s`. The read is total, as the definition's: past the end a slot is empty.
 #[inline]
 fn word(sets: &[u64], w: usize, s: usize, k: usize) -> u64

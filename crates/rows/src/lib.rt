@@ -10,6 +10,8 @@ use tables::row::Row;
 use tables::scoring::Scoring;
 use tables::{PairTooWide, Score};
 
+pub mod fronts; // fronts.rt: live tables in a list with a count beside it
+
 /// Does a row stand: it was found, and its other table is not gone.
 fn still(rows: &[Row], row: Row) -> bool
     ensures { result ≡ stands (coded rows.now) (code row) }

@@ -7,6 +7,7 @@ ghost use Rattle.scores.specs.Scores.{power, first_of, second_of, key_at, over_f
 
 // Stays: `y < 1048576`: a bound of a number, so that a place fits a machine word; a type of its own would be unwrapped at each use.
 // Stays: `x: usize, y: usize`: two slots of one list, the lower first.
+// Stays: `sets: &[u64], sizes: &[usize]`, `sizes: &[usize], scoring: &Scoring`: sets and sizes lie by slot in lists of two lengths, and change from turn to turn, while the scoring is one for all of greedy.
 use tables::row::Row;
 use tables::scoring::Scoring;
 use tables::{PairTooWide, Score};
