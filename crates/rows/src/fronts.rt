@@ -1,4 +1,4 @@
-// The same over live tables in a list with a count beside it, which may be more than the list has: past its end the slot is 0.
+// The least pairs of live tables in a list with a count beside it, which may be more than the list has: past its end the slot is 0.
 ghost use Rattle.std.specs.Prelude.{◌≡◌};
 ghost use Rattle.tables.specs.Lists.{coded, chosen_code};
 ghost use Rattle.rows.specs.Rows.{renewed_all, least_of};
